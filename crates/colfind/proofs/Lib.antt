@@ -1,0 +1,4 @@
+pub mod Commands
+pub mod Pieces
+pub mod Prints
+pub mod Runs

@@ -1,0 +1,25 @@
+use Rattle.std.proofs.Common.{◌≡◌, ◌∙◌, ap, ap₂, true}
+use Rattle.std.proofs.lemmas.Result.{IfOk-weaker}
+use Rattle.clap.specs.Words.{App, app_of, with_rule}
+use Rattle.clap.specs.Simple.{app_of_fields}
+use Rattle.colfind.specs.Command.{empty_command, table_rule, strength_rule, variable_rule}
+use Rattle.colfind.proofs.settings.command_line.Goals as goal
+
+pub returns : goal.returns
+returns c =
+    let bare = λ (a : App). record a { top = record a.top { no_binary_name = true; disable_help_flag = true } } in
+    let empty_is : app_of c.disable_help_flag.result ≡ empty_command =
+    ap app_of_fields c.disable_help_flag.ensures
+    ∙ ap (λ f. app_of_fields (record f { disable_help_flag = true })) c.no_binary_name.ensures
+    ∙ ap bare c.new.ensures.app in
+    let s = c.strength_option.ensures.rule in
+    let v = c.variable_option.ensures.rule in
+    let with_table : app_of c.in_ok-arg.field-0 ≡ with_rule empty_command table_rule =
+    c.in_ok-arg.ensures.shape c.table_option.ensures.local ∙ ap₂ with_rule empty_is c.table_option.ensures.rule in
+    let with_strength : app_of c.in_ok-arg-2.field-0 ≡ with_rule (with_rule empty_command table_rule) (strength_rule s.0) =
+    c.in_ok-arg-2.ensures.shape c.strength_option.ensures.local ∙ ap₂ with_rule with_table s.1 in
+    let with_variable : app_of c.in_ok-arg-3.field-0 ≡ with_rule (with_rule (with_rule empty_command table_rule) (strength_rule s.0)) (variable_rule v.0) =
+    c.in_ok-arg-3.ensures.shape c.variable_option.ensures.local ∙ ap₂ with_rule with_strength v.1 in
+    IfOk-weaker c.arg-4.result _ _ (λ r added.
+    (s.0, v.0, s.2, v.2, added.shape c.pattern_argument.ensures.local ∙ ap₂ with_rule with_variable c.pattern_argument.ensures.rule))
+    c.arg-4.ensures

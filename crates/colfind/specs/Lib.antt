@@ -1,0 +1,10 @@
+pub mod Command
+pub mod Devices
+pub mod Faults
+pub mod Finding
+pub mod Patterns
+pub mod Printing
+pub mod Reading
+pub mod Running
+pub mod Settings
+pub mod Writing

@@ -1,0 +1,60 @@
+-- What a run tells and prints.
+use Rattle.std.specs.Prelude.{◌≡◌, true, ◌≤◌, ℕ, Bool, List, [], ◌++◌, length, Option, Some, None, IfSome, if◌then◌else◌}
+use Rattle.collation_search.specs.Answer.{Answer}
+use Rattle.collation_search.specs.GoodFront.{is_open}
+use Rattle.colfind.specs.declared.output.Output.{Output}
+use Rattle.colfind.specs.declared.run.Outcome.{Outcome}
+use Rattle.colfind.specs.declared.run.Outcome.TheVariants.{Done, Text, Read, Write, Memory}
+use Rattle.colfind.specs.Devices.{behind_piece, with_piece}
+use Rattle.colfind.specs.Printing.{output}
+
+-- nothing is left to read, where the reader tells it
+abbrev pub IsAtEnd : Option (List ℕ) → Type 0
+IsAtEnd left = IfSome left (λ rest. rest ≡ [])
+
+-- In what follows `all` gives the answer to the bytes of a text that has ended, and `sure` the ranges of a text that
+-- could not be read further.
+
+-- the ranges of which a run speaks that read these bytes, by whether the reader failed
+abbrev pub told_ranges : (List ℕ → Answer) → (List ℕ → List (ℕ × ℕ)) → Bool → List ℕ → List (ℕ × ℕ)
+told_ranges all sure failed bytes = if failed then sure bytes else (all bytes).ranges
+
+-- What a run tells that read these bytes and left those, and what it printed. `failed` says whether the reader failed.
+-- Done: the number of all ranges, which are printed; nothing is left, and the text is good.
+-- Text: the first fault of the text, and its ranges are printed; where more bytes could mend it, nothing is left.
+-- Read: the number of bytes read, which are an open text; its sure ranges are printed.
+-- Write: a front of what another outcome prints. Memory: nothing is printed.
+abbrev pub Tells : (List ℕ → Answer) → (List ℕ → List (ℕ × ℕ)) → Output → Outcome → Bool → List ℕ → Option (List ℕ) → List ℕ → Type 0
+Tells all sure form (Done count) failed bytes left printed =
+    IsAtEnd left × ((all bytes).fault ≡ None)
+    × (count ≡ length (all bytes).ranges) × (printed ≡ output form (all bytes).ranges)
+Tells all sure form (Text fault) failed bytes left printed =
+    (is_open bytes ≡ true → IsAtEnd left) × ((all bytes).fault ≡ Some fault)
+    × (printed ≡ output form (all bytes).ranges)
+Tells all sure form (Read count) failed bytes left printed =
+    (is_open bytes ≡ true) × (count ≡ length bytes) × (printed ≡ output form (sure bytes))
+Tells all sure form Write failed bytes left printed =
+    (rest : List ℕ) × (output form (told_ranges all sure failed bytes) ≡ printed ++ rest)
+Tells all sure form Memory failed bytes left printed = printed ≡ []
+
+-- the bytes that a run read and those that it printed, of which it tells this
+pub record Runs (all : List ℕ → Answer) (sure : List ℕ → List (ℕ × ℕ)) (form : Output) (outcome : Outcome) (failed : Bool)
+    (left_before left_after held_before held_after : Option (List ℕ)) : Type 0 where
+  pub bytes : List ℕ
+  pub printed : List ℕ
+  pub from_reader : left_before ≡ behind_piece bytes left_after
+  pub to_writer : held_after ≡ with_piece printed held_before
+  pub tells : Tells all sure form outcome failed bytes left_after printed
+
+-- how often the reader and the writer failed in a run that tells this
+abbrev pub FailsAs : Outcome → ℕ → ℕ → Type 0
+FailsAs (Done _) reads writes = (reads ≡ 0) × (writes ≡ 0)
+FailsAs (Text _) reads writes = (reads ≡ 0) × (writes ≡ 0)
+FailsAs (Read _) reads writes = (reads ≡ 1) × (writes ≡ 0)
+FailsAs Write reads writes = (reads ≤ 1) × (writes ≡ 1)
+FailsAs Memory reads writes = (reads ≤ 1) × (writes ≡ 0)
+
+-- the run tells that the reader failed
+abbrev pub IsRead : Outcome → Type 0
+IsRead (Read _) = Unit {0}
+IsRead _ = ⊥

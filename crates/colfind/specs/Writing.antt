@@ -1,0 +1,10 @@
+-- What was written of a list of bytes, over many calls.
+use Rattle.std.specs.Prelude.{◌≡◌, ℕ, List, ◌++◌, Option}
+use Rattle.colfind.specs.Devices.{with_piece}
+
+-- a front of the bytes was written, and no more
+pub record WritesFront (before after : Option (List ℕ)) (bytes : List ℕ) : Type 0 where
+  pub front : List ℕ
+  pub rest : List ℕ
+  pub whole : bytes ≡ front ++ rest
+  pub written : after ≡ with_piece front before

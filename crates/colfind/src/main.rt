@@ -1,0 +1,74 @@
+//! `colfind` finds a pattern in a text by Unicode collation: it compares sort keys at a chosen
+//! strength (UTS #10) and tells the byte ranges of the matches.
+//!
+//! The text is read from standard input, and the ranges are written to standard output. `run` is
+//! the search over any reader and writer, `program` is the whole program but for the standard
+//! streams, and `settings` reads the words of the command line.
+#![tactic(auto)]
+
+ghost use Rattle.std.specs.Prelude.{◌^◌, ◌<◌};
+
+mod devices;
+mod faults;
+mod memory;
+mod output;
+mod program;
+mod reading;
+mod run;
+mod settings;
+mod streams;
+mod words;
+mod writing;
+
+use crate::devices::Target;
+use crate::faults::{Fault, MEMORY};
+use crate::program::{program, tell};
+use crate::streams::{FromRead, ToWrite};
+use std::alloc::{AllocError, Global};
+use std::env;
+use std::io::ErrorKind;
+use std::process::ExitCode;
+
+fn main(rt: HostRuntime) -> ExitCode {
+    let mut err = ToWrite::new(rt.stderr());
+    let status = match given_words(&rt) {
+        Ok(words) => answer(&rt, &words, &mut err),
+        Err(fault) => tell(&mut err, fault),
+    };
+    ExitCode::from(status)
+}
+
+/// The words behind the program's name.
+fn given_words(rt: &HostRuntime) -> Result<Vec<String>, Fault> {
+    match env::args(rt) {
+        Ok(mut words) => {
+            let _name = words.next();
+            words.collect(rt.alloc()).map_err(|_| Fault::At(MEMORY, 0))
+        }
+        Err(error) if error.kind() == ErrorKind::OutOfMemory => Err(Fault::At(MEMORY, 0)),
+        Err(_) => Err(Fault::Usage),
+    }
+}
+
+/// What the words ask for, between the standard streams. It answers the status.
+fn answer<E: Target>(rt: &HostRuntime, given: &Vec<String>, err: &mut E) -> u8
+    requires { E.failures err.old < 2 ^ 63 }
+{
+    let Ok(words) = texts_of(rt.alloc(), given) else {
+        return tell(err, Fault::At(MEMORY, 0));
+    };
+    let mut input = FromRead::new(rt.stdin());
+    let mut out = ToWrite::new(rt.stdout());
+    program(rt, rt.alloc(), &words, &mut input, &mut out, err)
+}
+
+fn texts_of<'a>(alloc: Global, given: &'a Vec<String>) -> Result<Vec<&'a str>, AllocError> {
+    let mut words = Vec::new(alloc);
+    for word in given {
+        words.push(word.as_str())?;
+    }
+    Ok(words)
+}
+
+#[cfg(test)]
+mod tests;

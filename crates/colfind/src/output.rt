@@ -1,0 +1,74 @@
+//! What is printed of the ranges that were found, a line at a time.
+ghost use Rattle.std.specs.Prelude.{◌≡◌, ◌+◌, ◌≤◌, ◌++◌, [], length};
+ghost use Rattle.std.specs.Fmt.{decimal};
+
+use arrayvec::ArrayString;
+use itoa::Buffer;
+
+/// The greatest length of what is written at once: two numbers of twenty digits, and what stands
+/// around them.
+pub const MOST_LINE_BYTES: usize = 64;
+
+/// A line, or two.
+pub type Line = ArrayString<MOST_LINE_BYTES>;
+
+/// How the ranges are printed.
+#[derive(Clone, Copy, Debug, PartialEq, Eq)]
+pub enum Output {
+    /// A line `s:e` for each.
+    Ranges,
+    /// One line with their number.
+    Count,
+    /// Two lines for each, `[s` and `]e`.
+    Marks,
+}
+
+impl Output {
+    ghost use Rattle.colfind.specs.Printing.{printed_range, printed_end};
+
+    /// What is printed of the range from the byte at `start` to before the byte at `end`.
+    pub fn line(self, start: u64, end: u64) -> Line
+        ensures { result.bytes ≡ printed_range self (start, end) }
+    {
+        let mut line = Line::new();
+        match self {
+            Output::Ranges => {
+                push_number(&mut line, start);
+                line.push_str(":");
+                push_number(&mut line, end);
+                line.push_str("\n");
+            }
+            Output::Marks => {
+                line.push_str("[");
+                push_number(&mut line, start);
+                line.push_str("\n]");
+                push_number(&mut line, end);
+                line.push_str("\n");
+            }
+            Output::Count => {}
+        }
+        line
+    }
+
+    /// What is printed behind all ranges, of which there are `count`.
+    pub fn last_line(self, count: u64) -> Line
+        ensures { result.bytes ≡ printed_end self count }
+    {
+        let mut line = Line::new();
+        if let Output::Count = self {
+            push_number(&mut line, count);
+            line.push_str("\n");
+        }
+        line
+    }
+}
+
+/// Appends the number in decimal digits, of which there are twenty at most.
+pub fn push_number(line: &mut Line, number: u64)
+    requires { length line.old.bytes + 20 ≤ MOST_LINE_BYTES }
+    ensures digits { line.new.bytes ≡ line.old.bytes ++ decimal number }
+    ensures most { length line.new.bytes ≤ length line.old.bytes + 20 }
+{
+    let mut digits = Buffer::new();
+    line.push_str(digits.format(number));
+}

@@ -1,0 +1,130 @@
+//! The reading of the words of the command line.
+ghost use Rattle.std.specs.Prelude.{◌≡◌, map, IfOk, false};
+ghost use Rattle.clap.specs.Words.{app_of, found_of, rows_of, rule_of};
+ghost use Rattle.colfind.specs.Command.{command, TakesNames, strength_names, variable_names};
+ghost use Rattle.colfind.specs.Command.{table_rule, strength_rule, variable_rule, pattern_rule};
+ghost use Rattle.colfind.specs.Settings.{IsReadFrom, IsTakenAs, IsRefused, entry, strength_of, variable_of};
+
+use crate::words::{Settings, SettingsFault};
+use clap::error::ErrorKind;
+use clap::{Arg, ArgMatches, Command};
+use collation_elements::{Strength, Variable};
+use std::alloc::{AllocError, Global};
+
+static STRENGTHS: [&str; 3] = ["1", "2", "3"];
+
+static VARIABLES: [&str; 2] = ["shifted", "non-ignorable"];
+
+fn table_option<'a>(alloc: Global) -> Arg<'a>
+    ensures rule { rule_of result ≡ table_rule }
+    ensures local { result.global ≡ false }
+{
+    Arg::new(alloc, "table").long("table").required(true)
+}
+
+fn strength_option<'a>(alloc: Global) -> Arg<'a>
+    ensures rule { (names : _) × (rule_of result ≡ strength_rule names)
+        × TakesNames names strength_names }
+    ensures local { result.global ≡ false }
+{
+    Arg::new(alloc, "strength")
+        .long("strength")
+        .value_parser(STRENGTHS.as_slice())
+        .default_value("3")
+}
+
+fn variable_option<'a>(alloc: Global) -> Arg<'a>
+    ensures rule { (names : _) × (rule_of result ≡ variable_rule names)
+        × TakesNames names variable_names }
+    ensures local { result.global ≡ false }
+{
+    Arg::new(alloc, "variable")
+        .long("variable")
+        .value_parser(VARIABLES.as_slice())
+        .default_value("non-ignorable")
+}
+
+fn pattern_argument<'a>(alloc: Global) -> Arg<'a>
+    ensures rule { rule_of result ≡ pattern_rule }
+    ensures local { result.global ≡ false }
+{
+    Arg::new(alloc, "pattern").required(true)
+}
+
+/// The command as its argument parser sees it. Its words come without the program's name.
+fn command_line<'a>(alloc: Global) -> Result<Command<'a>, AllocError>
+    ensures { IfOk result (λ c. (strengths : _) × (variables : _) × TakesNames strengths strength_names
+        × TakesNames variables variable_names × (app_of c ≡ command strengths variables)) }
+{
+    Command::new(alloc, "colfind")
+        .no_binary_name(true)
+        .disable_help_flag(true)
+        .arg(table_option(alloc))?
+        .arg(strength_option(alloc))?
+        .arg(variable_option(alloc))?
+        .arg(pattern_argument(alloc))
+}
+
+/// The text of an entry that a parse has made, empty where there is none.
+fn text_of<'a>(matches: &ArgMatches<'a>, id: &str) -> &'a str
+    ensures { result.now ≡ entry id.now (rows_of (found_of matches.now)) }
+{
+    match matches.get_str(id) {
+        Some(text) => text,
+        None => "",
+    }
+}
+
+fn strength_named(word: &str) -> Strength
+    ensures { result ≡ strength_of word.now }
+{
+    if word == "1" {
+        Strength::One
+    } else if word == "2" {
+        Strength::Two
+    } else {
+        Strength::Three
+    }
+}
+
+fn variable_named(word: &str) -> Variable
+    ensures { result ≡ variable_of word.now }
+{
+    if word == "shifted" {
+        Variable::Shifted
+    } else {
+        Variable::NonIgnorable
+    }
+}
+
+/// The settings of the entries that a parse has made. Its command lets no other names through.
+fn read_from<'a>(matches: &ArgMatches<'a>) -> Settings<'a>
+    ensures { IsReadFrom (rows_of (found_of matches.now)) result }
+{
+    Settings {
+        table: text_of(matches, "table"),
+        pattern: text_of(matches, "pattern"),
+        strength: strength_named(text_of(matches, "strength")),
+        variable: variable_named(text_of(matches, "variable")),
+    }
+}
+
+/// Reads the words of the command line, which come without the program's name, by the command
+/// `colfind --table FILE [--strength 1|2|3] [--variable shifted|non-ignorable] PATTERN`. Where an
+/// option is left out, the strength is 3 and the weighting non-ignorable.
+pub fn settings<'a>(alloc: Global, words: &'a [&'a str]) -> Result<Settings<'a>, SettingsFault>
+    ensures taken { IfOk result (IsTakenAs (map (λ word. word.now) words.entry.now)) }
+    ensures usage { result ≡ Err SettingsFault.Usage
+        → IsRefused (map (λ word. word.now) words.entry.now) }
+{
+    let Ok(command) = command_line(alloc) else {
+        return Err(SettingsFault::Memory);
+    };
+    match command.try_get_matches_from(words) {
+        Ok(matches) => Ok(read_from(&matches)),
+        Err(error) => match error.kind() {
+            ErrorKind::OutOfMemory => Err(SettingsFault::Memory),
+            _ => Err(SettingsFault::Usage),
+        },
+    }
+}

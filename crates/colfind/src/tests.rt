@@ -1,0 +1,420 @@
+//! Runs over devices that give and take a few bytes at a time, and fail; words; and the program.
+ghost use Rattle.std.specs.Prelude.{◌<◌, ◌^◌};
+
+use crate::devices::{Source, Target};
+use crate::memory::{MemorySource, MemoryTarget};
+use crate::output::Output;
+use crate::program::program;
+use crate::reading::{FileFault, read_all};
+use crate::run::{Outcome, run};
+use crate::settings::settings;
+use crate::streams::{FromRead, ToWrite};
+use crate::tests::devices::{FailingSource, FailingTarget};
+use crate::words::{Settings, SettingsFault};
+use crate::writing::{write_all, write_ranges};
+use collation_elements::{Strength, Variable};
+use collation_pattern::Pattern;
+use collation_search::TextFault;
+use collation_table::Table;
+use std::alloc::Global;
+use std::process::Abort;
+use std::test::Fail;
+use std::{env, fs};
+
+mod devices;
+
+const TABLE: &str = "@version 0.0.0
+0020 ; [*0201.0020.0002]
+002D ; [*0202.0020.0002]
+0061 ; [.1C00.0020.0002]
+0041 ; [.1C00.0020.0008]
+0062 ; [.1C10.0020.0002]
+0063 ; [.1C20.0020.0002]
+0063 0068 ; [.1C28.0020.0002]
+0065 ; [.1C40.0020.0002]
+0068 ; [.1C50.0020.0002]
+006D ; [.1C60.0020.0002]
+0072 ; [.1C70.0020.0002]
+0073 ; [.1C80.0020.0002]
+0075 ; [.1C90.0020.0002]
+0075 0301 ; [.1C98.0020.0002]
+0300 ; [.0000.0025.0002]
+0301 ; [.0000.0024.0002]
+0327 ; [.0000.0030.0002]
+20DD ; [.0000.0040.0002]
+00AD ; [.0000.0000.0000]
+2F00 ; [.FB40.0020.0004][.CE00.0000.0000]
+";
+
+/// What a run tells of a pattern, over any two devices whose counts of failures are small.
+fn outcome_of<R: Source, O: Target>(
+    rt: &impl Abort,
+    alloc: Global,
+    pattern: &str,
+    form: Output,
+    reader: &mut R,
+    out: &mut O,
+) -> Outcome
+    requires reads { R.failures reader.old < 2 ^ 63 }
+    requires writes { O.failures out.old < 2 ^ 63 }
+{
+    let table = Table::read(alloc, TABLE.as_bytes()).expect(rt, "the table");
+    let pattern = Pattern::compile(
+        alloc,
+        &table,
+        pattern,
+        Strength::Three,
+        Variable::NonIgnorable,
+    )
+    .expect(rt, "the pattern");
+    run(alloc, &table, &pattern, form, reader, out)
+}
+
+#[test]
+fn reads_and_writes_a_byte_at_a_time(rt: HostRuntime) {
+    let alloc = rt.alloc();
+    for (pattern, text, form, printed, outcome) in [
+        (
+            "aa",
+            b"aaa".as_slice(),
+            Output::Ranges,
+            "0:2\n1:3\n",
+            Outcome::Done(2),
+        ),
+        (
+            "aa",
+            b"aaa".as_slice(),
+            Output::Count,
+            "2\n",
+            Outcome::Done(2),
+        ),
+        (
+            "aa",
+            b"aaa".as_slice(),
+            Output::Marks,
+            "[0\n]2\n[1\n]3\n",
+            Outcome::Done(2),
+        ),
+        ("a", b"".as_slice(), Output::Ranges, "", Outcome::Done(0)),
+        ("a", b"".as_slice(), Output::Count, "0\n", Outcome::Done(0)),
+        (
+            "a",
+            b"ab \xff".as_slice(),
+            Output::Ranges,
+            "0:1\n",
+            Outcome::Text(TextFault {
+                kind: 31,
+                offset: 3,
+            }),
+        ),
+        (
+            "b",
+            b"ab\xff".as_slice(),
+            Output::Count,
+            "0\n",
+            Outcome::Text(TextFault {
+                kind: 31,
+                offset: 2,
+            }),
+        ),
+    ] {
+        let mut reader = MemorySource::new(text, 1);
+        let mut out = FailingTarget::new(alloc, 1, u64::MAX);
+        assert_eq!(rt;
+            outcome_of(&rt, alloc, pattern, form, &mut reader, &mut out),
+            outcome
+        );
+        assert_eq!(rt; out.bytes(), printed.as_bytes());
+    }
+}
+
+#[test]
+fn a_text_longer_than_one_read(rt: HostRuntime) -> Result<(), Fail> {
+    let alloc = rt.alloc();
+    let text = vec![in alloc; b'a'; 10_000]?;
+    let mut reader = MemorySource::new(&text, usize::MAX);
+    let mut out = MemoryTarget::new(alloc);
+    let outcome = outcome_of(&rt, alloc, "aa", Output::Count, &mut reader, &mut out);
+    assert_eq!(rt; outcome, Outcome::Done(9_999));
+    assert_eq!(rt; out.bytes(), b"9999\n".as_slice());
+    Ok(())
+}
+
+#[test]
+fn each_write_fails_in_turn(rt: HostRuntime) {
+    let alloc = rt.alloc();
+    let all = b"0:2\n1:3\n".as_slice();
+    for writes in 0..8u64 {
+        let mut reader = MemorySource::new(b"aaa", 4);
+        let mut out = FailingTarget::new(alloc, 1, writes);
+        let outcome = outcome_of(&rt, alloc, "aa", Output::Ranges, &mut reader, &mut out);
+        assert_eq!(rt; outcome, Outcome::Write);
+        assert_eq!(rt; Some(out.bytes()), all.get(..writes as usize));
+        assert_eq!(rt; out.failures(), 1);
+
+        let mut reader = MemorySource::new(b"aaa", 4);
+        let mut out = FailingTarget::new(alloc, 1, writes).taking_nothing();
+        let outcome = outcome_of(&rt, alloc, "aa", Output::Ranges, &mut reader, &mut out);
+        assert_eq!(rt; outcome, Outcome::Write);
+        assert_eq!(rt; Some(out.bytes()), all.get(..writes as usize));
+        assert_eq!(rt; out.failures(), 1);
+    }
+}
+
+#[test]
+fn a_flush_fails(rt: HostRuntime) {
+    let alloc = rt.alloc();
+    let mut reader = MemorySource::new(b"aaa", 4);
+    let mut out = FailingTarget::new(alloc, 3, u64::MAX).failing_to_flush();
+    let outcome = outcome_of(&rt, alloc, "aa", Output::Ranges, &mut reader, &mut out);
+    assert_eq!(rt; outcome, Outcome::Write);
+    assert_eq!(rt; out.bytes(), b"0:2\n1:3\n".as_slice());
+}
+
+#[test]
+fn a_read_fails(rt: HostRuntime) {
+    let alloc = rt.alloc();
+    for (form, printed) in [
+        (Output::Ranges, "0:2\n"),
+        (Output::Count, "1\n"),
+        (Output::Marks, "[0\n]2\n"),
+    ] {
+        let mut reader = FailingSource::new(b"aaaa", 1, 3);
+        let mut out = FailingTarget::new(alloc, 5, u64::MAX);
+        let outcome = outcome_of(&rt, alloc, "aa", form, &mut reader, &mut out);
+        assert_eq!(rt; outcome, Outcome::Read(3));
+        assert_eq!(rt; out.bytes(), printed.as_bytes());
+    }
+    let mut reader = FailingSource::new(b"aaaa", 1, 0);
+    let mut out = FailingTarget::new(alloc, 5, u64::MAX);
+    let outcome = outcome_of(&rt, alloc, "aa", Output::Count, &mut reader, &mut out);
+    assert_eq!(rt; outcome, Outcome::Read(0));
+    assert_eq!(rt; out.bytes(), b"0\n".as_slice());
+}
+
+#[test]
+fn a_failed_write_is_told_in_place_of_anything_else(rt: HostRuntime) {
+    let alloc = rt.alloc();
+    let mut reader = FailingSource::new(b"aaaa", 1, 3);
+    let mut out = FailingTarget::new(alloc, 5, 0);
+    let outcome = outcome_of(&rt, alloc, "aa", Output::Ranges, &mut reader, &mut out);
+    assert_eq!(rt; outcome, Outcome::Write);
+    assert_eq!(rt; out.bytes(), b"".as_slice());
+    let mut reader = MemorySource::new(b"ab \xff", 1);
+    let mut out = FailingTarget::new(alloc, 5, 0);
+    let outcome = outcome_of(&rt, alloc, "a", Output::Ranges, &mut reader, &mut out);
+    assert_eq!(rt; outcome, Outcome::Write);
+    assert_eq!(rt; out.bytes(), b"".as_slice());
+}
+
+#[test]
+fn nothing_is_read_behind_a_fault_of_the_text(rt: HostRuntime) {
+    let alloc = rt.alloc();
+    let mut reader = FailingSource::new(b"ab \xffab", 1, 4);
+    let mut out = FailingTarget::new(alloc, 5, u64::MAX);
+    let outcome = outcome_of(&rt, alloc, "a", Output::Ranges, &mut reader, &mut out);
+    assert_eq!(rt;
+        outcome,
+        Outcome::Text(TextFault {
+            kind: 31,
+            offset: 3
+        })
+    );
+    assert_eq!(rt; out.bytes(), b"0:1\n".as_slice());
+}
+
+#[test]
+fn reads_and_writes_whole_lists(rt: HostRuntime) -> Result<(), Fail> {
+    let alloc = rt.alloc();
+    let bytes = read_all(alloc, &mut MemorySource::new(b"abcdefg", 2))
+        .ok()
+        .ok_or("the bytes")?;
+    assert_eq!(rt; bytes.as_slice(), b"abcdefg".as_slice());
+    let failed = read_all(alloc, &mut FailingSource::new(b"abcdefg", 2, 2));
+    assert!(rt; failed.err() == Some(FileFault::Device));
+    let mut out = MemoryTarget::new(alloc);
+    assert!(rt; write_all(&mut out, b"ab").is_ok());
+    assert!(rt; write_ranges(&mut out, Output::Ranges, &[(0, u64::MAX)]).is_ok());
+    assert_eq!(rt; out.bytes(), b"ab0:18446744073709551615\n".as_slice());
+    let mut written = Vec::new(alloc);
+    {
+        let mut out = ToWrite::new(&mut written);
+        assert!(rt; write_all(&mut out, b"abc").is_ok());
+        assert!(rt; out.flush().is_ok());
+    }
+    assert_eq!(rt; written.as_slice(), b"abc".as_slice());
+    let bytes = read_all(alloc, &mut FromRead::new(b"abc".as_slice()))
+        .ok()
+        .ok_or("the bytes")?;
+    assert_eq!(rt; bytes.as_slice(), b"abc".as_slice());
+    Ok(())
+}
+
+#[test]
+fn reads_the_words(rt: HostRuntime) {
+    let alloc = rt.alloc();
+    let plain = Settings {
+        table: "t",
+        pattern: "p",
+        strength: Strength::Three,
+        variable: Variable::NonIgnorable,
+    };
+    assert!(rt; settings(alloc, &["--table", "t", "p"]) == Ok(plain));
+    assert!(rt; settings(alloc, &["p", "--table=t"]) == Ok(plain));
+    assert!(rt; settings(alloc, &["--strength", "3", "--table", "t", "--", "p"]) == Ok(plain));
+    let two = Settings {
+        pattern: "-",
+        strength: Strength::Two,
+        variable: Variable::Shifted,
+        ..plain
+    };
+    let words = [
+        "--table",
+        "t",
+        "--strength",
+        "2",
+        "--variable",
+        "shifted",
+        "--",
+        "-",
+    ];
+    assert!(rt; settings(alloc, &words) == Ok(two));
+    let one = Settings {
+        strength: Strength::One,
+        ..plain
+    };
+    let words = [
+        "--table",
+        "t",
+        "--strength",
+        "1",
+        "--variable",
+        "non-ignorable",
+        "p",
+    ];
+    assert!(rt; settings(alloc, &words) == Ok(one));
+}
+
+#[test]
+fn refuses_other_words(rt: HostRuntime) {
+    let alloc = rt.alloc();
+    let usage = Err(SettingsFault::Usage);
+    assert!(rt; settings(alloc, &[]) == usage);
+    assert!(rt; settings(alloc, &["p"]) == usage);
+    assert!(rt; settings(alloc, &["--table", "t"]) == usage);
+    assert!(rt; settings(alloc, &["--table", "t", "-p"]) == usage);
+    assert!(rt; settings(alloc, &["--table", "t", "p", "q", "r"]) == usage);
+    assert!(rt; settings(alloc, &["--table", "t", "--strength", "4", "p"]) == usage);
+    assert!(rt; settings(alloc, &["--table", "t", "--strength", "01", "p"]) == usage);
+    assert!(rt; settings(alloc, &["--table", "t", "--variable", "Shifted", "p"]) == usage);
+    assert!(rt; settings(alloc, &["--help"]) == usage);
+    assert!(rt; settings(alloc, &["--version"]) == usage);
+}
+
+/// The status of the program, and what it wrote to its two outputs.
+fn answered<'a, R: Source>(
+    rt: &HostRuntime,
+    words: &'a [&'a str],
+    input: &mut R,
+) -> (u8, FailingTarget, FailingTarget)
+    requires { R.failures input.old < 2 ^ 63 }
+{
+    let alloc = rt.alloc();
+    let mut out = FailingTarget::new(alloc, 7, u64::MAX);
+    let mut err = FailingTarget::new(alloc, 7, u64::MAX);
+    let status = program(rt, alloc, words, input, &mut out, &mut err);
+    (status, out, err)
+}
+
+#[test]
+fn tells_its_faults(rt: HostRuntime) -> Result<(), Fail> {
+    let alloc = rt.alloc();
+    let folder = env::temp_dir(&rt)?;
+    let path = format!(in alloc; "{}/colfind-faults.table", folder.as_path().as_str())?;
+    fs::write(&rt, path.as_str(), TABLE)?;
+    let empty = format!(in alloc; "{}/colfind-empty.table", folder.as_path().as_str())?;
+    fs::write(&rt, empty.as_str(), "")?;
+    for (words, text, status, printed, told) in [
+        (
+            ["--table", path.as_str(), "--", "aa"],
+            b"aaa".as_slice(),
+            0,
+            "0:2\n1:3\n",
+            "",
+        ),
+        (
+            ["--table", path.as_str(), "--", "b"],
+            b"aaa".as_slice(),
+            1,
+            "",
+            "",
+        ),
+        (
+            ["--table", path.as_str(), "--", ""],
+            b"aaa".as_slice(),
+            2,
+            "",
+            "colfind: fault 22 at 0\n",
+        ),
+        (
+            ["--table", path.as_str(), "--", "a"],
+            b"ab \xff".as_slice(),
+            2,
+            "0:1\n",
+            "colfind: fault 31 at 3\n",
+        ),
+        (
+            ["--table", "no such file", "--", "a"],
+            b"a".as_slice(),
+            2,
+            "",
+            "colfind: fault 43 at 0\n",
+        ),
+        (
+            ["--table", folder.as_path().as_str(), "--", "a"],
+            b"a".as_slice(),
+            2,
+            "",
+            "colfind: fault 43 at 0\n",
+        ),
+        (
+            ["--table", empty.as_str(), "--", "a"],
+            b"a".as_slice(),
+            2,
+            "",
+            "colfind: fault 12 at 0\n",
+        ),
+        (
+            ["--tables", path.as_str(), "--", "a"],
+            b"a".as_slice(),
+            2,
+            "",
+            "colfind: usage\n",
+        ),
+    ] {
+        let (answer, out, err) = answered(&rt, &words, &mut MemorySource::new(text, 2));
+        assert_eq!(rt; answer, status);
+        assert_eq!(rt; out.bytes(), printed.as_bytes());
+        assert_eq!(rt; err.bytes(), told.as_bytes());
+    }
+    let words = ["--table", path.as_str(), "a"];
+    let (answer, out, err) = answered(&rt, &words, &mut FailingSource::new(b"ab", 2, 1));
+    assert_eq!(rt; answer, 2);
+    assert_eq!(rt; out.bytes(), b"0:1\n".as_slice());
+    assert_eq!(rt; err.bytes(), b"colfind: fault 41 at 2\n".as_slice());
+    let mut out = FailingTarget::new(alloc, 7, 0);
+    let mut err = FailingTarget::new(alloc, 1, 9);
+    let status = program(
+        &rt,
+        alloc,
+        &words,
+        &mut MemorySource::new(b"ab", 2),
+        &mut out,
+        &mut err,
+    );
+    assert_eq!(rt; status, 2);
+    assert_eq!(rt; err.bytes(), b"colfind: ".as_slice());
+    fs::remove_file(&rt, path.as_str())?;
+    fs::remove_file(&rt, empty.as_str())?;
+    Ok(())
+}

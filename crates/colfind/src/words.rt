@@ -1,0 +1,24 @@
+//! What the words of the command line ask for.
+use collation_elements::{Strength, Variable};
+use thiserror::Error;
+
+/// What the words of the command line ask for.
+#[derive(Clone, Copy, Debug, PartialEq, Eq)]
+pub struct Settings<'a> {
+    /// The path of the table file.
+    pub table: &'a str,
+    pub pattern: &'a str,
+    pub strength: Strength,
+    pub variable: Variable,
+}
+
+/// Why there are no settings.
+#[derive(Error, Clone, Copy, Debug, PartialEq, Eq)]
+pub enum SettingsFault {
+    /// The words are not those of the command.
+    #[error("the words are not those of the command")]
+    Usage,
+    /// Memory was refused.
+    #[error("memory was refused")]
+    Memory,
+}

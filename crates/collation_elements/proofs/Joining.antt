@@ -1,0 +1,147 @@
+-- One look at the non-starters behind a unit: `left` of the points were looked at and stay, and the key is the code points
+-- of the unit with those that joined it.
+use Rattle.std.proofs.Common.{◌≡◌, ℕ, suc, ◌+◌, ◌<◌, ◌≤◌, max, nat_le, Bool, true, false, cond, not, ◌||◌, ◌&&◌, List, [], ◌∷◌, ◌++◌, length, take, drop, remove, Some, slice_get, refl, sym, ◌∙◌, ap, ⊎_elim, arith, length-take}
+use Rattle.std.specs.List.{list_any}
+use Rattle.std.proofs.lemmas.List.{map_push, take-append-drop, take_at, drop_at, drop_more, take_more, take_all, drop_all}
+use Rattle.std.proofs.lemmas.List.Folds.{list_any_more}
+use Rattle.std.proofs.lemmas.Bool.{false≢true, cases_lt, le-leb, lt-leb}
+use Rattle.std.proofs.lemmas.Option.{slice_get_within, get_or_from_slice_get}
+use Rattle.nfd_points.specs.declared.points.Point.{Point}
+use Rattle.nfd_points.specs.Points.{is_starter}
+use Rattle.collation_table.specs.Table.{TableMap, is_key}
+use Rattle.collation_elements.specs.Units.{codes, blocks, joins, Cut, extended}
+
+-- a later point is blocked exactly where the greatest class among those left is at least its own
+abbrev pub IsHighest : List Point → ℕ → ℕ → Type 0
+IsHighest ps left highest = (c : Point) → 1 ≤ c.ccc → list_any (blocks c) (take left ps) ≡ nat_le c.ccc highest
+
+abbrev pub JoinsSoFar : TableMap → List ℕ → List Point → List ℕ → List Point → ℕ → Type 0
+JoinsSoFar T key_before before key ps left =
+    (unit : List Point) → codes unit ≡ key_before → (longer : List Point) × (codes longer ≡ key) × (extended T longer (take left ps) (drop left ps) ≡ extended T unit [] before)
+
+pub IsHighest-none : (ps : List Point) → IsHighest ps 0 0
+IsHighest-none ps c some = sym (lt-leb c.ccc 0 (omega arith))
+
+pub JoinsSoFar-none : (T : TableMap) (key : List ℕ) (ps : List Point) → JoinsSoFar T key ps key ps 0
+JoinsSoFar-none T key ps unit is = (unit, is, refl)
+
+-- ---- the places of a point
+
+drop-at : (ps : List Point) (left : ℕ) (c : Point) → slice_get ps left ≡ Some c → drop left ps ≡ c ∷ drop (left + 1) ps
+drop-at ps left c at =
+    drop_more ps left c (slice_get_within ps left c at) ∙ ap (λ q. q ∷ drop (left + 1) ps) (get_or_from_slice_get ps left c c at)
+
+take-at : (ps : List Point) (left : ℕ) (c : Point) → slice_get ps left ≡ Some c → take (left + 1) ps ≡ take left ps ++ c ∷ []
+take-at ps left c at =
+    take_more ps left c (slice_get_within ps left c at) ∙ ap (λ q. take left ps ++ q ∷ []) (get_or_from_slice_get ps left c c at)
+
+take-remove_at : (ps : List Point) (left : ℕ) → left < length ps → take left (remove ps left) ≡ take left ps
+take-remove_at ps left h = take_at (take left ps) (drop (suc left) ps) left (omega (arith, length-take left ps))
+
+drop-remove_at : (ps : List Point) (left : ℕ) → left < length ps → drop left (remove ps left) ≡ drop (left + 1) ps
+drop-remove_at ps left h =
+    let next : suc left ≡ left + 1 = omega arith in
+    drop_at (take left ps) (drop (suc left) ps) left (omega (arith, length-take left ps)) ∙ ap (λ k. drop k ps) next
+
+-- ---- one look
+
+cond-taken : {A : Type 0} (s j : Bool) (stop taken left : A) → s ≡ false → j ≡ true → cond s stop (cond j taken left) ≡ taken
+cond-taken true j stop taken left a b = absurd (false≢true (sym a))
+cond-taken false true stop taken left a b = refl
+cond-taken false false stop taken left a b = absurd (false≢true b)
+
+cond-left : {A : Type 0} (s j : Bool) (stop taken left : A) → s ≡ false → j ≡ false → cond s stop (cond j taken left) ≡ left
+cond-left true j stop taken left a b = absurd (false≢true (sym a))
+cond-left false true stop taken left a b = absurd (false≢true (sym b))
+cond-left false false stop taken left a b = refl
+
+extended-taken : (T : TableMap) (unit between : List Point) (c : Point) (following : List Point) → is_starter c ≡ false → joins T unit between c ≡ true → extended T unit between (c ∷ following) ≡ extended T (unit ++ c ∷ []) between following
+extended-taken T unit between c following a b =
+    cond-taken (is_starter c) (joins T unit between c) (record { unit = unit; rest = between ++ c ∷ following }) (extended T (unit ++ c ∷ []) between following) (extended T unit (between ++ c ∷ []) following) a b
+
+extended-left : (T : TableMap) (unit between : List Point) (c : Point) (following : List Point) → is_starter c ≡ false → joins T unit between c ≡ false → extended T unit between (c ∷ following) ≡ extended T unit (between ++ c ∷ []) following
+extended-left T unit between c following a b =
+    cond-left (is_starter c) (joins T unit between c) (record { unit = unit; rest = between ++ c ∷ following }) (extended T (unit ++ c ∷ []) between following) (extended T unit (between ++ c ∷ []) following) a b
+
+joins_when : (T : TableMap) (unit between : List Point) (c : Point) (key : List ℕ) (blocked found : Bool) → codes unit ≡ key → list_any (blocks c) between ≡ blocked → is_key T (key ++ c.cp ∷ []) ≡ found → joins T unit between c ≡ (not blocked && found)
+joins_when T unit between c key blocked found is stands there =
+    ap (λ b. not b && is_key T (codes (unit ++ c ∷ []))) stands
+    ∙ ap (λ k. not blocked && is_key T k) (map_push (λ (q : Point). q.cp) unit c ∙ ap (λ k. k ++ c.cp ∷ []) is)
+    ∙ ap (λ b. not blocked && b) there
+
+pub JoinsSoFar-taken : (T : TableMap) (key_before : List ℕ) (before : List Point) (key longer_key : List ℕ) (ps : List Point) (left highest : ℕ) (c : Point) → JoinsSoFar T key_before before key ps left → IsHighest ps left highest → slice_get ps left ≡ Some c → is_starter c ≡ false → 1 ≤ c.ccc → highest < c.ccc → is_key T (key ++ c.cp ∷ []) ≡ true → longer_key ≡ key ++ c.cp ∷ [] → JoinsSoFar T key_before before longer_key (remove ps left) left
+JoinsSoFar-taken T key_before before key longer_key ps left highest c so_far high at starter some above found is unit unit_is =
+    let was = so_far unit unit_is in
+    let within : left < length ps = slice_get_within ps left c at in
+    let free : list_any (blocks c) (take left ps) ≡ false = high c some ∙ lt-leb c.ccc highest above in
+    let join : joins T was.0 (take left ps) c ≡ true = joins_when T was.0 (take left ps) c key false true was.1 free found in
+    let codes_are : codes (was.0 ++ c ∷ []) ≡ longer_key = map_push (λ (q : Point). q.cp) was.0 c ∙ ap (λ k. k ++ c.cp ∷ []) was.1 ∙ sym is in
+    let now : extended T (was.0 ++ c ∷ []) (take left ps) (drop (left + 1) ps) ≡ extended T unit [] before = sym (ap (extended T was.0 (take left ps)) (drop-at ps left c at) ∙ extended-taken T was.0 (take left ps) c (drop (left + 1) ps) starter join) ∙ was.2 in (
+      was.0 ++ c ∷ [],
+      codes_are,
+      ap (λ between. extended T (was.0 ++ c ∷ []) between (drop left (remove ps left))) (take-remove_at ps left within)
+          ∙ ap (extended T (was.0 ++ c ∷ []) (take left ps)) (drop-remove_at ps left within)
+          ∙ now,
+    )
+
+pub JoinsSoFar-left : (T : TableMap) (key_before : List ℕ) (before : List Point) (key : List ℕ) (ps : List Point) (left highest : ℕ) (c : Point) → JoinsSoFar T key_before before key ps left → IsHighest ps left highest → slice_get ps left ≡ Some c → is_starter c ≡ false → 1 ≤ c.ccc → (highest < c.ccc → is_key T (key ++ c.cp ∷ []) ≡ false) → JoinsSoFar T key_before before key ps (left + 1)
+JoinsSoFar-left T key_before before key ps left highest c so_far high at starter some stays unit unit_is =
+    let was = so_far unit unit_is in
+    let apart : joins T was.0 (take left ps) c ≡ false = ⊎_elim (λ (above : highest < c.ccc). joins_when T was.0 (take left ps) c key false false was.1 (high c some ∙ lt-leb c.ccc highest above) (stays above)) (λ (below : c.ccc ≤ highest). joins_when T was.0 (take left ps) c key true (is_key T (key ++ c.cp ∷ [])) was.1 (high c some ∙ le-leb c.ccc highest below) refl) (cases_lt highest c.ccc) in
+    let now : extended T was.0 (take left ps ++ c ∷ []) (drop (left + 1) ps) ≡ extended T unit [] before = sym (ap (extended T was.0 (take left ps)) (drop-at ps left c at) ∙ extended-left T was.0 (take left ps) c (drop (left + 1) ps) starter apart) ∙ was.2 in
+    (was.0, was.1, ap (λ between. extended T was.0 between (drop (left + 1) ps)) (take-at ps left c at) ∙ now)
+
+IsHighest-cases : (d h c : ℕ) → (nat_le d h || nat_le d c) ≡ nat_le d (max h c)
+IsHighest-cases d h c = ⊎_elim
+    (λ (above : h < d). ⊎_elim
+    (λ (also : c < d). ap (λ b. b || nat_le d c) (lt-leb d h above) ∙ lt-leb d c also ∙ sym (lt-leb d (max h c) (omega arith)))
+    (λ (below : d ≤ c). ap (λ b. b || nat_le d c) (lt-leb d h above) ∙ le-leb d c below ∙ sym (le-leb d (max h c) (omega arith)))
+    (cases_lt c d))
+    (λ (below : d ≤ h). ap (λ b. b || nat_le d c) (le-leb d h below) ∙ sym (le-leb d (max h c) (omega arith)))
+    (cases_lt h d)
+
+blocks-non_starter : (d c : Point) → is_starter c ≡ false → blocks d c ≡ nat_le d.ccc c.ccc
+blocks-non_starter d c e = ap (λ s. s || nat_le d.ccc c.ccc) e
+
+pub IsHighest-left : (ps : List Point) (left highest : ℕ) (c : Point) → IsHighest ps left highest → slice_get ps left ≡ Some c → is_starter c ≡ false → IsHighest ps (left + 1) (max highest c.ccc)
+IsHighest-left ps left highest c high at starter d some =
+    list_any_more (blocks d) ps left c (slice_get_within ps left c at)
+    ∙ ap (λ q. list_any (blocks d) (take left ps) || blocks d q) (get_or_from_slice_get ps left c c at)
+    ∙ ap (λ b. b || blocks d c) (high d some)
+    ∙ ap (λ b. nat_le d.ccc highest || b) (blocks-non_starter d c starter)
+    ∙ IsHighest-cases d.ccc highest c.ccc
+
+pub IsHighest-taken : (ps : List Point) (left highest : ℕ) → left < length ps → IsHighest ps left highest → IsHighest (remove ps left) left highest
+IsHighest-taken ps left highest h high d some = ap (list_any (blocks d)) (take-remove_at ps left h) ∙ high d some
+
+-- ---- the end
+
+-- what a look gives where no non-starter is left to look at
+abbrev pub IsDone : TableMap → List ℕ → List Point → List ℕ → List Point → Type 0
+IsDone T key_before before key ps =
+    (unit : List Point) → codes unit ≡ key_before → (key ≡ codes (extended T unit [] before).unit) × (ps ≡ (extended T unit [] before).rest)
+
+done : (T : TableMap) (unit before : List Point) (key : List ℕ) (ps longer : List Point) → codes longer ≡ key → record { unit = longer; rest = ps } ≡ extended T unit [] before → (key ≡ codes (extended T unit [] before).unit) × (ps ≡ (extended T unit [] before).rest)
+done T unit before key ps longer is same =
+    (sym is ∙ ap (λ (cut : Cut). codes cut.unit) same, ap (λ (cut : Cut). cut.rest) same)
+
+pub IsDone-none : (T : TableMap) (key_before : List ℕ) (before : List Point) (key : List ℕ) (ps : List Point) (left : ℕ) → JoinsSoFar T key_before before key ps left → length ps ≤ left → IsDone T key_before before key ps
+IsDone-none T key_before before key ps left so_far past unit unit_is =
+    let was = so_far unit unit_is in
+    let end : extended T was.0 (take left ps) (drop left ps) ≡ record { unit = was.0; rest = ps } = ap (λ between. extended T was.0 between (drop left ps)) (take_all left ps past) ∙ ap (extended T was.0 ps) (drop_all left ps past) in
+    done T unit before key ps was.0 was.1 (sym end ∙ was.2)
+
+pub extended-starter : (T : TableMap) (unit between : List Point) (c : Point) (following : List Point) → is_starter c ≡ true → extended T unit between (c ∷ following) ≡ record { unit = unit; rest = between ++ c ∷ following }
+extended-starter T unit between c following h =
+    first (is_starter c) (record { unit = unit; rest = between ++ c ∷ following }) (cond (joins T unit between c) (extended T (unit ++ c ∷ []) between following) (extended T unit (between ++ c ∷ []) following)) h
+  where
+    first : (s : Bool) (stop others : Cut) → s ≡ true → cond s stop others ≡ stop
+    first true stop others e = refl
+    first false stop others e = absurd (false≢true e)
+
+pub IsDone-starter : (T : TableMap) (key_before : List ℕ) (before : List Point) (key : List ℕ) (ps : List Point) (left : ℕ) (c : Point) → JoinsSoFar T key_before before key ps left → slice_get ps left ≡ Some c → is_starter c ≡ true → IsDone T key_before before key ps
+IsDone-starter T key_before before key ps left c so_far at starter unit unit_is =
+    let was = so_far unit unit_is in
+    let whole : take left ps ++ c ∷ drop (left + 1) ps ≡ ps = ap (λ rest. take left ps ++ rest) (sym (drop-at ps left c at)) ∙ take-append-drop left ps in
+    let end : extended T was.0 (take left ps) (drop left ps) ≡ record { unit = was.0; rest = ps } = ap (extended T was.0 (take left ps)) (drop-at ps left c at) ∙ extended-starter T was.0 (take left ps) c (drop (left + 1) ps) starter ∙ ap (λ (rest : List Point). record { unit = was.0; rest = rest }) whole in
+    done T unit before key ps was.0 was.1 (sym end ∙ was.2)

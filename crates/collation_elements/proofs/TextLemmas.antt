@@ -1,0 +1,62 @@
+-- Fronts of a list of characters, one character more.
+use Rattle.std.specs.Char.{len_utf8}
+use Rattle.std.proofs.Common.{◌≡◌, ℕ, suc, ◌+◌, ◌<◌, ◌≤◌, List, [], ◌∷◌, ◌++◌, length, take, drop, get_or, sym, ◌∙◌, ap, arith, refl, false}
+use Rattle.std.proofs.lemmas.List.{take_more}
+use Rattle.std.proofs.Math.Seq.{split_at}
+use Rattle.std.proofs.lemmas.List.{append-nil}
+use Rattle.nfd_points.specs.declared.points.Point.{Point}
+use Rattle.nfd_points.specs.Points.{byte_len}
+use Rattle.collation_table.specs.Table.{TableMap}
+use Rattle.collation_elements.specs.declared.keys.Item.{Item}
+use Rattle.collation_elements.specs.declared.settings.Strength.{Strength}
+use Rattle.collation_elements.specs.declared.settings.Variable.{Variable}
+use Rattle.collation_elements.specs.declared.weigher.Weigher.{Weigher}
+use Rattle.collation_elements.specs.Units.{units}
+use Rattle.collation_elements.specs.Items.{items}
+use Rattle.collation_elements.specs.Texts.{Gives}
+use Rattle.collation_elements.specs.Windows.{Held}
+
+pub byte_len-append : (xs ys : List ℕ) → byte_len (xs ++ ys) ≡ byte_len xs + byte_len ys
+unfolding byte_len
+byte_len-append [] ys = omega arith
+byte_len-append (x ∷ xs) ys = let rest = byte_len-append xs ys in omega arith
+
+pub byte_len-one : (c : ℕ) → byte_len (c ∷ []) ≡ len_utf8 c
+unfolding byte_len
+byte_len-one c = omega arith
+
+pub next_front : (cs : List ℕ) (i c : ℕ) → i < length cs → c ≡ get_or cs i c → take (i + 1) cs ≡ take i cs ++ c ∷ []
+next_front cs i c below is = take_more cs i c below ∙ ap (λ x. take i cs ++ x ∷ []) (sym is)
+
+pub next_bytes : (cs : List ℕ) (i c : ℕ) → i < length cs → c ≡ get_or cs i c → byte_len (take (i + 1) cs) ≡ byte_len (take i cs) + len_utf8 c
+next_bytes cs i c below is =
+    let parts = ap byte_len (next_front cs i c below is) in
+    let sum = byte_len-append (take i cs) (c ∷ []) in
+    let one = byte_len-one c in omega arith
+
+pub around : (cs : List ℕ) (i c : ℕ) → i < length cs → c ≡ get_or cs i c → cs ≡ take i cs ++ c ∷ drop (suc i) cs
+around cs i c below is = split_at cs i c below ∙ ap (λ x. take i cs ++ x ∷ drop (suc i) cs) (sym is)
+
+pub front_bytes : (cs : List ℕ) (i c : ℕ) → i < length cs → c ≡ get_or cs i c → byte_len (take i cs) + len_utf8 c ≤ byte_len cs
+front_bytes cs i c below is =
+    let parts = ap byte_len (around cs i c below is) in
+    let sum = byte_len-append (take i cs) (c ∷ drop (suc i) cs) in
+    let rest = byte_len-append (c ∷ []) (drop (suc i) cs) in
+    let one = byte_len-one c in omega arith
+
+pub byte_len-nil : 0 ≡ byte_len []
+unfolding byte_len
+byte_len-nil = refl
+
+-- ---- all units
+
+-- the items of all points, where the window holds none any more
+pub gives_all : (table : TableMap) (window : Held) (weigher : Weigher) (given : List Item) (taken : List Point) (strength : Strength) (variable : Variable) →
+    Gives table window weigher given taken → window.points ≡ [] → weigher.strength ≡ strength → weigher.variable ≡ variable →
+    given ≡ items table strength variable false (units table taken)
+gives_all table window weigher given taken strength variable gives none same_strength same_variable =
+    let all = gives.cut.continues [] (λ e. refl) in
+    let behind : units table (window.points ++ []) ≡ [] = ap (λ ps. units table (ps ++ [])) none in
+    let cut : units table taken ≡ gives.units = ap (units table) (sym (append-nil taken)) ∙ all ∙ ap (λ us. gives.units ++ us) behind ∙ append-nil gives.units in
+    gives.weighed.items ∙ ap (λ s. items table s weigher.variable false gives.units) same_strength ∙ ap (λ v. items table strength v false gives.units) same_variable
+    ∙ ap (λ us. items table strength variable false us) (sym cut)

@@ -1,0 +1,13 @@
+pub mod Units
+pub mod Windows
+pub mod Elements
+pub mod UnitValues
+pub mod UnitElements
+pub mod Keys
+pub mod Items
+pub mod ItemParts
+pub mod Weighing
+pub mod Boundaries
+pub mod Clusters
+pub mod Context
+pub mod Texts

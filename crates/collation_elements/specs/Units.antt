@@ -1,0 +1,48 @@
+-- The units of a text: which points one collation element mapping takes (UTS #10, S2.1 to S2.1.3).
+use Rattle.std.specs.Prelude.{ℕ, Bool, ◌||◌, ◌&&◌, not, nat_le, List, [], ◌∷◌, ◌++◌, map, take, drop, max, if◌then◌else◌}
+use Rattle.std.specs.List.{list_any}
+use Rattle.nfd_points.specs.declared.points.Point.{Point}
+use Rattle.nfd_points.specs.Points.{is_starter}
+use Rattle.collation_table.specs.Table.{TableMap, is_key, longest_front}
+
+-- the code points of these points
+abbrev pub codes : List Point → List ℕ
+codes ps = map (λ p. p.cp) ps
+
+-- b, which stands between a unit and the later point c, blocks c from it
+abbrev pub blocks : Point → Point → Bool
+blocks c b = is_starter b || nat_le c.ccc b.ccc
+
+-- c is not blocked by the points `between` it and the unit, and together with it the unit is a key
+abbrev pub joins : TableMap → List Point → List Point → Point → Bool
+joins table unit between c = not (list_any (blocks c) between) && is_key table (codes (unit ++ c ∷ []))
+
+-- a unit, and the points that it leaves
+pub record Cut : Type 0 where
+  pub unit : List Point
+  pub rest : List Point
+
+-- S2.1.1 to S2.1.3: each non-starter that follows the unit, up to the next starter, is looked at in turn; one that
+-- joins is taken out of the rest. `between` are those that were looked at and stay.
+abbrev pub extended : TableMap → List Point → List Point → List Point → Cut
+extended table unit between [] = record { unit = unit; rest = between }
+extended table unit between (c ∷ following) =
+    let stop : Cut = record { unit = unit; rest = between ++ c ∷ following } in
+    let taken = extended table (unit ++ c ∷ []) between following in
+    let left = extended table unit (between ++ c ∷ []) following in
+    if is_starter c then stop else (if joins table unit between c then taken else left)
+
+-- S2.1: the longest front that is a key or, where none is, the first point; then what joins it
+abbrev pub first_unit : TableMap → Point → List Point → Cut
+first_unit table p ps =
+    let n = max 1 (longest_front table (codes (p ∷ ps))) in extended table (take n (p ∷ ps)) [] (drop n (p ∷ ps))
+
+-- the units of at most as many points as `fuel` has
+abbrev pub units_within : List Point → TableMap → List Point → List (List Point)
+units_within [] table ps = []
+units_within (f ∷ fuel) table [] = []
+units_within (f ∷ fuel) table (p ∷ ps) =
+    let cut = first_unit table p ps in cut.unit ∷ units_within fuel table cut.rest
+
+abbrev pub units : TableMap → List Point → List (List Point)
+units table ps = units_within ps table ps

@@ -1,0 +1,26 @@
+//! Laws about the definitions: each is the contract of a function that does nothing.
+ghost use Rattle.std.specs.Prelude.{◌≡◌, List, ◌++◌, true, false};
+ghost use Rattle.nfd_points.specs.declared.points.Point.{Point};
+ghost use Rattle.nfd_points.specs.Reordering.{is_closed};
+ghost use Rattle.collation_table.specs.Table.{TableMap};
+ghost use Rattle.collation_elements.specs.declared.settings.Strength.{Strength};
+ghost use Rattle.collation_elements.specs.declared.settings.Variable.{Variable};
+ghost use Rattle.collation_elements.specs.Units.{units};
+ghost use Rattle.collation_elements.specs.Keys.{keys};
+ghost use Rattle.collation_elements.specs.Items.{items};
+ghost use Rattle.collation_elements.specs.ItemParts.{item_keys, item_starts};
+ghost use Rattle.collation_elements.specs.Boundaries.{cluster_starts};
+
+/// The keys among the items of a list of points are its keys, and the offsets among them are those at which its clusters begin.
+pub fn items_are_keys_and_starts()
+    ensures keys { (table : TableMap) (strength : Strength) (variable : Variable) (ps : List Point)
+        → item_keys (items table strength variable false (units table ps)) ≡ keys table strength variable ps }
+    ensures starts { (table : TableMap) (strength : Strength) (variable : Variable) (ps : List Point)
+        → item_starts (items table strength variable false (units table ps)) ≡ cluster_starts table ps }
+{}
+
+/// Points behind whose last starter no point stands, put behind others of the kind, are of the kind too.
+pub fn closed_points_append()
+    ensures { (xs ys : List Point) → is_closed xs ≡ true → is_closed ys ≡ true
+        → is_closed (xs ++ ys) ≡ true }
+{}

@@ -1,0 +1,34 @@
+//! Collation elements of a text (UTS #10, S2).
+//!
+//! A `Window` holds the points of a text, as `nfd_points` gives them, and cuts units from its front: the points that one
+//! collation element mapping takes, contractions that are not contiguous among them (S2.1). It cuts a unit as soon as no point
+//! that may follow can change it, so few points stay in it, however long the text is. A `Unit` has its first point and its
+//! collation elements, lent by a table of `collation_table` or implicit (S2.2). A `Weigher` makes the items of a text from its
+//! units: the keys that a strength keeps of the elements under variable weighting, and the places where clusters begin.
+//!
+//! What units, elements, keys, items and boundaries of a whole text are stands in `specs/`. The contracts say of each call what
+//! the window or the weigher stands for after it, so that what was given begins what the whole text has. Only
+//! `Window::with_capacity` takes memory.
+#![tactic(auto)]
+
+mod context;
+mod keys;
+mod laws;
+mod queue;
+mod settings;
+mod texts;
+mod unit;
+mod weigher;
+mod window;
+
+pub use crate::context::{clusters_are_parts, clusters_begin_afresh, parts_join};
+pub use crate::keys::{Item, Key};
+pub use crate::laws::{closed_points_append, items_are_keys_and_starts};
+pub use crate::settings::{Strength, Variable};
+pub use crate::texts::{ItemsFault, items_of_text};
+pub use crate::unit::Unit;
+pub use crate::weigher::{MOST_ITEMS, Weigher};
+pub use crate::window::Window;
+
+#[cfg(test)]
+mod tests;

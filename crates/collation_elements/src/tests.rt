@@ -1,0 +1,189 @@
+//! What no clause says: worked windows and worked keys, over tables of a few rows.
+ghost use Rattle.std.specs.Prelude.{◌≡◌, false, IfOk};
+
+use crate::{Item, MOST_ITEMS, Strength, Variable, Weigher, Window};
+use arrayvec::ArrayVec;
+use collation_table::{Table, Weights};
+use nfd_points::Point;
+use std::alloc::{AllocError, Global};
+use std::test::Fail;
+
+const ACCENTED: &str = "0020 ; [*0201.0020.0002]
+002D ; [*0202.0020.0002]
+0061 ; [.1C00.0020.0002]
+0062 ; [.1C10.0020.0002]
+0063 ; [.1C20.0020.0002]
+0063 0068 ; [.1C28.0020.0002]
+0065 ; [.1C40.0020.0002]
+0068 ; [.1C50.0020.0002]
+0075 ; [.1C90.0020.0002]
+0075 0301 ; [.1C98.0020.0002]
+0300 ; [.0000.0025.0002]
+0301 ; [.0000.0024.0002]
+0327 ; [.0000.0030.0002]
+20DD ; [.0000.0040.0002]
+2F00 ; [.FB40.0020.0004][.CE00.0000.0000]
+";
+
+const CONTRACTED: &str = "0061 ; [.1C00.0020.0002]
+0075 ; [.1C90.0020.0002]
+0075 0323 ; [.1C91.0020.0002]
+0075 0323 0302 ; [.1C92.0020.0002]
+0302 ; [.0000.0024.0002]
+0323 ; [.0000.0026.0002]
+0327 ; [.0000.0030.0002]
+0327 0061 ; [.1C05.0020.0002]
+";
+
+const ONE_CONTRACTION: &str = "0078 0301 ; [.1CA0.0020.0002]";
+
+fn class_of(c: char) -> u8 {
+    match c {
+        '\u{300}' | '\u{301}' | '\u{302}' => 230,
+        '\u{323}' => 220,
+        '\u{327}' => 202,
+        _ => 0,
+    }
+}
+
+/// A window of the characters of a text, each its own decomposition, in this order.
+fn window_of(alloc: Global, table: &Table, text: &str) -> Result<Window, AllocError> {
+    let mut window = Window::with_capacity(alloc, table.longest_key())?;
+    for c in text.chars() {
+        if !window.is_full() {
+            window.push(Point {
+                cp: c as u32,
+                ccc: class_of(c),
+                offset: 0,
+                first: true,
+            });
+        }
+    }
+    Ok(window)
+}
+
+/// The units that are decided, each by its first code point and the primary weight of its first element.
+fn units_of(alloc: Global, file: &str, text: &str, has_ended: bool) -> Result<String, Fail> {
+    let table = Table::read(alloc, file.as_bytes())?;
+    let mut window = window_of(alloc, &table, text)?;
+    if has_ended {
+        window.end();
+    }
+    let mut units = String::new(alloc);
+    while let Some(unit) = window.next_unit(&table) {
+        let weight = unit.elements().first().map_or(0, |e| e.w1);
+        write!(units, "{:X}:{:X} ", unit.first_point().cp, weight)?;
+    }
+    Ok(units)
+}
+
+/// The items of a text that ends there.
+fn items_of(
+    alloc: Global,
+    text: &str,
+    strength: Strength,
+    variable: Variable,
+) -> Result<String, Fail> {
+    let table = Table::read(alloc, ACCENTED.as_bytes())?;
+    let mut window = window_of(alloc, &table, text)?;
+    window.end();
+    let mut weigher = Weigher::new(strength, variable);
+    let mut all = String::new(alloc);
+    let mut items = ArrayVec::<Item, MOST_ITEMS>::new();
+    while let Some(unit) = window.next_unit(&table) {
+        weigher.take(&unit, &mut items);
+        for item in items.as_slice() {
+            write!(all, "{item:?} ")?;
+        }
+    }
+    Ok(all)
+}
+
+#[test]
+fn cuts_decided_units(rt: HostRuntime) -> Result<(), Fail> {
+    for (file, text, has_ended, units) in [
+        (ACCENTED, "u\u{327}\u{301}", false, ""),
+        (ACCENTED, "u\u{327}\u{301}a", false, "75:1C98 327:0 "),
+        (ACCENTED, "u\u{300}\u{301}", true, "75:1C90 300:0 301:0 "),
+        (ACCENTED, "c", false, ""),
+        (ACCENTED, "ch", false, ""),
+        (ACCENTED, "cha", false, "63:1C28 "),
+        (
+            ONE_CONTRACTION,
+            "x\u{327}\u{301}",
+            true,
+            "78:1CA0 327:FBC0 ",
+        ),
+        (CONTRACTED, "u\u{327}\u{323}\u{302}a", false, "75:1C92 "),
+        (
+            CONTRACTED,
+            "u\u{323}\u{327}\u{302}a",
+            true,
+            "75:1C92 327:1C05 ",
+        ),
+    ] {
+        let given = units_of(rt.alloc(), file, text, has_ended)?;
+        assert_eq!(rt; given.as_str(), units);
+    }
+    Ok(())
+}
+
+#[test]
+fn gives_keys_up_to_the_strength(rt: HostRuntime) -> Result<(), Fail> {
+    for (text, strength, items) in [
+        (
+            "e\u{301}",
+            Strength::Two,
+            "ClusterStart(0) Element(Primary(7232, 32, 0)) Element(Secondary(36, 0)) ",
+        ),
+        (
+            "\u{2F00}",
+            Strength::Three,
+            "ClusterStart(0) Element(Pair(64320, 52736, 32, 4)) ",
+        ),
+        (
+            "\u{4E00}",
+            Strength::One,
+            "ClusterStart(0) Element(Pair(64320, 52736, 0, 0)) ",
+        ),
+    ] {
+        let given = items_of(rt.alloc(), text, strength, Variable::NonIgnorable)?;
+        assert_eq!(rt; given.as_str(), items);
+    }
+    let given = items_of(
+        rt.alloc(),
+        "-\u{20DD}b\u{20DD}",
+        Strength::Two,
+        Variable::Shifted,
+    )?;
+    assert_eq!(rt;
+        given.as_str(),
+        "ClusterStart(0) ClusterStart(0) Element(Primary(7184, 32, 0)) Element(Secondary(64, 0)) "
+    );
+    Ok(())
+}
+
+#[test]
+fn answers_each_call(rt: HostRuntime) -> Result<(), Fail> {
+    let table = Table::read(rt.alloc(), ACCENTED.as_bytes())?;
+    let window = window_of(rt.alloc(), &table, "ab")?;
+    assert_eq!(rt; window.len(), 2);
+    assert_eq!(rt; window.point(1).cp, 0x62);
+    assert_eq!(rt; window.is_full(), false);
+    let weigher = Weigher::restore(Strength::Two, Variable::Shifted, true);
+    assert_eq!(rt; weigher.after_variable(), true);
+    let items = crate::items_of_text(
+        rt.alloc(),
+        &table,
+        "e\u{301}",
+        Strength::Two,
+        Variable::Shifted,
+    )?;
+    assert_eq!(rt; items.len(), 3);
+    crate::items_are_keys_and_starts();
+    crate::closed_points_append();
+    crate::clusters_are_parts();
+    crate::clusters_begin_afresh();
+    crate::parts_join();
+    Ok(())
+}

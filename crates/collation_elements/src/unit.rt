@@ -1,0 +1,75 @@
+//! A unit of a text, with its collation elements.
+ghost use Rattle.std.specs.Prelude.{◌≡◌, ◌<◌, ◌≤◌, length, unwrap_or};
+ghost use Rattle.collation_table.specs.Table.{row_of, implicit_pair};
+
+use collation_table::{Element, MOST_ROW_ELEMENTS, Weights};
+use nfd_points::Point;
+use std::marker::Model;
+
+/// Where the elements of a unit are.
+#[derive(Drop)]
+enum Elements<'t> {
+    /// The row of a table.
+    Row(&'t [Element]),
+    /// The implicit pair of a point that has no row.
+    Implicit([Element; 2]),
+}
+
+/// The points that one collation element mapping takes (UTS #10, S2.1), seen as the first of them and the elements.
+#[derive(Drop)]
+pub struct Unit<'t> {
+    first_point: Point,
+    elements: Elements<'t>,
+}
+
+impl<'t> Model for Unit<'t> {
+    ghost use Rattle.std.specs.Prelude.{◌≤◌, length};
+    ghost use Rattle.collation_table.specs.declared.limits.TheConstants.{MOST_ROW_ELEMENTS};
+    ghost use Rattle.collation_elements.specs.UnitValues.{UnitValue};
+
+    ghost Value = { UnitValue };
+
+    ghost use Rattle.collation_elements.specs.UnitElements.{elements_in};
+
+    ghost view = { λ u. record { first_point = u.first_point; elements = elements_in u.elements } };
+
+    ghost invariant = { λ u. length (elements_in u.elements) ≤ MOST_ROW_ELEMENTS };
+}
+
+impl<'t> Unit<'t> {
+    /// The unit of the code points `key`, of which `first_point` is the first.
+    pub(crate) fn new<W: Weights>(table: &'t W, first_point: Point, key: &[u32]) -> Self
+        requires { first_point.cp < 0x110000 }
+        ensures first_point { result.first_point ≡ first_point }
+        ensures elements { let pair = implicit_pair (W.table table.now) first_point.cp in
+            result.elements ≡ unwrap_or (row_of (W.table table.now) key.now) pair }
+    {
+        let elements = match table.row(key) {
+            Some(row) => Elements::Row(row),
+            None => Elements::Implicit(table.implicit(first_point.cp)),
+        };
+        Unit {
+            first_point,
+            elements,
+        }
+    }
+
+    /// The unit's first point.
+    pub fn first_point(&self) -> Point
+        ensures { result ≡ self.now.first_point }
+    {
+        self.first_point
+    }
+
+    /// The unit's collation elements before variable weighting (UTS #10, S2.2): the row of the table or, where the unit has
+    /// none, the implicit pair of its one point.
+    pub fn elements(&self) -> &[Element]
+        ensures value { result.now ≡ self.now.elements }
+        ensures few { length result.now ≤ MOST_ROW_ELEMENTS }
+    {
+        match &self.elements {
+            Elements::Row(row) => row,
+            Elements::Implicit(pair) => pair,
+        }
+    }
+}

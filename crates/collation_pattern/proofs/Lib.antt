@@ -1,0 +1,6 @@
+pub mod KeyLists
+pub mod KeyLevels
+pub mod ReadableRows
+pub mod ReadableTexts
+pub mod KeyLawLemmas
+pub mod CompileLemmas

@@ -1,0 +1,14 @@
+//! Laws of sort keys and lists of keys.
+
+ghost use Rattle.collation_pattern.specs.KeyLaw.{KeyLaw, SortKeyIsLevels};
+
+use collation_table::Weights;
+use nfd_points::laws::laws_of_points;
+
+/// Under a well-formed table two texts have the same sort key exactly where they have the same list of keys.
+pub fn key_law<W: Weights>(table: &W)
+    ensures same { KeyLaw (W.table table.now) }
+    ensures levels { SortKeyIsLevels (W.table table.now) }
+{
+    laws_of_points();
+}

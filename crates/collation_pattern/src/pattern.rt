@@ -1,0 +1,101 @@
+//! A text to search for, as its keys.
+
+ghost use Rattle.std.specs.Prelude.{◌≡◌, ◌↔◌, ◌≤◌, length, IsTrue};
+ghost use Rattle.collation_pattern.specs.Levels.{levels};
+
+use crate::compile::keys_of_pattern;
+use crate::faults::PatternFault;
+use crate::level_weights::same_levels;
+use collation_elements::{Key, Strength, Variable};
+use collation_table::Weights;
+use std::alloc::Global;
+use std::marker::Model;
+
+/// A pattern: the keys of a text at a strength and under a variable weighting, of which there is at least one.
+#[derive(Drop)]
+pub struct Pattern {
+    keys: Vec<Key>,
+    strength: Strength,
+    variable: Variable,
+}
+
+impl Model for Pattern {
+    ghost use Rattle.std.specs.Prelude.{◌≤◌, length};
+    ghost use Rattle.collation_pattern.specs.Compiled.{Compiled};
+
+    ghost Value = { Compiled };
+
+    ghost view = { λ p. record { keys = p.keys.items; strength = p.strength; variable = p.variable } };
+
+    ghost invariant = { λ p. 1 ≤ length p.keys.items };
+}
+
+impl Pattern {
+    ghost use Rattle.std.specs.Prelude.{◌≡◌, ◌≢◌, ◌↔◌, ◌≤◌, length, IsTrue, None, Some, IfOk, OnOk, IfErr};
+    ghost use Rattle.collation_pattern.specs.Levels.{levels, text_keys};
+    ghost use Rattle.collation_pattern.specs.PatternFaults.{pattern_fault};
+
+    /// Compiles a text.
+    ///
+    /// # Errors
+    ///
+    /// The first of these: `TOO_LONG`, `LONG_RUN`, `NO_KEY`; `MEMORY` in place of any answer, only where memory was refused.
+    pub fn compile<W: Weights>(
+        alloc: Global,
+        table: &W,
+        text: &str,
+        strength: Strength,
+        variable: Variable,
+    ) -> Result<Pattern, PatternFault>
+        ensures compiled { IfOk result (λ pattern. pattern ≡ record { keys = text_keys (W.table table.now) strength variable text.now; strength = strength; variable = variable }) }
+        ensures accepted { OnOk result (pattern_fault (W.table table.now) strength variable text.now ≡ None) }
+        ensures refused { IfErr result (λ f. f.kind ≢ 24 → pattern_fault (W.table table.now) strength variable text.now ≡ Some f.kind) }
+    {
+        let keys = keys_of_pattern(alloc, table, text, strength, variable)?;
+        Ok(Pattern {
+            keys,
+            strength,
+            variable,
+        })
+    }
+
+    /// How many keys the pattern has, at least 1.
+    pub fn len(&self) -> usize
+        ensures keys { result ≡ length self.now.keys }
+        ensures some { 1 ≤ result }
+    {
+        self.keys.len()
+    }
+
+    /// The strength at which it was compiled.
+    pub fn strength(&self) -> Strength
+        ensures { result ≡ self.now.strength }
+    {
+        self.strength
+    }
+
+    /// The variable weighting under which it was compiled.
+    pub fn variable(&self) -> Variable
+        ensures { result ≡ self.now.variable }
+    {
+        self.variable
+    }
+
+    /// The keys of the pattern, in order.
+    pub fn keys(&self) -> &[Key]
+        ensures { result.now ≡ self.now.keys }
+    {
+        self.keys.as_slice()
+    }
+
+    /// Whether a list of keys has the pattern's sort key (UTS #10, S3): the same weights at each level up to the
+    /// strength, those that are 0 left out.
+    ///
+    /// Two lists may differ and yet have the same levels, as a pair and two primary keys of its weights; under a
+    /// well-formed table no two texts have such lists.
+    pub fn same_key(&self, keys: &[Key]) -> bool
+        ensures { IsTrue result ↔ (levels self.now.strength keys.now ≡ levels self.now.strength self.now.keys) }
+    {
+        same_levels(self.strength, keys, self.keys.as_slice())
+    }
+}

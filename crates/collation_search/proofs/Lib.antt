@@ -1,0 +1,15 @@
+mod BridgeLists
+mod BridgeRanges
+mod BridgeKeys
+mod BridgeClusters
+mod BridgeFound
+mod BridgeMinimal
+mod BridgeGrowing
+mod BridgeFlat
+mod BridgeMatches
+mod WalkLemmas
+mod BridgeBorder
+mod WorkedClusters
+pub mod FrontLemmas
+pub mod WorkedRowLemmas
+pub mod SearchLemmas

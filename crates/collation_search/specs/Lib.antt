@@ -1,0 +1,9 @@
+pub mod Matches
+pub mod GoodFront
+pub mod Answer
+pub mod FrontChecks
+pub mod ByClusters
+pub mod ByClustersLaws
+pub mod Walks
+pub mod WorkedTable
+pub mod WorkedRows

@@ -1,0 +1,115 @@
+-- What is wrong with a table file, and the table that it spells where nothing is. A line is judged by itself and by the lines
+-- before it; the first line at fault is told, with the smallest kind of fault that it has.
+use Rattle.std.specs.Prelude.{◌≡◌, ℕ, ◌+◌, Bool, ◌||◌, nat_lt, nat_le, if◌then◌else◌, List, [], ◌∷◌, ◌++◌, ◌⊎◌, length, take, map, Option, Some, None, option_map}
+use Rattle.std.specs.Option.{option_or}
+use Rattle.std.specs.List.{list_any, cons_option, filter_map, range_with_len, slice_index_or}
+use Rattle.std.specs.Str.Lines.{lines}
+use Rattle.collation_table.specs.declared.limits.TheConstants.{MOST_KEY_POINTS, MOST_ROW_ELEMENTS, MOST_ENTRY_LINES, MOST_RANGE_LINES}
+use Rattle.collation_table.specs.declared.faults.TheConstants.{MALFORMED_LINE, BEYOND_UNICODE, KEY_TWICE, TOO_LONG, BREAKS_WF1, BREAKS_WF3, BREAKS_PAIRS, BAD_RANGE, TOO_MANY_LINES, OUT_OF_MEMORY}
+use Rattle.collation_table.specs.declared.faults.TableFault.{TableFault}
+use Rattle.collation_table.specs.declared.elements.Element.{Element}
+use Rattle.collation_table.specs.declared.ranges.ImplicitRange.{ImplicitRange}
+use Rattle.collation_table.specs.Table.{TableMap, row_of, is_key}
+use Rattle.collation_table.specs.WellFormed.{breaks_wf1, breaks_wf3, breaks_pair_rule, breaks_ranges, map_fault}
+use Rattle.collation_table.specs.Spelling.{Form, Empty, Version, Range, Entry, line_form}
+
+-- What a file spells
+
+-- what each line says, or nothing for a malformed one
+abbrev pub forms_of : List ℕ → List (Option Form)
+forms_of bytes = map line_form (lines bytes)
+
+-- the row of an entry line
+abbrev pub row_in : Option Form → Option (List ℕ × List Element)
+row_in (Some (Entry key row)) = Some (key, row)
+row_in _ = None
+
+-- the range of a range line
+abbrev pub range_in : Option Form → Option ImplicitRange
+range_in (Some (Range range)) = Some range
+range_in _ = None
+
+-- the rows and the ranges of lines, in their order
+abbrev pub map_of : List (Option Form) → TableMap
+map_of forms = record { rows = filter_map row_in forms; ranges = filter_map range_in forms }
+
+-- the table with what one more line says
+abbrev pub with_line : TableMap → Option Form → TableMap
+with_line T form = record { rows = T.rows ++ cons_option (row_in form) []; ranges = T.ranges ++ cons_option (range_in form) [] }
+
+-- the table is the finite map of the entry lines, and has the ranges of the range lines
+pub record Spells (bytes : List ℕ) (T : TableMap) : Type 0 where
+  pub rows : (key : List ℕ) → row_of T key ≡ row_of (map_of (forms_of bytes)) key
+  pub ranges : T.ranges ≡ (map_of (forms_of bytes)).ranges
+
+-- What is wrong with a line
+
+-- the kind of the first test that holds
+abbrev pub first_kind : List (Bool × ℕ) → Option ℕ
+first_kind [] = None
+first_kind (test ∷ tests) = if test.0 then Some test.1 else first_kind tests
+
+abbrev pub is_beyond_unicode : ℕ → Bool
+is_beyond_unicode cp = nat_lt 0x10FFFF cp
+
+-- the smallest kind of fault of a range line, behind lines that spell the table T
+abbrev pub range_kind : TableMap → ImplicitRange → Option ℕ
+range_kind T range =
+    first_kind (
+    (list_any is_beyond_unicode (range.first ∷ range.last ∷ []), BEYOND_UNICODE)
+    ∷ (breaks_ranges T.ranges range, BAD_RANGE)
+    ∷ (nat_le MOST_RANGE_LINES (length T.ranges), TOO_MANY_LINES)
+    ∷ [])
+
+-- the smallest kind of fault of an entry line, behind lines that spell the table T
+abbrev pub entry_kind : TableMap → List ℕ → List Element → Option ℕ
+entry_kind T key row =
+    first_kind (
+    (list_any is_beyond_unicode key, BEYOND_UNICODE)
+    ∷ (is_key T key, KEY_TWICE)
+    ∷ (nat_lt MOST_KEY_POINTS (length key) || nat_lt MOST_ROW_ELEMENTS (length row), TOO_LONG)
+    ∷ (breaks_wf1 row, BREAKS_WF1)
+    ∷ (breaks_wf3 row, BREAKS_WF3)
+    ∷ (breaks_pair_rule row, BREAKS_PAIRS)
+    ∷ (nat_le MOST_ENTRY_LINES (length T.rows), TOO_MANY_LINES)
+    ∷ [])
+
+-- the smallest kind of fault of a line, behind lines that spell the table T
+abbrev pub line_kind : TableMap → Option Form → Option ℕ
+line_kind T None = Some MALFORMED_LINE
+line_kind T (Some Empty) = None
+line_kind T (Some Version) = None
+line_kind T (Some (Range range)) = range_kind T range
+line_kind T (Some (Entry key row)) = entry_kind T key row
+
+-- What is wrong with a file
+
+abbrev pub fault_at : ℕ → Option ℕ → Option TableFault
+fault_at line kind = option_map (λ k. record { line = line; kind = k }) kind
+
+-- the fault of the line at a place, counted from 0; its number is counted from 1
+abbrev pub fault_of_line : List (Option Form) → ℕ → Option TableFault
+fault_of_line forms n = fault_at (n + 1) (line_kind (map_of (take n forms)) (slice_index_or forms n None))
+
+-- the first of the numbers to which f gives something
+abbrev pub first_some : {A B : Type 0} → (A → Option B) → List A → Option B
+first_some f [] = None
+first_some f (x ∷ xs) = option_or (f x) (first_some f xs)
+
+abbrev pub first_line_fault : List (Option Form) → Option TableFault
+first_line_fault forms = first_some (fault_of_line forms) (range_with_len 0 (length forms))
+
+-- the fault of the first line at fault, or else that of the whole table
+abbrev pub fault_of_forms : List (Option Form) → Option TableFault
+fault_of_forms forms = option_or (first_line_fault forms) (fault_at 0 (map_fault (map_of forms)))
+
+abbrev pub table_fault : List ℕ → Option TableFault
+table_fault bytes = fault_of_forms (forms_of bytes)
+
+-- refused memory
+abbrev pub out_of_memory : TableFault
+out_of_memory = record { line = 0; kind = OUT_OF_MEMORY }
+
+-- a fault that is told: the one that there is, or that of refused memory
+abbrev pub IsFaultOrMemory : Option TableFault → TableFault → Type 0
+IsFaultOrMemory there fault = (there ≡ Some fault) ⊎ (fault ≡ out_of_memory)

@@ -1,0 +1,7 @@
+pub mod Bounds
+pub mod Entries
+pub mod Faults
+pub mod Reading
+pub mod Spelling
+pub mod Table
+pub mod WellFormed

@@ -1,0 +1,120 @@
+//! The forms of a line of a table file (UTS #10, the form of allkeys.txt).
+
+ghost use Rattle.std.specs.Prelude.{◌≡◌, ◌==◌, IfOk, IfSome, option_map};
+ghost use Rattle.std.specs.List.{before_first};
+ghost use Rattle.collation_table.specs.Spelling.{number_sign, begins_with_blank, ends_word, is_version, range_of, entry_of, form_of, line_form};
+ghost use Rattle.collation_table.specs.Reading.{form, HasParts};
+
+use crate::elements::Element;
+use crate::pieces::{
+    cut, is_blank_byte, is_blank_only, strip_text, without_leading_blanks, without_outer_blanks,
+};
+use crate::ranges::ImplicitRange;
+use crate::spelling::{code_point, elements, key, weight};
+use std::alloc::{AllocError, Global};
+
+/// What a line says.
+#[derive(Debug, Drop)]
+pub(crate) enum Line {
+    /// Nothing but blanks and a comment.
+    Empty,
+    /// The version of the table, which is passed over.
+    Version,
+    /// Code points whose implicit weights begin with a base of their own.
+    Range(ImplicitRange),
+    /// A row of the table.
+    Entry { key: Vec<u32>, row: Vec<Element> },
+}
+
+/// Whether the bytes begin with a blank.
+fn starts_with_blank(bytes: &[u8]) -> bool
+    ensures { result ≡ begins_with_blank bytes.now }
+{
+    match bytes {
+        [] => false,
+        [first, ..] => is_blank_byte(*first),
+    }
+}
+
+/// Whether a line is `@version`, alone or with a blank and any bytes behind it.
+#[tactic(auto, unfolding(crate::specs::Spelling::is_version))]
+fn is_version_line(text: &[u8]) -> bool
+    ensures { result ≡ is_version text.now }
+{
+    match strip_text(without_leading_blanks(text), b"@version") {
+        Some(behind) => behind.is_empty() || starts_with_blank(behind),
+        None => false,
+    }
+}
+
+/// The range of a line `@implicitweights FIRST..LAST; BASE`.
+#[tactic(auto, unfolding(crate::specs::Spelling::range_of))]
+fn range(text: &[u8]) -> Option<ImplicitRange>
+    ensures { result ≡ range_of text.now }
+{
+    let behind = strip_text(without_leading_blanks(text), b"@implicitweights")?;
+    if !starts_with_blank(behind) {
+        return None;
+    }
+    let (ends, base) = cut(behind, b';')?;
+    let (first, rest) = cut(ends, b'.')?;
+    let last = strip_text(rest, b".")?;
+    let first = code_point(without_outer_blanks(first))?;
+    let last = code_point(without_outer_blanks(last))?;
+    let base = weight(without_outer_blanks(base))?;
+    Some(ImplicitRange { first, last, base })
+}
+
+/// The row of a line `KEY ; ELEMENTS`.
+#[tactic(auto, unfolding(crate::specs::Spelling::entry_of))]
+fn entry(alloc: Global, text: &[u8]) -> Result<Option<Line>, AllocError>
+    ensures value { IfOk result (λ found. option_map form found ≡ entry_of text.now) }
+    ensures some { IfOk result (λ found. IfSome found HasParts) }
+{
+    let Some((left, right)) = cut(text, b';') else {
+        return Ok(None);
+    };
+    let Some(key) = key(alloc, left)? else {
+        return Ok(None);
+    };
+    let Some(row) = elements(alloc, right)? else {
+        return Ok(None);
+    };
+    Ok(Some(Line::Entry { key, row }))
+}
+
+/// What a line says without its end and its comment, or `None` where it has none of the four forms.
+#[tactic(auto, unfolding(crate::specs::Spelling::form_of))]
+fn line_without_comment(alloc: Global, text: &[u8]) -> Result<Option<Line>, AllocError>
+    ensures value { IfOk result (λ found. option_map form found ≡ form_of text.now) }
+    ensures some { IfOk result (λ found. IfSome found HasParts) }
+{
+    if is_blank_only(text) {
+        return Ok(Some(Line::Empty));
+    }
+    if is_version_line(text) {
+        return Ok(Some(Line::Version));
+    }
+    if let Some(range) = range(text) {
+        return Ok(Some(Line::Range(range)));
+    }
+    entry(alloc, text)
+}
+
+/// What a line says, given without its end; its comment, from the first `#` on, is passed over.
+pub(crate) fn parse_line(alloc: Global, text: &[u8]) -> Result<Option<Line>, AllocError>
+    ensures value { IfOk result (λ found. option_map form found ≡ line_form text.now) }
+    ensures some { IfOk result (λ found. IfSome found HasParts) }
+{
+    line_without_comment(alloc, without_comment(text))
+}
+
+/// What stands before the first `#`.
+fn without_comment(text: &[u8]) -> &[u8]
+    ensures { result.now ≡ before_first (λ b. b == number_sign) text.now }
+{
+    match cut(text, b'#') {
+        Some((front, _)) => front,
+        None => text,
+    }
+}

@@ -1,0 +1,39 @@
+//! What the rest of the library asks a collation element table.
+ghost use Rattle.std.specs.Prelude.{◌≡◌, ◌<◌, ◌≤◌, length, option_copied};
+ghost use Rattle.collation_table.specs.Table.{TableMap, HasSizes, row_of, longest_front, implicit_pair, longest_key, most_elements};
+ghost use Rattle.collation_table.specs.WellFormed.{IsWellFormed};
+
+use crate::elements::Element;
+
+/// A well-formed collation element table (UTS #10, sections 3 and 4). No call takes memory.
+pub trait Weights {
+    // The finite map and the ranges that the table stands for.
+    ghost table: { Self → TableMap };
+
+    /// The greatest number of code points at which a front of `points` is a key of the table, and 0 if none is.
+    fn longest(&self, points: &[u32]) -> usize
+        ensures value { result ≡ longest_front (table self.now) points.now }
+        ensures within { result ≤ length points.now };
+
+    /// The collation elements to which the table maps `key`, lent by the table.
+    fn row(&self, key: &[u32]) -> Option<&[Element]>
+        ensures { option_copied result ≡ row_of (table self.now) key.now };
+
+    /// The two elements of a code point that has no row of its own (UTS #10, section 10.1.3).
+    fn implicit(&self, cp: u32) -> [Element; 2]
+        requires { cp < 0x110000 }
+        ensures { result ≡ implicit_pair (table self.now) cp };
+
+    /// The number of code points of the longest key.
+    fn longest_key(&self) -> usize
+        ensures { result ≡ longest_key (table self.now) };
+
+    /// The number of elements of the largest row, at least the 2 of an implicit pair.
+    fn most_elements(&self) -> usize
+        ensures { result ≡ most_elements (table self.now) };
+
+    // The table meets the standard's conditions, and the limits on its sizes.
+    ghost well_formed: { (t : Self) → IsWellFormed (table t) };
+
+    ghost sizes: { (t : Self) → HasSizes (table t) };
+}

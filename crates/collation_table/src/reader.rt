@@ -1,0 +1,166 @@
+//! Reading a table file line by line (UTS #10, the form of allkeys.txt).
+
+ghost use Rattle.std.specs.Prelude.{◌≡◌, None, IfOk, IfErr, OnOk, option_map};
+ghost use Rattle.std.specs.List.{list_any};
+ghost use Rattle.collation_table.specs.WellFormed.{IsWellFormed};
+ghost use Rattle.collation_table.specs.Spelling.{line_form};
+ghost use Rattle.collation_table.specs.Faults.{forms_of, map_of, is_beyond_unicode, range_kind, entry_kind, line_kind, fault_at, with_line, first_line_fault, table_fault, Spells, IsFaultOrMemory};
+ghost use Rattle.collation_table.specs.Reading.{form};
+
+use crate::elements::Element;
+use crate::faults::{
+    BAD_RANGE, BEYOND_UNICODE, BREAKS_PAIRS, BREAKS_WF1, BREAKS_WF3, KEY_TWICE, MALFORMED_LINE,
+    TOO_LONG, TOO_MANY_LINES, TableFault,
+};
+use crate::limits::{MOST_ENTRY_LINES, MOST_KEY_POINTS, MOST_RANGE_LINES, MOST_ROW_ELEMENTS};
+use crate::lines::{Line, parse_line};
+use crate::lookup::Weights;
+use crate::pieces::first_line;
+use crate::ranges::ImplicitRange;
+use crate::rows::Rows;
+use crate::table::Table;
+use crate::well_formed::{breaks_pair_rule, breaks_wf1, breaks_wf3};
+use std::alloc::Global;
+
+/// The last code point of Unicode.
+const LAST_CODE_POINT: u32 = 0x10FFFF;
+
+/// Whether one of the numbers is no code point.
+fn any_beyond_unicode(points: &[u32]) -> bool
+    ensures { result ≡ list_any is_beyond_unicode points.now }
+{
+    points.iter().any(|point| *point > LAST_CODE_POINT)
+}
+
+/// The smallest kind of fault of a range line behind the lines that gave `rows`.
+fn range_fault(rows: &Rows, range: &ImplicitRange) -> Option<u8>
+    ensures { result ≡ range_kind rows.now range.now }
+{
+    if any_beyond_unicode(&[range.first, range.last]) {
+        Some(BEYOND_UNICODE)
+    } else if rows.refuses(range) {
+        Some(BAD_RANGE)
+    } else if rows.ranges().len() >= MOST_RANGE_LINES {
+        Some(TOO_MANY_LINES)
+    } else {
+        None
+    }
+}
+
+/// The smallest kind of fault of an entry line behind the lines that gave `rows`.
+fn entry_fault(rows: &Rows, key: &[u32], row: &[Element]) -> Option<u8>
+    ensures { result ≡ entry_kind rows.now key.now row.now }
+{
+    if any_beyond_unicode(key) {
+        Some(BEYOND_UNICODE)
+    } else if rows.has_key(key) {
+        Some(KEY_TWICE)
+    } else if key.len() > MOST_KEY_POINTS || row.len() > MOST_ROW_ELEMENTS {
+        Some(TOO_LONG)
+    } else if breaks_wf1(row) {
+        Some(BREAKS_WF1)
+    } else if breaks_wf3(row) {
+        Some(BREAKS_WF3)
+    } else if breaks_pair_rule(row) {
+        Some(BREAKS_PAIRS)
+    } else if rows.row_count() >= MOST_ENTRY_LINES {
+        Some(TOO_MANY_LINES)
+    } else {
+        None
+    }
+}
+
+/// The smallest kind of fault of a line behind the lines that gave `rows`.
+fn line_fault(rows: &Rows, line: &Option<Line>) -> Option<u8>
+    ensures { result ≡ line_kind rows.now (option_map form line.now) }
+{
+    match line {
+        None => Some(MALFORMED_LINE),
+        Some(Line::Empty | Line::Version) => None,
+        Some(Line::Range(range)) => range_fault(rows, range),
+        Some(Line::Entry { key, row }) => entry_fault(rows, key, row),
+    }
+}
+
+/// Adds what the line with this number says, or tells its fault; where memory is refused, that is told at line 0.
+fn read_line(alloc: Global, rows: &mut Rows, number: u64, text: &[u8]) -> Result<(), TableFault>
+    ensures ok { OnOk result ((line_kind rows.old (line_form text.now) ≡ None) × (rows.new ≡ with_line rows.old (line_form text.now))) }
+    ensures fault { IfErr result (IsFaultOrMemory (fault_at number (line_kind rows.old (line_form text.now)))) }
+{
+    let line = parse_line(alloc, text)?;
+    if let Some(kind) = line_fault(rows, &line) {
+        return Err(TableFault { line: number, kind });
+    }
+    match line {
+        Some(Line::Range(range)) => rows.push_range(range)?,
+        Some(Line::Entry { key, row }) => rows.insert(key, row)?,
+        Some(Line::Empty | Line::Version) | None => {}
+    }
+    Ok(())
+}
+
+/// The rows and ranges of all lines, or the fault of the first line that has one.
+fn read_lines(alloc: Global, bytes: &[u8]) -> Result<Rows, TableFault>
+    ensures ok { OnOk result (first_line_fault (forms_of bytes.now) ≡ None) }
+    ensures rows { IfOk result (λ rows. rows ≡ map_of (forms_of bytes.now)) }
+    ensures fault { IfErr result (IsFaultOrMemory (first_line_fault (forms_of bytes.now))) }
+{
+    let mut rows = Rows::new(alloc);
+    let mut rest = bytes;
+    let mut number = 0;
+    while !rest.is_empty() {
+        let (text, behind) = first_line(rest);
+        number += 1;
+        read_line(alloc, &mut rows, number, text)?;
+        rest = behind;
+    }
+    Ok(rows)
+}
+
+impl Table {
+    /// Reads a table file, in the form of allkeys.txt (UTS #10).
+    ///
+    /// A line ends with LF or CR LF; the last one may have no end. What stands in a line from the first `#` on is a comment,
+    /// of any bytes. The rest of a line has one of four forms:
+    ///
+    /// - nothing but blanks, each a space or a tab;
+    /// - `@version`, alone or with a blank and any bytes behind it, which is passed over;
+    /// - `@implicitweights FIRST..LAST; BASE`, a range of implicit weights (UTS #10, section 10.1.3);
+    /// - `KEY ; ELEMENTS`, a row: one or more code points with blanks between them, and one or more collation elements as
+    ///   `[.1C00.0020.0002]`, where `*` in place of the first `.` marks a variable one.
+    ///
+    /// A code point is four to six digits `0` to `9` and `A` to `F`, a weight is four. Blanks may stand at both ends of a line
+    /// and between its parts, not inside an element. The forms may stand in any order.
+    ///
+    /// # Errors
+    ///
+    /// The first line at fault is told, counted from 1, with the smallest kind of fault that it has:
+    ///
+    /// - 1: it has none of the four forms;
+    /// - 2: a code point is over 10FFFF;
+    /// - 3: an earlier line has the same key;
+    /// - 4: the key has more than 16 code points, or the row more than 32 elements;
+    /// - 5: an element breaks WF1 (UTS #10, section 5); 7: one breaks WF3;
+    /// - 10: a first weight FB00 to FBFF is not followed by an element `[.BBBB.0000.0000]` with BBBB from 8000 on, such an
+    ///   element stands elsewhere, or a variable first weight is FB00 or more;
+    /// - 11: a range's ends are in the wrong order, its base is not in FB00..FB3F, it shares a code point with an earlier
+    ///   range, or the ranges of its base so far span more than 8000 (hexadecimal) code points;
+    /// - 13: 1,048,576 rows, or 256 ranges, stand before it.
+    ///
+    /// Where no line is at fault, line 0 is told with the first of these kinds that the table has: 12: it has no row;
+    /// 6: it breaks WF2; 8: WF4; 9: WF5. Line 0 and kind 14 say that memory was refused.
+    pub fn read(alloc: Global, bytes: &[u8]) -> Result<Table, TableFault>
+        // A table comes from a file with no fault, and is what the file spells.
+        ensures accepted { OnOk result (table_fault bytes.now ≡ None) }
+        ensures spelled { IfOk result (λ table. Spells bytes.now (⟦<Table as Weights>⟧.table table)) }
+        ensures well_formed { IfOk result (λ table. IsWellFormed (⟦<Table as Weights>⟧.table table)) }
+        // The first fault is told, unless memory was refused.
+        ensures fault { IfErr result (IsFaultOrMemory (table_fault bytes.now)) }
+    {
+        let rows = read_lines(alloc, bytes)?;
+        match Table::seal(rows) {
+            Ok(table) => Ok(table),
+            Err(kind) => Err(TableFault { line: 0, kind }),
+        }
+    }
+}

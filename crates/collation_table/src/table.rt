@@ -1,0 +1,75 @@
+//! A table that is known to be well formed (UTS #10, section 5), and its look-ups.
+ghost use Rattle.std.specs.Prelude.{◌≡◌, MatchResult, None, Some};
+ghost use Rattle.collation_table.specs.Table as map;
+ghost use Rattle.collation_table.specs.Table.{HasSizes};
+ghost use Rattle.collation_table.specs.WellFormed.{IsWellFormed, map_fault};
+
+use crate::elements::Element;
+use crate::implicit;
+use crate::lookup::Weights;
+use crate::rows::Rows;
+
+/// A well-formed collation element table.
+#[derive(Drop)]
+pub struct Table {
+    rows: Rows,
+    longest: usize,
+    largest: usize,
+    ghost well_formed: { IsWellFormed rows },
+    ghost sizes: { HasSizes rows },
+    ghost longest_is: { longest ≡ map.longest_key rows },
+    ghost largest_is: { largest ≡ map.most_elements rows },
+}
+
+impl Table {
+    /// The table of these rows and ranges, or the kind of the first condition on the whole table that they break: 12 no row,
+    /// 6 WF2, 8 WF4, 9 WF5. Takes no memory.
+    pub(crate) fn seal(rows: Rows) -> Result<Table, u8>
+        ensures { MatchResult result (λ t. (map_fault rows ≡ None) × (⟦<Table as Weights>⟧.table t ≡ rows)) (λ kind. map_fault rows ≡ Some kind) }
+    {
+        match rows.fault() {
+            Some(kind) => Err(kind),
+            None => {
+                let longest = rows.longest_key();
+                let largest = rows.most_elements();
+                Ok(Table {
+                    rows,
+                    longest,
+                    largest,
+                })
+            }
+        }
+    }
+}
+
+impl Weights for Table {
+    ghost table = { λ t. t.rows };
+
+    fn longest(&self, points: &[u32]) -> usize {
+        let mut length = points.len().min(self.longest);
+        while length > 0 && !self.rows.has_key(&points[..length]) {
+            length -= 1;
+        }
+        length
+    }
+
+    fn row(&self, key: &[u32]) -> Option<&[Element]> {
+        self.rows.row(key)
+    }
+
+    fn implicit(&self, cp: u32) -> [Element; 2] {
+        implicit::implicit_pair(self.rows.ranges(), cp)
+    }
+
+    fn longest_key(&self) -> usize {
+        self.longest
+    }
+
+    fn most_elements(&self) -> usize {
+        self.largest
+    }
+
+    ghost well_formed = { λ t. t.well_formed };
+
+    ghost sizes = { λ t. t.sizes };
+}

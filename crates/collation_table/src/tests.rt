@@ -1,0 +1,297 @@
+//! Table files with their answers. Where memory is refused once, a file is read again.
+
+use super::*;
+use std::alloc::{AllocError, Global};
+use std::test::Fail;
+
+const BASIC: &str = "0020 ; [*0201.0020.0002]
+002D ; [.0000.0000.0000]
+0041 ; [.1C00.0020.0008]
+0061 ; [.1C00.0020.0002]
+0062 ; [.1C10.0020.0002]
+0063 ; [.1C20.0020.0002]
+0063 0068 ; [.1C28.0020.0002]
+0068 ; [.1C50.0020.0002]
+";
+
+const ACCENTED: &str = "@version 0.0.0
+0020 ; [*0201.0020.0002]
+002D ; [*0202.0020.0002]
+0061 ; [.1C00.0020.0002]
+0041 ; [.1C00.0020.0008]
+0062 ; [.1C10.0020.0002]
+0063 ; [.1C20.0020.0002]
+0063 0068 ; [.1C28.0020.0002]
+0065 ; [.1C40.0020.0002]
+0068 ; [.1C50.0020.0002]
+006D ; [.1C60.0020.0002]
+0072 ; [.1C70.0020.0002]
+0073 ; [.1C80.0020.0002]
+0075 ; [.1C90.0020.0002]
+0075 0301 ; [.1C98.0020.0002]
+0300 ; [.0000.0025.0002]
+0301 ; [.0000.0024.0002]
+0327 ; [.0000.0030.0002]
+20DD ; [.0000.0040.0002]
+00AD ; [.0000.0000.0000]
+2F00 ; [.FB40.0020.0004][.CE00.0000.0000]
+";
+
+/// The table of a file, or its fault; read again where memory was refused.
+fn read_again(alloc: Global, file: &[u8]) -> Result<Table, TableFault> {
+    match Table::read(alloc, file) {
+        Err(TableFault { line: 0, kind: 14 }) => Table::read(alloc, file),
+        answer => answer,
+    }
+}
+
+/// The kind and the line of the fault of a file.
+fn fault_of(alloc: Global, file: &[u8]) -> Option<(u8, u64)> {
+    match read_again(alloc, file) {
+        Ok(_) => None,
+        Err(fault) => Some((fault.kind, fault.line)),
+    }
+}
+
+/// How many code points the longest key of a file has, and how many elements the largest row.
+fn sizes_of(alloc: Global, file: &[u8]) -> Option<(usize, usize)> {
+    match read_again(alloc, file) {
+        Ok(table) => Some((table.longest_key(), table.most_elements())),
+        Err(_) => None,
+    }
+}
+
+#[test]
+fn tells_the_fault_of_a_line(rt: HostRuntime) {
+    for (file, kind, line) in [
+        ("61 ; [.1C00.0020.0002]", 1, 1),
+        ("0000061 ; [.1C00.0020.0002]", 1, 1),
+        ("0061 ; [.1c00.0020.0002]", 1, 1),
+        ("0061 ; [.1C0.0020.0002]", 1, 1),
+        ("0061 ; [.1C00.0020.0002.0000]", 1, 1),
+        ("0061 ; [.1C00 .0020.0002]", 1, 1),
+        ("0061 ; [.1C00.0020.0002", 1, 1),
+        ("0061 ; [.1C00.0020.0002] x", 1, 1),
+        ("0061 ;", 1, 1),
+        ("; [.1C00.0020.0002]", 1, 1),
+        ("0061 [.1C00.0020.0002]", 1, 1),
+        ("@versions 1.0", 1, 1),
+        ("@implicitweights17000..18AFF; FB00", 1, 1),
+        ("@implicitweights 17000.18AFF; FB00", 1, 1),
+        ("110000 ; [.1C00.0020.0002]", 2, 1),
+        ("@implicitweights 17000..110000; FB00", 2, 1),
+        ("0061 ; [.1C00.0020.0002]\n000061 ; [.1C01.0020.0002]", 3, 2),
+        ("0061 ; [.1C00.0000.0000]", 5, 1),
+        ("0061 ; [.1C00.0000.0002]", 5, 1),
+        ("0020 ; [*0000.0000.0000]", 7, 1),
+        ("0061 ; [.9000.0000.0000]", 10, 1),
+        ("0061 ; [*FB00.0020.0002]", 10, 1),
+        ("4E00 ; [.FB40.0020.0002]", 10, 1),
+        ("0061 ; [.FB40.0020.0002][.1C00.0020.0002]", 10, 1),
+        (
+            "2F00 ; [.FB40.0020.0004][.CE00.0000.0000][.CE01.0000.0000]",
+            10,
+            1,
+        ),
+        ("0301 ; [.0000.0020.0002]\n0061 ; [.9000.0000.0000]", 10, 2),
+        ("@implicitweights 17000..18AFF; FB40", 11, 1),
+        ("@implicitweights 17005..17000; FB00", 11, 1),
+        (
+            "@implicitweights 17000..17000; FB00\n@implicitweights 1F000..1F000; FB00",
+            11,
+            2,
+        ),
+        // Of several faults of a line the smallest kind, and of several lines the first.
+        ("110000 ; [.1C00.0000.0002]", 2, 1),
+        ("0061 ; [.1C00.0000.0002]\n61 ; x", 5, 1),
+        ("0061 ; [.1C00.0020.0002]\n0061 ; [.1C00.0000.0002]", 3, 2),
+    ] {
+        assert_eq!(rt;
+            fault_of(rt.alloc(), file.as_bytes()),
+            Some((kind, line)),
+            "{file}"
+        );
+    }
+}
+
+#[test]
+fn tells_the_fault_of_a_table(rt: HostRuntime) {
+    for (file, kind) in [
+        ("", 12),
+        ("# only a comment", 12),
+        (" \t\n\n\t\r\n  ", 12),
+        ("@implicitweights 17000..18AFF; FB00", 12),
+        ("0061 ; [.1C00.0020.0002]\n0062 ; [.0000.0000.0002]", 6),
+        ("0301 ; [.0000.0020.0002]", 6),
+        (
+            "0020 ; [*0201.0020.0002]\n002D ; [*0203.0020.0002]\n0061 ; [.0202.0020.0002]",
+            8,
+        ),
+        (
+            "0061 ; [.1C00.0020.0002]\n0061 0062 0301 ; [.1C01.0020.0002]",
+            9,
+        ),
+    ] {
+        assert_eq!(rt;
+            fault_of(rt.alloc(), file.as_bytes()),
+            Some((kind, 0)),
+            "{file}"
+        );
+    }
+}
+
+#[test]
+fn accepts(rt: HostRuntime) {
+    for (file, longest, most) in [
+        (BASIC, 2, 2),
+        (ACCENTED, 2, 2),
+        ("2F00 ; [.FB40.0020.0004][.CE00.0000.0000]", 1, 2),
+        ("  0061 0062;[.1C00.0020.0002] [.0000.0021.0002]# x", 2, 2),
+        ("@version\n@version 1 ; [x]\n0061;[.1C00.0020.0002]", 1, 2),
+        (
+            "@implicitweights\t17000 .. 17000 ; FB00 # x\n@implicitweights 1EFFF..1EFFF; FB00\n0061 ; [.1C00.0020.0002]",
+            1,
+            2,
+        ),
+        (
+            "0061 ; [.1C00.0020.0002]\r\n\r\n0061\t0062 ; [.1C10.0020.0002]\t[.0000.0021.0002][.0000.0021.0002] \r\n",
+            2,
+            3,
+        ),
+    ] {
+        assert_eq!(rt;
+            sizes_of(rt.alloc(), file.as_bytes()),
+            Some((longest, most)),
+            "{file}"
+        );
+    }
+}
+
+#[test]
+fn reads_bytes_that_are_no_text(rt: HostRuntime) {
+    let comment = b"0061 ; [.1C00.0020.0002] # \xff\xc3\n";
+    assert_eq!(rt; sizes_of(rt.alloc(), comment), Some((1, 2)));
+    let other = b"0061 ; [.1C00.0020.0002]\xff # x\n";
+    assert_eq!(rt; fault_of(rt.alloc(), other), Some((1, 1)));
+    let lone_return = b"0061 ; [.1C00.0020.0002]\r";
+    assert_eq!(rt; fault_of(rt.alloc(), lone_return), Some((1, 1)));
+}
+
+/// A line whose key has `points` code points, and whose row has `elements` elements.
+fn line_of(alloc: Global, points: usize, elements: usize) -> Result<String, AllocError> {
+    let mut line = String::new(alloc);
+    for _ in 0..points {
+        line.push_str("0061 ")?;
+    }
+    line.push_str(";")?;
+    for _ in 0..elements {
+        line.push_str("[.1C00.0020.0002]")?;
+    }
+    Ok(line)
+}
+
+#[test]
+fn bounds_a_line(rt: HostRuntime) -> Result<(), Fail> {
+    for (points, elements, fault) in [
+        (16, 32, None),
+        (17, 1, Some((4, 1))),
+        (1, 33, Some((4, 1))),
+    ] {
+        let line = line_of(rt.alloc(), points, elements).or_else(|_| line_of(
+            rt.alloc(),
+            points,
+            elements,
+        ))?;
+        assert_eq!(rt;
+            fault_of(rt.alloc(), line.as_bytes()),
+            fault,
+            "{points} {elements}"
+        );
+    }
+    Ok(())
+}
+
+/// A row, and as many ranges of one code point.
+fn ranges_of(alloc: Global, ranges: u32) -> Result<String, AllocError> {
+    let mut file = String::from_str(alloc, "0061 ; [.1C00.0020.0002]\n")?;
+    for range in 0..ranges {
+        let point = 0x17000 + range % 0x8000;
+        writeln!(file, "@implicitweights {point:X}..{point:X}; FB00")?;
+    }
+    Ok(file)
+}
+
+#[test]
+fn bounds_the_ranges(rt: HostRuntime) -> Result<(), Fail> {
+    for (ranges, fault) in [(256, None), (257, Some((13, 258)))] {
+        let file = ranges_of(rt.alloc(), ranges).or_else(|_| ranges_of(rt.alloc(), ranges))?;
+        assert_eq!(rt; fault_of(rt.alloc(), file.as_bytes()), fault, "{ranges}");
+    }
+    Ok(())
+}
+
+#[test]
+fn answers_by_its_rows(rt: HostRuntime) -> Result<(), Fail> {
+    let table = read_again(rt.alloc(), ACCENTED.as_bytes())?;
+    let row = table.row(&[0x75, 0x301]).ok_or("a row")?;
+    let accented = Element {
+        is_variable: false,
+        w1: 0x1C98,
+        w2: 0x20,
+        w3: 2,
+    };
+    assert_eq!(rt; row, [accented].as_slice());
+    let space = Element {
+        is_variable: true,
+        w1: 0x201,
+        w2: 0x20,
+        w3: 2,
+    };
+    assert_eq!(rt; table.row(&[0x20]).ok_or("a row")?, [space].as_slice());
+    assert!(rt; table.row(&[0x75, 0x300]).is_none());
+    assert!(rt; table.row(&[]).is_none());
+    for (points, longest) in [
+        ([0x63, 0x68, 0x61].as_slice(), 2),
+        ([0x63, 0x61].as_slice(), 1),
+        ([0x7A].as_slice(), 0),
+        ([].as_slice(), 0),
+    ] {
+        assert_eq!(rt; table.longest(points), longest);
+    }
+    Ok(())
+}
+
+/// The first weights of the implicit pair of a code point.
+fn implicit_of(alloc: Global, file: &str, point: u32) -> Option<(u16, u16)> {
+    let table = read_again(alloc, file.as_bytes()).ok()?;
+    if point > 0x10FFFF {
+        return None;
+    }
+    let [lead, follower] = table.implicit(point);
+    Some((lead.w1, follower.w1))
+}
+
+#[test]
+fn weighs_what_has_no_row(rt: HostRuntime) {
+    let plain = "0061 ; [.1C00.0020.0002]";
+    let tangut = "0061 ; [.1C00.0020.0002]\n@implicitweights 17000..18AFF; FB00";
+    let more =
+        "0061 ; [.1C00.0020.0002]\n@implicitweights 17000..18AFF; FB00\n@implicitweights 18D00..18D8F; FB00";
+    for (file, point, lead, follower) in [
+        (plain, 0x4E00, 0xFB40, 0xCE00),
+        (plain, 0xFA0E, 0xFB41, 0xFA0E),
+        (plain, 0x3400, 0xFB80, 0xB400),
+        (plain, 0x20000, 0xFB84, 0x8000),
+        (plain, 0x1100, 0xFBC0, 0x9100),
+        (plain, 0xE000, 0xFBC1, 0xE000),
+        (plain, 0x10FFFF, 0xFBE1, 0xFFFF),
+        (tangut, 0x17005, 0xFB00, 0x8005),
+        (more, 0x18D00, 0xFB00, 0x9D00),
+    ] {
+        assert_eq!(rt;
+            implicit_of(rt.alloc(), file, point),
+            Some((lead, follower)),
+            "{point:X}"
+        );
+    }
+}

@@ -1,0 +1,12 @@
+pub mod Computing
+pub mod DecompositionLemmas
+pub mod InsertLemmas
+pub mod OrderingLemmas
+pub mod PointsLemmas
+pub mod PushLemmas
+pub mod ReorderingLemmas
+pub mod RisingLemmas
+pub mod RunLemmas
+pub mod ShortRunLemmas
+pub mod StepLemmas
+pub mod WorkedPoints

@@ -1,0 +1,12 @@
+use Rattle.nfd_points.proofs.DecompositionLemmas.{length-decomposition, decomposition-some, decomposition-other, class-other}
+use Rattle.nfd_points.proofs.PointsLemmas.{points_of-ascii}
+use Rattle.nfd_points.proofs.laws.laws_of_decompositions.Goals as goal
+
+pub returns-clause-short : goal.returns-clause-short
+returns-clause-short c = λ n. (decomposition-some n, length-decomposition n)
+
+pub returns-clause-others : goal.returns-clause-others
+returns-clause-others c = λ n h. (decomposition-other n h, class-other n h)
+
+pub returns-clause-ascii : goal.returns-clause-ascii
+returns-clause-ascii c = points_of-ascii

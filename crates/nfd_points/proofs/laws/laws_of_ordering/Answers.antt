@@ -1,0 +1,24 @@
+use Rattle.nfd_points.proofs.OrderingLemmas.{is_in_order-ordered, ordered-ordered, ordered-front, ordered-parts, list_all-ordered, length-ordered}
+use Rattle.nfd_points.proofs.PointsLemmas.{ordered-shift}
+use Rattle.nfd_points.proofs.laws.laws_of_ordering.Goals as goal
+
+pub returns-clause-in_order : goal.returns-clause-in_order
+returns-clause-in_order c = is_in_order-ordered
+
+pub returns-clause-stays : goal.returns-clause-stays
+returns-clause-stays c = ordered-ordered
+
+pub returns-clause-fronts : goal.returns-clause-fronts
+returns-clause-fronts c = ordered-front
+
+pub returns-clause-at_starters : goal.returns-clause-at_starters
+returns-clause-at_starters c = ordered-parts
+
+pub returns-clause-shifted : goal.returns-clause-shifted
+returns-clause-shifted c = ordered-shift
+
+pub returns-clause-keeps : goal.returns-clause-keeps
+returns-clause-keeps c = list_all-ordered
+
+pub returns-clause-counts : goal.returns-clause-counts
+returns-clause-counts c = length-ordered

@@ -1,0 +1,4 @@
+pub mod Laws
+pub mod PointFaults
+pub mod Points
+pub mod Reordering

@@ -1,0 +1,47 @@
+//! Laws of points and of their faults, each the promise of a function that does nothing.
+//!
+//! They hold for every list of code points, also for numbers that are no scalar values.
+ghost use Rattle.nfd_points.specs.Laws.{DecompositionsAreShort, OthersAreStarters, AsciiIsItself, CodesAreNfd, PointsAreSound, BytesAreCounted, PointsOfParts, PointsAreShifted, TextsPart, OrderingIsInOrder, OrderedStays, OrderingOfFronts, OrderingStopsAtStarters, OrderingIsShifted, OrderingKeeps, OrderingCounts, FaultBehind, FaultInFront, FaultsAreRuns, GoodRunsAreShort, GivenAreFinal, GivenBegin, WaitingAreOthers};
+
+/// What the decomposition of one code point is.
+pub fn laws_of_decompositions()
+    ensures short { DecompositionsAreShort }
+    ensures others { OthersAreStarters }
+    ensures ascii { AsciiIsItself }
+{}
+
+/// The points of a text are its NFD, and what they are of two parts.
+pub fn laws_of_points()
+    ensures nfd { CodesAreNfd }
+    ensures sound { PointsAreSound }
+    ensures bytes { BytesAreCounted }
+    ensures parts { PointsOfParts }
+    ensures shifted { PointsAreShifted }
+    ensures texts { TextsPart }
+{}
+
+/// What canonical ordering does, and that it does not cross a starter.
+pub fn laws_of_ordering()
+    ensures in_order { OrderingIsInOrder }
+    ensures stays { OrderedStays }
+    ensures fronts { OrderingOfFronts }
+    ensures at_starters { OrderingStopsAtStarters }
+    ensures shifted { OrderingIsShifted }
+    ensures keeps { OrderingKeeps }
+    ensures counts { OrderingCounts }
+{}
+
+/// The first fault of a text, by its parts.
+pub fn laws_of_faults()
+    ensures behind { FaultBehind }
+    ensures in_front { FaultInFront }
+    ensures runs { FaultsAreRuns }
+    ensures short { GoodRunsAreShort }
+{}
+
+/// What a reorderer has given of a text.
+pub fn laws_of_reordering()
+    ensures last { GivenAreFinal }
+    ensures begin { GivenBegin }
+    ensures others { WaitingAreOthers }
+{}

@@ -1,0 +1,17 @@
+//! Points: the code points of a text in NFD (UAX #15), each with the byte offset where it comes from.
+//!
+//! A `Reorder` takes the code points of a text one at a time and gives its points as soon as no later code point can go
+//! before them. It stands on the decompositions and classes of `unicode_normalization`.
+#![tactic(auto)]
+
+pub use crate::faults::PointFault;
+pub use crate::points::Point;
+pub use crate::reordering::{MOST_GIVEN, Reorder};
+
+mod decomposing;
+mod faults;
+pub mod laws;
+mod points;
+mod reordering;
+#[cfg(test)]
+mod tests;

@@ -1,0 +1,34 @@
+//! A point: one code point of a decomposed text, and where it comes from.
+ghost use Rattle.std.specs.Prelude.{◌≡◌};
+ghost use Rattle.unicode_normalization.specs.Lookups.{canonical_combining_class};
+ghost use Rattle.nfd_points.specs.Reordering.{IsSound};
+
+use unicode_normalization::char::canonical_combining_class;
+
+/// A code point of the canonical decomposition of a code point of a text.
+#[derive(Clone, Copy, Debug, Default, PartialEq, Eq)]
+pub struct Point {
+    /// The code point, a Unicode scalar value.
+    pub cp: u32,
+    /// Its canonical combining class, which is 0 exactly for a starter.
+    pub ccc: u8,
+    /// The offset in bytes, from the beginning of the text, of the code point that it comes from.
+    pub offset: u64,
+    /// Whether it is the first of that code point's decomposition.
+    pub first: bool,
+}
+
+impl Point {
+    /// The point `c`, with its class, of the code point at the byte `offset`.
+    pub fn new(c: char, offset: u64, first: bool) -> Self
+        ensures value { result ≡ record { cp = c; ccc = canonical_combining_class c; offset = offset; first = first } }
+        ensures sound { IsSound result }
+    {
+        Point {
+            cp: c as u32,
+            ccc: canonical_combining_class(c),
+            offset,
+            first,
+        }
+    }
+}

@@ -1,0 +1,3 @@
+pub mod CharactersLemmas
+pub mod PushLemmas
+pub mod TableLemmas

@@ -1,0 +1,27 @@
+use Rattle.std.proofs.Common.{refl}
+use Rattle.utf8_cut.specs.Characters.{computing}
+use Rattle.utf8_cut.proofs.tests.worked_rows.Goals as goal
+
+pub returns : goal.returns
+unfolding computing
+returns c = record {
+  empty = refl;
+  empty_fault = refl;
+  two_bytes = refl;
+  not_continued = refl;
+  surrogate = refl;
+  overlong_two = refl;
+  overlong_three = refl;
+  overlong_four = refl;
+  too_great = refl;
+  above_a_byte = refl;
+  cut_fault = refl;
+  cut_is_open = refl;
+  cut_is_not_ill_formed = refl;
+  three_bytes_cut = refl;
+  whole_is_not_cut = refl;
+  least_and_greatest = refl;
+  beside_surrogates = refl;
+  past_three_bytes = refl;
+  greatest = refl;
+}

@@ -1,0 +1,189 @@
+//! Cuts bytes into the characters that they are as UTF-8 (the Unicode Standard, section 3.9 and
+//! table 3-7), one byte at a time or a slice at once.
+//!
+//! A [`Cut`] takes bytes in pieces of any size and gives each character as its last byte comes,
+//! with the offset of its first one. It holds at most three bytes. [`front`] gives the same text
+//! and the same fault for a whole slice. No call takes memory. Offsets and counts are in bytes,
+//! from 0 at the first byte that was pushed, or at the slice's start.
+//!
+//! It stands on `simdutf8`, which tests a slice, and on `arrayvec`, which holds the bytes.
+//!
+//! Proved, for every list of bytes pushed: the characters and offsets given are those of the
+//! longest front of whole characters, a fault is told at the first byte that shows it, with the
+//! start of its sequence, and the laws of this crate say what any further bytes do. A caller
+//! carries `StandsFor` of `specs/State.antt` along, which `new` and `push` give.
+#![tactic(auto)]
+
+ghost use Rattle.std.specs.Prelude.{◌≡◌, ℕ, ◌+◌, ◌^◌, ◌<◌, ◌≤◌, List, [], ◌∷◌, ◌++◌, length, Option, IsTrue, ◌==◌, if◌then◌else◌, true, false};
+ghost use Rattle.utf8_cut.specs.Characters.{characters_end, ill_formed_at, first_fault};
+
+use arrayvec::ArrayVec;
+use sequence::Form;
+use std::marker::Model;
+
+mod laws;
+mod sequence;
+mod slice;
+
+pub use laws::{
+    any_bytes_may_follow, cut_characters_begin_characters, text_may_stand_before,
+    whole_characters_are_the_longest_text,
+};
+pub use slice::front;
+
+/// What a byte made of the bytes before it.
+#[derive(Clone, Copy, Debug, PartialEq, Eq)]
+pub enum Cutting {
+    /// No character is whole yet.
+    More,
+    /// A whole character, and the offset of its first byte.
+    Char(char, u64),
+    /// An ill-formed sequence was met, now or earlier: the offset of its first byte.
+    Bad(u64),
+}
+
+/// Takes bytes one by one and gives the characters that they are as UTF-8.
+#[derive(Drop)]
+pub struct Cut {
+    // the bytes of a character that is not whole yet
+    held: ArrayVec<u8, 3>,
+    // the offset of the character that is held, or of the ill-formed sequence that was met, else the count
+    start: u64,
+    // how many bytes were pushed
+    count: u64,
+    // an ill-formed sequence was met
+    is_bad: bool,
+}
+
+impl Model for Cut {
+    ghost use Rattle.utf8_cut.specs.Value.{CutState};
+
+    ghost Value = { CutState };
+
+    ghost use Rattle.utf8_cut.specs.Inside.{state, IsSoundInside};
+
+    ghost view = { state };
+
+    ghost invariant = { IsSoundInside };
+}
+
+impl Cut {
+    ghost use Rattle.std.specs.Prelude.{◌≡◌, ℕ, ◌+◌, ◌^◌, ◌<◌, ◌≤◌, List, [], ◌∷◌, ◌++◌, length, Option, None, Some, IsTrue, ◌==◌, if◌then◌else◌, true, false};
+    ghost use Rattle.std.specs.Char.{len_utf8};
+    ghost use Rattle.utf8_cut.specs.Characters.{characters_end, ill_formed_at, first_fault, is_cut_character};
+    ghost use Rattle.utf8_cut.specs.Sequences.{Spells, IsIllFormed};
+    ghost use Rattle.utf8_cut.specs.Value.{IsSound};
+    ghost use Rattle.utf8_cut.specs.State.{StandsFor, IsPushed, IfChar, IfBad, OnMore, state_after, character_given, bad_given};
+
+    /// Holds nothing, before the first byte.
+    pub fn new() -> Cut
+        ensures empty { result ≡ record { held = []; start = 0; count = 0; is_bad = false } }
+        ensures stands_for { StandsFor result [] [] }
+    {
+        Cut {
+            held: ArrayVec::new(),
+            start: 0,
+            count: 0,
+            is_bad: false,
+        }
+    }
+
+    /// How many bytes were pushed.
+    pub fn count(&self) -> u64
+        ensures value { result ≡ self.now.count }
+        ensures stands_for { (taken : List ℕ) (given : List (ℕ × ℕ))
+            → StandsFor self.now taken given → result ≡ length taken }
+        ensures sound { IsSound self.now }
+    {
+        self.count
+    }
+
+    /// Takes the next byte. Once an ill-formed sequence was met, each push gives its offset again.
+    #[inline]
+    pub fn push(&mut self, byte: u8) -> Cutting
+        requires { self.old.count < 2 ^ 62 }
+        ensures stands_for { (taken : List ℕ) (given : List (ℕ × ℕ))
+            → StandsFor self.old taken given
+            → StandsFor self.new (taken ++ byte ∷ []) (given ++ character_given result) }
+        ensures bad { (taken : List ℕ) (given : List (ℕ × ℕ)) → StandsFor self.old taken given
+            → bad_given result ≡ ill_formed_at (taken ++ byte ∷ []) }
+        ensures state { self.new ≡ state_after self.old byte result }
+        ensures count { self.new.count ≡ self.old.count + 1 }
+        ensures character { IfChar result (λ c at. Spells (self.old.held ++ byte ∷ []) c) }
+        ensures char_start { IfChar result (λ c at. at ≡ self.old.start) }
+        ensures char_end { IfChar result (λ c at. at + len_utf8 c ≡ self.new.count) }
+        ensures more { OnMore result (IsTrue (is_cut_character self.new.held)) }
+        ensures bad_start { IfBad result (λ at. at ≡ self.old.start) }
+        ensures ill_formed { IfBad result (λ at. self.old.is_bad ≡ false
+            → IsIllFormed (self.old.held ++ byte ∷ [])) }
+        ensures again { IsTrue self.old.is_bad → result ≡ Cutting.Bad self.old.start }
+    {
+        if byte < 0x80 && self.start == self.count {
+            let start = self.start;
+            self.count += 1;
+            self.start = self.count;
+            return Cutting::Char(char::from(byte), start);
+        }
+        self.push_in_sequence(byte)
+    }
+
+    // Takes any byte. `push` has a shorter way for ASCII between characters.
+    fn push_in_sequence(&mut self, byte: u8) -> Cutting
+        requires { self.old.count < 2 ^ 62 }
+        ensures state { self.new ≡ state_after self.old byte result }
+        ensures pushed { IsPushed self.old byte result }
+    {
+        let start = self.start;
+        if self.is_bad {
+            self.count += 1;
+            return Cutting::Bad(start);
+        }
+        let form = sequence::continued(&self.held, byte);
+        self.count += 1;
+        match form {
+            Form::Incomplete => {
+                self.held.push(byte);
+                Cutting::More
+            }
+            Form::WellFormed(c) => {
+                self.held.clear();
+                self.start = self.count;
+                Cutting::Char(c, start)
+            }
+            Form::IllFormed => {
+                self.held.clear();
+                self.is_bad = true;
+                Cutting::Bad(start)
+            }
+        }
+    }
+
+    /// The offset of the character that is held or, once an ill-formed sequence was met, of that
+    /// sequence, else the count.
+    pub fn held_start(&self) -> u64
+        ensures value { result ≡ self.now.start }
+        ensures within { result ≤ self.now.count }
+        ensures stands_for { (taken : List ℕ) (given : List (ℕ × ℕ))
+            → StandsFor self.now taken given → result ≡ characters_end taken }
+    {
+        self.start
+    }
+
+    /// Where the bytes end here, the offset of a character that the end cuts, or of the
+    /// ill-formed sequence that was met.
+    pub fn finish(&self) -> Option<u64>
+        ensures value { result
+            ≡ (if self.now.start == self.now.count then None else Some self.now.start) }
+        ensures stands_for { (taken : List ℕ) (given : List (ℕ × ℕ))
+            → StandsFor self.now taken given → result ≡ first_fault taken }
+    {
+        if self.start == self.count {
+            None
+        } else {
+            Some(self.start)
+        }
+    }
+}
+
+#[cfg(test)]
+mod tests;
