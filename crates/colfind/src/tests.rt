@@ -22,6 +22,7 @@ use std::test::Fail;
 use std::{env, fs};
 
 mod devices;
+mod rows;
 
 const TABLE: &str = "@version 0.0.0
 0020 ; [*0201.0020.0002]
