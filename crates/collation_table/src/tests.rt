@@ -62,7 +62,7 @@ fn sizes_of(alloc: Global, file: &[u8]) -> Option<(usize, usize)> {
 }
 
 #[test]
-fn tells_the_fault_of_a_line(rt: HostRuntime) {
+fn tells_a_malformed_line(rt: HostRuntime) {
     for (file, kind, line) in [
         ("61 ; [.1C00.0020.0002]", 1, 1),
         ("0000061 ; [.1C00.0020.0002]", 1, 1),
@@ -78,8 +78,19 @@ fn tells_the_fault_of_a_line(rt: HostRuntime) {
         ("@versions 1.0", 1, 1),
         ("@implicitweights17000..18AFF; FB00", 1, 1),
         ("@implicitweights 17000.18AFF; FB00", 1, 1),
+    ] {
+        assert_eq!(rt;
+            fault_of(rt.alloc(), file.as_bytes()),
+            Some((kind, line)),
+            "{file}"
+        );
+    }
+}
+
+#[test]
+fn tells_the_fault_of_a_row(rt: HostRuntime) {
+    for (file, kind, line) in [
         ("110000 ; [.1C00.0020.0002]", 2, 1),
-        ("@implicitweights 17000..110000; FB00", 2, 1),
         ("0061 ; [.1C00.0020.0002]\n000061 ; [.1C01.0020.0002]", 3, 2),
         ("0061 ; [.1C00.0000.0000]", 5, 1),
         ("0061 ; [.1C00.0000.0002]", 5, 1),
@@ -93,18 +104,52 @@ fn tells_the_fault_of_a_line(rt: HostRuntime) {
             10,
             1,
         ),
-        ("0301 ; [.0000.0020.0002]\n0061 ; [.9000.0000.0000]", 10, 2),
+    ] {
+        assert_eq!(rt;
+            fault_of(rt.alloc(), file.as_bytes()),
+            Some((kind, line)),
+            "{file}"
+        );
+    }
+}
+
+#[test]
+fn tells_the_fault_of_a_range(rt: HostRuntime) {
+    for (file, kind, line) in [
+        ("@implicitweights 17000..110000; FB00", 2, 1),
         ("@implicitweights 17000..18AFF; FB40", 11, 1),
         ("@implicitweights 17005..17000; FB00", 11, 1),
+        (
+            "@implicitweights 17000..17005; FB00\n@implicitweights 17005..17006; FB00",
+            11,
+            2,
+        ),
+        (
+            "@implicitweights 17000..17005; FB00\n@implicitweights 16FFF..17000; FB01",
+            11,
+            2,
+        ),
         (
             "@implicitweights 17000..17000; FB00\n@implicitweights 1F000..1F000; FB00",
             11,
             2,
         ),
-        // Of several faults of a line the smallest kind, and of several lines the first.
+    ] {
+        assert_eq!(rt;
+            fault_of(rt.alloc(), file.as_bytes()),
+            Some((kind, line)),
+            "{file}"
+        );
+    }
+}
+
+#[test]
+fn tells_the_smallest_kind_of_the_first_line(rt: HostRuntime) {
+    for (file, kind, line) in [
         ("110000 ; [.1C00.0000.0002]", 2, 1),
         ("0061 ; [.1C00.0000.0002]\n61 ; x", 5, 1),
         ("0061 ; [.1C00.0020.0002]\n0061 ; [.1C00.0000.0002]", 3, 2),
+        ("0301 ; [.0000.0020.0002]\n0061 ; [.9000.0000.0000]", 10, 2),
     ] {
         assert_eq!(rt;
             fault_of(rt.alloc(), file.as_bytes()),
