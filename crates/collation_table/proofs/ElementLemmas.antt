@@ -1,6 +1,9 @@
 -- What a pass over the rows finds of the elements of the whole table.
-use Rattle.std.proofs.Common.{◌≡◌, ℕ, min, max, Bool, true, false, not, ◌&&◌, ◌||◌, cond, List, [], ◌∷◌, ◌++◌, length, map, Option, Some, None, fold, refl, sym, ap, ◌∙◌, arith, Vec, nat_le, flat_map}
+use Rattle.std.proofs.Common.{◌≡◌, ℕ, min, max, Bool, true, false, not, ◌&&◌, ◌||◌, cond, List, [], ◌∷◌, length, map, Option, Some, None, fold, refl, sym, ap, ◌∙◌, arith, Vec, nat_le, flat_map}
 use Rattle.std.proofs.lemmas.Bool.Decides.{nat_tests}
+use Rattle.std.proofs.Math.Bool.{and-false, or-false, or_assoc}
+use Rattle.std.proofs.lemmas.List.Folds.{list_any-append}
+use Rattle.std.proofs.lemmas.List.Sums.{fold-append}
 use Rattle.std.specs.List.{list_any}
 use Rattle.collation_table.specs.declared.elements.Element.{Element}
 use Rattle.collation_table.specs.Entries.{rows_of}
@@ -8,23 +11,11 @@ use Rattle.collation_table.specs.Table.{TableMap, greatest}
 use Rattle.collation_table.specs.WellFormed.{elements, is_primary, is_secondary, is_tertiary, breaks_wf2, breaks_wf4}
 use Rattle.collation_table.specs.Bounds.{higher_second, higher_third, span_with, wider_span, is_too_light, is_within_span}
 
-fold-append : {A B : Type 0} (f : B → A → B) (b : B) (xs ys : List A) → fold f b (xs ++ ys) ≡ fold f (fold f b xs) ys
-fold-append f b [] ys = refl
-fold-append f b (x ∷ xs) ys = fold-append f (f b x) xs ys
-
 -- a fold row by row is the fold over the elements of all rows
 pub fold-elements : {A B : Type 0} (f : B → Element → B) (b : B) (es : List (Vec ℕ A × Vec Element A))
     → fold (λ a v. fold f a v.items) b (map (λ e. e.1) es) ≡ fold f b (flat_map (λ row. row.1) (rows_of es))
 fold-elements f b [] = refl
 fold-elements f b (e ∷ es) = fold-elements f (fold f b e.1.items) es ∙ sym (fold-append f b e.1.items (flat_map (λ row. row.1) (rows_of es)))
-
-or_assoc : (a b c : Bool) → ((a || b) || c) ≡ (a || (b || c))
-or_assoc true b c = refl
-or_assoc false b c = refl
-
-list_any-append : {A : Type 0} (p : A → Bool) (xs ys : List A) → list_any p (xs ++ ys) ≡ (list_any p xs || list_any p ys)
-list_any-append p [] ys = refl
-list_any-append p (x ∷ xs) ys = ap (λ b. p x || b) (list_any-append p xs ys) ∙ sym (or_assoc (p x) (list_any p xs) (list_any p ys))
 
 -- a test of some element row by row is the test over the elements of all rows
 pub list_any-elements : {A : Type 0} (p : Element → Bool) (es : List (Vec ℕ A × Vec Element A))
@@ -76,18 +67,14 @@ le_max x m w = grind (arith, nat_tests)
 min_le : (x m w : ℕ) → nat_le (min m w) x ≡ (nat_le m x || nat_le w x)
 min_le x m w = grind (arith, nat_tests)
 
-or_false_right : (b : Bool) → b ≡ (b || false)
-or_false_right true = refl
-or_false_right false = refl
-
 -- whether x is at most the heaviest weight is whether it is at most one of them
 le_step : (x m w : ℕ) (b : Bool) → nat_le x (cond b (max m w) m) ≡ (nat_le x m || (b && nat_le x w))
 le_step x m w true = le_max x m w
-le_step x m w false = or_false_right (nat_le x m)
+le_step x m w false = sym (or-false (nat_le x m))
 
 le_fold : (kind : Element → Bool) (weight : Element → ℕ) (x m : ℕ) (es : List Element)
     → nat_le x (fold (λ most e. cond (kind e) (max most (weight e)) most) m es) ≡ (nat_le x m || list_any (λ p. kind p && nat_le x (weight p)) es)
-le_fold kind weight x m [] = or_false_right (nat_le x m)
+le_fold kind weight x m [] = sym (or-false (nat_le x m))
 le_fold kind weight x m (e ∷ es) =
     le_fold kind weight x (cond (kind e) (max m (weight e)) m) es
     ∙ ap (λ b. b || list_any (λ p. kind p && nat_le x (weight p)) es) (le_step x m (weight e) (kind e))
@@ -120,23 +107,23 @@ above_step : (x w : ℕ) (b : Bool) (span : Option (ℕ × ℕ)) → at_or_above
 unfolding at_or_above
 above_step x w true None = refl
 above_step x w true (Some span) = min_le x span.0 w
-above_step x w false span = or_false_right (at_or_above span x)
+above_step x w false span = sym (or-false (at_or_above span x))
 
 below_step : (x w : ℕ) (b : Bool) (span : Option (ℕ × ℕ)) → at_or_below (cond b (span_with span w) span) x ≡ (at_or_below span x || (b && nat_le x w))
 unfolding at_or_below
 below_step x w true None = refl
 below_step x w true (Some span) = le_max x span.1 w
-below_step x w false span = or_false_right (at_or_below span x)
+below_step x w false span = sym (or-false (at_or_below span x))
 
 above_fold : (x : ℕ) (span : Option (ℕ × ℕ)) (es : List Element) → at_or_above (fold wider_span span es) x ≡ (at_or_above span x || list_any (λ v. v.is_variable && nat_le v.w1 x) es)
-above_fold x span [] = or_false_right (at_or_above span x)
+above_fold x span [] = sym (or-false (at_or_above span x))
 above_fold x span (e ∷ es) =
     above_fold x (wider_span span e) es
     ∙ ap (λ b. b || list_any (λ v. v.is_variable && nat_le v.w1 x) es) (above_step x e.w1 e.is_variable span)
     ∙ or_assoc (at_or_above span x) (e.is_variable && nat_le e.w1 x) (list_any (λ v. v.is_variable && nat_le v.w1 x) es)
 
 below_fold : (x : ℕ) (span : Option (ℕ × ℕ)) (es : List Element) → at_or_below (fold wider_span span es) x ≡ (at_or_below span x || list_any (λ v. v.is_variable && nat_le x v.w1) es)
-below_fold x span [] = or_false_right (at_or_below span x)
+below_fold x span [] = sym (or-false (at_or_below span x))
 below_fold x span (e ∷ es) =
     below_fold x (wider_span span e) es
     ∙ ap (λ b. b || list_any (λ v. v.is_variable && nat_le x v.w1) es) (below_step x e.w1 e.is_variable span)
@@ -159,11 +146,7 @@ none_passes : (p : Element → Bool) → ((e : Element) → p e ≡ false) → (
 none_passes p fails [] = refl
 none_passes p fails (e ∷ es) = ap (λ b. b || list_any p es) (fails e) ∙ none_passes p fails es
 
-and_false : (b : Bool) → (b && false) ≡ false
-and_false true = refl
-and_false false = refl
-
 pub breaks_wf4-no_variable : (T : TableMap) → fold wider_span None (elements T) ≡ None → breaks_wf4 T ≡ false
 unfolding at_or_above at_or_below
 breaks_wf4-no_variable T is =
-    wf4_by_span None (elements T) is ∙ none_passes _ (λ p. and_false (is_primary p && not p.is_variable && false)) (elements T)
+    wf4_by_span None (elements T) is ∙ none_passes _ (λ p. and-false (is_primary p && not p.is_variable && false)) (elements T)

@@ -1,6 +1,6 @@
 -- Lemmas on lists of implicit ranges.
-use Rattle.std.proofs.Common.{◌≡◌, ℕ, zero, suc, ◌+◌, ◌-◌, ◌<◌, ◌≤◌, Bool, true, false, not, ◌&&◌, ◌||◌, nat_eq, nat_lt, nat_le, cond, List, [], ◌∷◌, take, map, Some, slice_get, refl, sym, ap, ◌∙◌, arith, eq-eqb, if◌then◌else◌, find, ◌⊎◌, inl, inr, lit≤}
-use Rattle.std.proofs.lemmas.Bool.{ltb-false, leb-true, eqb-true, cases_lt}
+use Rattle.std.proofs.Common.{◌≡◌, ℕ, zero, suc, ◌+◌, ◌-◌, ◌<◌, ◌≤◌, Bool, true, false, not, ◌||◌, nat_eq, nat_lt, nat_le, cond, List, [], ◌∷◌, take, map, Some, slice_get, refl, sym, ap, ◌∙◌, arith, eq-eqb, if◌then◌else◌, find, ◌⊎◌, inl, inr, lit≤}
+use Rattle.std.proofs.lemmas.Bool.{ltb-false, leb-true, eqb-true, cases_lt, and_parts, or_parts}
 use Rattle.std.specs.List.{list_any}
 use Rattle.collation_table.specs.declared.ranges.ImplicitRange.{ImplicitRange}
 use Rattle.collation_table.specs.Table.{is_between, is_core_ideograph, is_other_ideograph, implicit_base, first_with_base, greatest, is_in}
@@ -46,21 +46,13 @@ first_with_base-smallest base cp (r ∷ rs) (suc k) s at same =
 
 -- ---- what the condition on a range says
 
-and_true : (a b : Bool) → (a && b) ≡ true → (a ≡ true) × (b ≡ true)
-and_true true b h = (refl, h)
-and_true false b h = cc
-
-or_false : (a b : Bool) → (a || b) ≡ false → (a ≡ false) × (b ≡ false)
-or_false true b h = cc
-or_false false b h = (refl, h)
-
 spread_le : (earlier : List ImplicitRange) (r : ImplicitRange) → breaks_ranges earlier r ≡ false
     → greatest (map (λ s. s.last) (r ∷ with_base r.base earlier)) ≤ first_with_base r.base r.first earlier + 0x7FFF
 spread_le earlier r h =
     let lasts = greatest (map (λ s. s.last) (r ∷ with_base r.base earlier)) in
     let first = first_with_base r.base r.first earlier in
     let narrow : nat_lt 0x7FFF (lasts - first) ≡ false =
-    (or_false (nat_lt r.last r.first || not (is_between 0xFB00 0xFB3F r.base) || list_any (overlaps r) earlier) (nat_lt 0x7FFF (lasts - first)) h).1 in
+    (or_parts (nat_lt r.last r.first || not (is_between 0xFB00 0xFB3F r.base) || list_any (overlaps r) earlier) (nat_lt 0x7FFF (lasts - first)) h).1 in
     let le : lasts - first ≤ 0x7FFF = ltb-false 0x7FFF (lasts - first) narrow in
     omega (arith, le)
 
@@ -99,7 +91,7 @@ first_with_base-ge base cp low (r ∷ rs) le all =
     by true e = all 0 r refl (eqb-true r.base base e)
     by false e = le
 
-pub find_place : (cp : ℕ) (rs : List ImplicitRange) (r : ImplicitRange) → find (is_in cp) rs ≡ Some r → (k : ℕ) × (slice_get rs k ≡ Some r) × (is_in cp r ≡ true)
+find_place : (cp : ℕ) (rs : List ImplicitRange) (r : ImplicitRange) → find (is_in cp) rs ≡ Some r → (k : ℕ) × (slice_get rs k ≡ Some r) × (is_in cp r ≡ true)
 find_place cp [] r h = cc
 find_place cp (x ∷ xs) r h = by (is_in cp x) refl h (find_place cp xs r)
   where
@@ -112,7 +104,7 @@ find_place cp (x ∷ xs) r h = by (is_in cp x) refl h (find_place cp xs r)
 pub offset_le : (ranges : List ImplicitRange) (cp : ℕ) (r : ImplicitRange) → AreRangesSound ranges → find (is_in cp) ranges ≡ Some r → cp ≤ first_with_base r.base cp ranges + 0x7FFF
 offset_le ranges cp r sound found =
     let place = find_place cp ranges r found in
-    let inside : cp ≤ r.last = leb-true cp r.last (and_true (nat_le r.first cp) (nat_le cp r.last) place.2).1 in
+    let inside : cp ≤ r.last = leb-true cp r.last (and_parts (nat_le r.first cp) (nat_le cp r.last) place.2).1 in
     let low : cp - 0x7FFF ≤ first_with_base r.base cp ranges =
     first_with_base-ge r.base cp (cp - 0x7FFF) ranges (omega arith) (λ k s at same. omega (arith, AreRangesSound-spread ranges place.0 k r s sound place.1 at same)) in
     omega (arith, low)
@@ -123,10 +115,3 @@ cond_le false x y z p q = q
 
 pub implicit_base-le : (cp : ℕ) → implicit_base cp ≤ 0xFBC0
 implicit_base-le cp = cond_le (is_core_ideograph cp) 0xFB40 _ 0xFBC0 (lit≤ tt) (cond_le (is_other_ideograph cp) 0xFB80 0xFBC0 0xFBC0 (lit≤ tt) (lit≤ tt))
-
-cond_ge : (b : Bool) (x y z : ℕ) → z ≤ x → z ≤ y → z ≤ cond b x y
-cond_ge true x y z p q = p
-cond_ge false x y z p q = q
-
-pub implicit_base-ge : (cp : ℕ) → 0xFB40 ≤ implicit_base cp
-implicit_base-ge cp = cond_ge (is_core_ideograph cp) 0xFB40 _ 0xFB40 (lit≤ tt) (cond_ge (is_other_ideograph cp) 0xFB80 0xFBC0 0xFB40 (lit≤ tt) (lit≤ tt))

@@ -1,9 +1,11 @@
 -- Lemmas on the rows of a table, as the map inside `Rows` holds them.
-use Rattle.std.proofs.Common.{◌≡◌, ℕ, zero, suc, ◌≤◌, Bool, true, false, cond, List, [], ◌∷◌, ◌++◌, length, take, Option, Some, None, is_some, slice_get, refl, sym, ap, ◌∙◌, arith, Vec, bytes_eq, ◌⊎◌, inl, inr}
+use Rattle.std.proofs.Common.{◌≡◌, ℕ, zero, suc, Bool, true, false, cond, List, [], ◌∷◌, ◌++◌, length, take, Option, Some, None, is_some, slice_get, refl, sym, ap, ◌∙◌, Vec, bytes_eq, ◌⊎◌, inl, inr}
 use Rattle.std.specs.List.{AllByRecursion}
 use Rattle.std.specs.Option.{option_map}
 use Rattle.std.proofs.lemmas.Option.{slice_get_within}
 use Rattle.std.proofs.Math.Nat.{le_of_lt}
+use Rattle.std.proofs.Math.Seq.{take-append_seam}
+use Rattle.std.proofs.lemmas.List.{take-append-le}
 use Rattle.std.specs.Map.{lookup}
 use Rattle.indexmap.specs.IndexMap.{insert_entry}
 use Rattle.collation_table.specs.declared.elements.Element.{Element}
@@ -48,24 +50,15 @@ slice_get_push (z ∷ zs) y (suc k) x at = by (slice_get_push zs y k x at)
     by (inl found) = inl found
     by (inr last) = inr (ap suc last.0, last.1)
 
-take_within : {X : Type 0} (xs ys : List X) (k : ℕ) → k ≤ length xs → take k (xs ++ ys) ≡ take k xs
-take_within xs ys zero le = refl
-take_within [] ys (suc k) le = absurd (omega arith)
-take_within (x ∷ xs) ys (suc k) le = ap (λ l. x ∷ l) (take_within xs ys k (omega arith))
-
-take_whole : {X : Type 0} (xs : List X) → take (length xs) xs ≡ xs
-take_whole [] = refl
-take_whole (x ∷ xs) = ap (λ l. x ∷ l) (take_whole xs)
-
 pub AreRangesSound-push : (rs : List ImplicitRange) (r : ImplicitRange) → AreRangesSound rs → breaks_ranges rs r ≡ false → AreRangesSound (rs ++ r ∷ [])
 AreRangesSound-push rs r sound ok = λ k s at. by k s (slice_get_push rs r k s at)
   where
     by : (k : ℕ) (s : ImplicitRange) → (slice_get rs k ≡ Some s) ⊎ ((k ≡ length rs) × (r ≡ s)) → breaks_ranges (take k (rs ++ r ∷ [])) s ≡ false
     by k s (inl found) =
-        rw (take_within rs (r ∷ []) k (le_of_lt (slice_get_within rs k s found))) (sound k s found)
+        rw (take-append-le k rs (r ∷ []) (le_of_lt (slice_get_within rs k s found))) (sound k s found)
     by k s (inr last) =
         let whole : take k (rs ++ r ∷ []) ≡ rs =
-        ap (λ n. take n (rs ++ r ∷ [])) last.0 ∙ take_within rs (r ∷ []) (length rs) (omega arith) ∙ take_whole rs in
+        ap (λ n. take n (rs ++ r ∷ [])) last.0 ∙ take-append_seam rs (r ∷ []) in
         ap (λ l. breaks_ranges l s) whole ∙ ap (breaks_ranges rs) (sym last.1) ∙ ok
 
 -- a row with a new key is inserted behind the others

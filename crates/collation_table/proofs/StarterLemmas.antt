@@ -1,6 +1,7 @@
 -- What a code point's decomposition tells of its class in a key.
-use Rattle.std.proofs.Common.{◌≡◌, ℕ, ◌≤◌, Bool, true, false, ◌&&◌, List, [], ◌∷◌, ◌++◌, length, refl, sym, ap, ◌∙◌, arith, nat_eq, bytes_eq, inl, inr, append-nil, cond}
+use Rattle.std.proofs.Common.{◌≡◌, ℕ, ◌≤◌, Bool, true, false, ◌&&◌, List, [], ◌∷◌, ◌++◌, length, sym, ap, ◌∙◌, arith, nat_eq, bytes_eq, inl, inr, append-nil, cond}
 use Rattle.std.proofs.lemmas.Bool.Decides.{nat_tests}
+use Rattle.std.proofs.Math.Bool.{and-false}
 use Rattle.std.specs.Char.{InScalarRange}
 use Rattle.unicode_normalization.specs.Decompose.{decompose}
 use Rattle.unicode_normalization.specs.Forms.{nfd, decomposed, Nfd}
@@ -10,14 +11,10 @@ use Rattle.unicode_normalization.proofs.FormsLemmas.{normalize-Nfd}
 use Rattle.unicode_normalization.proofs.OrderLemmas.{canonical_order-nil, canonical_order-ordered, is_ordered-one, length-canonical_order}
 use Rattle.collation_table.specs.Table.{class_of, is_scalar_value}
 
-and_false : (b : Bool) → (b && false) ≡ false
-and_false true = refl
-and_false false = refl
-
 longer : (xs : List ℕ) (c : ℕ) → 2 ≤ length xs → bytes_eq xs (c ∷ []) ≡ false
 longer [] c le = absurd (omega arith)
 longer (x ∷ []) c le = absurd (omega arith)
-longer (x ∷ y ∷ ys) c le = and_false (nat_eq x c)
+longer (x ∷ y ∷ ys) c le = and-false (nat_eq x c)
 
 ordered_single : (xs : List ℕ) (c : ℕ) → bytes_eq (canonical_order xs) (c ∷ []) ≡ bytes_eq xs (c ∷ [])
 ordered_single [] c = ap (λ l. bytes_eq l (c ∷ [])) canonical_order-nil

@@ -2,17 +2,13 @@
 use Rattle.std.proofs.Common.{◌≡◌, ℕ, zero, suc, ◌-◌, ◌<◌, ◌≤◌, min, max, Bool, true, false, not, ◌&&◌, ◌||◌, cond, List, [], ◌∷◌, ◌++◌, length, get_or, take, map, flat_map, Option, Some, None, is_some, refl, sym, ap, subst, ◌∙◌, arith, IsTrue, nat_le, nat_lt, bytes_eq, Contains, slice_index, ◌⊎◌, inl, inr}
 use Rattle.std.specs.List.{list_any, AllByRecursion}
 use Rattle.std.specs.Cmp.Lexicographic.{bytes_decides}
-use Rattle.std.proofs.lemmas.Bool.{leb-false, lt-ltb, not-false, cases_lt, cases_Bool}
+use Rattle.std.proofs.lemmas.Bool.{leb-false, lt-ltb, not-false, cases_lt, cases_Bool, or_parts}
 use Rattle.collation_table.specs.declared.elements.Element.{Element}
 use Rattle.collation_table.specs.declared.limits.TheConstants.{MOST_KEY_POINTS, MOST_ROW_ELEMENTS}
 use Rattle.collation_table.specs.Table.{TableMap, HasSizes, row_with, is_key, longest_front_within, longest_front, longest_key, greatest, class_of}
 use Rattle.collation_table.specs.WellFormed.{elements, HasElement, is_primary, is_secondary, is_tertiary, IsRowSound, AreLinesSound, IsWf2, IsWf4, IsWf5, IsWellFormed, breaks_wf2, breaks_wf4, breaks_wf5, lacks_front, is_empty_list, map_fault}
 
 -- ---- tests
-
-or_false : (a b : Bool) → (a || b) ≡ false → (a ≡ false) × (b ≡ false)
-or_false true b h = cc
-or_false false b h = (refl, h)
 
 and_false_right : (a b : Bool) → (a && b) ≡ false → a ≡ true → b ≡ false
 and_false_right true b h t = h
@@ -30,7 +26,7 @@ cond_none false x o h = (refl, h)
 
 any_false : {A : Type 0} (p : A → Bool) (xs : List A) (x : A) → list_any p xs ≡ false → Contains xs x → p x ≡ false
 any_false p [] x h at = absurd (omega (arith, at.1))
-any_false {A} p (y ∷ ys) x h at = by at.0 at.1 at.2 (or_false (p y) (list_any p ys) h) (λ k. any_false p ys x (or_false (p y) (list_any p ys) h).1 k)
+any_false {A} p (y ∷ ys) x h at = by at.0 at.1 at.2 (or_parts (p y) (list_any p ys) h) (λ k. any_false p ys x (or_parts (p y) (list_any p ys) h).1 k)
   where
     by : (k : ℕ) → k < length (y ∷ ys) → get_or (y ∷ ys) k x ≡ x → (p y ≡ false) × (list_any p ys ≡ false) → (Contains ys x → p x ≡ false) → p x ≡ false
     by zero lt same parts rest = sym (ap p same) ∙ parts.0
@@ -39,7 +35,7 @@ any_false {A} p (y ∷ ys) x h at = by at.0 at.1 at.2 (or_false (p y) (list_any 
 any_append : {A : Type 0} (p : A → Bool) (xs ys : List A) → list_any p (xs ++ ys) ≡ false → (list_any p xs ≡ false) × (list_any p ys ≡ false)
 any_append p [] ys h = (refl, h)
 any_append p (x ∷ xs) ys h =
-    let parts = or_false (p x) (list_any p (xs ++ ys)) h in
+    let parts = or_parts (p x) (list_any p (xs ++ ys)) h in
     let rest = any_append p xs ys parts.1 in
     (ap (λ b. b || list_any p xs) parts.0 ∙ rest.0, rest.1)
 
@@ -48,7 +44,7 @@ any_append p (x ∷ xs) ys h =
 same_key : (key other : List ℕ) → bytes_eq key other ≡ true → key ≡ other
 same_key key other h = (bytes_decides key other).0 h
 
-pub key_length : (key : List ℕ) (rows : List (List ℕ × List Element)) → is_some (row_with key rows) ≡ true → length key ≤ greatest (map (λ row. length row.0) rows)
+key_length : (key : List ℕ) (rows : List (List ℕ × List Element)) → is_some (row_with key rows) ≡ true → length key ≤ greatest (map (λ row. length row.0) rows)
 key_length key [] h = cc
 key_length key (row ∷ rows) h = by (bytes_eq key row.0) refl h (key_length key rows)
   where
@@ -81,7 +77,7 @@ length_take zero xs le = refl
 length_take (suc n) [] le = absurd (omega arith)
 length_take (suc n) (x ∷ xs) le = ap suc (length_take n xs (omega arith))
 
-pub front_beyond : (T : TableMap) (points : List ℕ) (m n : ℕ) → n ≤ m → m ≤ length points → longest_key T ≤ n → longest_front_within T points n ≡ longest_front_within T points m
+front_beyond : (T : TableMap) (points : List ℕ) (m n : ℕ) → n ≤ m → m ≤ length points → longest_key T ≤ n → longest_front_within T points n ≡ longest_front_within T points m
 front_beyond T points zero n le within longest =
     let same : n ≡ 0 = omega arith in
     ap (longest_front_within T points) same
@@ -134,7 +130,7 @@ no_element T p e none has = element_passes p has.0 has.1 T.rows e none has.2 has
 
 no_such_key : (q : List ℕ → Bool) (key : List ℕ) (rows : List (List ℕ × List Element)) → list_any (λ row. q row.0) rows ≡ false → is_some (row_with key rows) ≡ true → q key ≡ false
 no_such_key q key [] none at = cc
-no_such_key q key (r ∷ rows) none at = by (bytes_eq key r.0) refl at (or_false (q r.0) (list_any (λ row. q row.0) rows) none) (no_such_key q key rows)
+no_such_key q key (r ∷ rows) none at = by (bytes_eq key r.0) refl at (or_parts (q r.0) (list_any (λ row. q row.0) rows) none) (no_such_key q key rows)
   where
     by : (b : Bool) → bytes_eq key r.0 ≡ b → is_some (cond b (Some r.1) (row_with key rows)) ≡ true → (q r.0 ≡ false) × (list_any (λ row. q row.0) rows ≡ false) → (list_any (λ row. q row.0) rows ≡ false → is_some (row_with key rows) ≡ true → q key ≡ false) → q key ≡ false
     by true e found parts rest = ap q (same_key key r.0 e) ∙ parts.0
@@ -147,11 +143,11 @@ wf2_from_test T h =
     let es = elements T in
     let lighter_second : Element → Bool = λ s. is_secondary s && (nat_le s.w2 0x20 || list_any (λ p. is_primary p && nat_le s.w2 p.w2) es) in
     let lighter_third : Element → Bool = λ t. is_tertiary t && (nat_le t.w3 2 || list_any (λ p. (is_primary p || is_secondary p) && nat_le t.w3 p.w3) es) in
-    let parts = or_false (list_any lighter_second es) (list_any lighter_third es) h in
+    let parts = or_parts (list_any lighter_second es) (list_any lighter_third es) h in
     let second : (s : Element) → HasElement T s → IsTrue (is_secondary s) → (nat_le s.w2 0x20 ≡ false) × (list_any (λ p. is_primary p && nat_le s.w2 p.w2) es ≡ false) = λ s has kind.
-    or_false _ _ (and_false_right (is_secondary s) _ (no_element T lighter_second s parts.0 has) (so (is_secondary s) kind)) in
+    or_parts _ _ (and_false_right (is_secondary s) _ (no_element T lighter_second s parts.0 has) (so (is_secondary s) kind)) in
     let third : (t : Element) → HasElement T t → IsTrue (is_tertiary t) → (nat_le t.w3 2 ≡ false) × (list_any (λ p. (is_primary p || is_secondary p) && nat_le t.w3 p.w3) es ≡ false) = λ t has kind.
-    or_false _ _ (and_false_right (is_tertiary t) _ (no_element T lighter_third t parts.1 has) (so (is_tertiary t) kind)) in
+    or_parts _ _ (and_false_right (is_tertiary t) _ (no_element T lighter_third t parts.1 has) (so (is_tertiary t) kind)) in
     record {
       secondary = λ s p has_s has_p kind_s kind_p.
           leb-false s.w2 p.w2 (and_false_right (is_primary p) _ (no_element T (λ q. is_primary q && nat_le s.w2 q.w2) p (second s has_s kind_s).1 has_p) (so (is_primary p) kind_p));

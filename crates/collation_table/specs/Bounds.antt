@@ -1,5 +1,5 @@
--- The bounds by which WF2 and WF4 are decided in one pass each: the heaviest weights below which no secondary or tertiary
--- element may stay, and the span of the variable primary weights.
+-- The bounds by which WF2 and WF4 are decided in one pass each: the heaviest weights, above which each secondary and tertiary
+-- element has to be at its own level, and the span of the variable primary weights, both ends in it.
 use Rattle.std.specs.Prelude.{ℕ, min, max, Bool, not, ◌&&◌, ◌||◌, nat_le, Option, Some, None, if◌then◌else◌, fold}
 use Rattle.collation_table.specs.declared.elements.Element.{Element}
 use Rattle.collation_table.specs.Table.{TableMap}

@@ -5,11 +5,11 @@ use Rattle.std.specs.Option.{option_or}
 use Rattle.std.specs.List.{list_any, cons_option, filter_map, range_with_len, slice_index_or}
 use Rattle.std.specs.Str.Lines.{lines}
 use Rattle.collation_table.specs.declared.limits.TheConstants.{MOST_KEY_POINTS, MOST_ROW_ELEMENTS, MOST_ENTRY_LINES, MOST_RANGE_LINES}
-use Rattle.collation_table.specs.declared.faults.TheConstants.{MALFORMED_LINE, BEYOND_UNICODE, KEY_TWICE, TOO_LONG, BREAKS_WF1, BREAKS_WF3, BREAKS_PAIRS, BAD_RANGE, TOO_MANY_LINES, OUT_OF_MEMORY}
+use Rattle.collation_table.specs.Kinds.{malformed_line_kind, beyond_unicode_kind, key_twice_kind, too_long_kind, wf1_kind, wf3_kind, pair_rule_kind, bad_range_kind, too_many_lines_kind, out_of_memory_kind}
 use Rattle.collation_table.specs.declared.faults.TableFault.{TableFault}
 use Rattle.collation_table.specs.declared.elements.Element.{Element}
 use Rattle.collation_table.specs.declared.ranges.ImplicitRange.{ImplicitRange}
-use Rattle.collation_table.specs.Table.{TableMap, row_of, is_key}
+use Rattle.collation_table.specs.Table.{TableMap, row_of, is_key, longest_key, most_elements}
 use Rattle.collation_table.specs.WellFormed.{breaks_wf1, breaks_wf3, breaks_pair_rule, breaks_ranges, map_fault}
 use Rattle.collation_table.specs.Spelling.{Form, Empty, Version, Range, Entry, line_form}
 
@@ -37,10 +37,13 @@ map_of forms = record { rows = filter_map row_in forms; ranges = filter_map rang
 abbrev pub with_line : TableMap → Option Form → TableMap
 with_line T form = record { rows = T.rows ++ cons_option (row_in form) []; ranges = T.ranges ++ cons_option (range_in form) [] }
 
--- the table is the finite map of the entry lines, and has the ranges of the range lines
+-- The table is the finite map of the entry lines, and has the ranges of the range lines. Its sizes are those of the rows that the
+-- lines give, so no other row counts.
 pub record Spells (bytes : List ℕ) (T : TableMap) : Type 0 where
   pub rows : (key : List ℕ) → row_of T key ≡ row_of (map_of (forms_of bytes)) key
   pub ranges : T.ranges ≡ (map_of (forms_of bytes)).ranges
+  pub longest : longest_key T ≡ longest_key (map_of (forms_of bytes))
+  pub largest : most_elements T ≡ most_elements (map_of (forms_of bytes))
 
 -- What is wrong with a line
 
@@ -56,27 +59,27 @@ is_beyond_unicode cp = nat_lt 0x10FFFF cp
 abbrev pub range_kind : TableMap → ImplicitRange → Option ℕ
 range_kind T range =
     first_kind (
-    (list_any is_beyond_unicode (range.first ∷ range.last ∷ []), BEYOND_UNICODE)
-    ∷ (breaks_ranges T.ranges range, BAD_RANGE)
-    ∷ (nat_le MOST_RANGE_LINES (length T.ranges), TOO_MANY_LINES)
+    (list_any is_beyond_unicode (range.first ∷ range.last ∷ []), beyond_unicode_kind)
+    ∷ (breaks_ranges T.ranges range, bad_range_kind)
+    ∷ (nat_le MOST_RANGE_LINES (length T.ranges), too_many_lines_kind)
     ∷ [])
 
 -- the smallest kind of fault of an entry line, behind lines that spell the table T
 abbrev pub entry_kind : TableMap → List ℕ → List Element → Option ℕ
 entry_kind T key row =
     first_kind (
-    (list_any is_beyond_unicode key, BEYOND_UNICODE)
-    ∷ (is_key T key, KEY_TWICE)
-    ∷ (nat_lt MOST_KEY_POINTS (length key) || nat_lt MOST_ROW_ELEMENTS (length row), TOO_LONG)
-    ∷ (breaks_wf1 row, BREAKS_WF1)
-    ∷ (breaks_wf3 row, BREAKS_WF3)
-    ∷ (breaks_pair_rule row, BREAKS_PAIRS)
-    ∷ (nat_le MOST_ENTRY_LINES (length T.rows), TOO_MANY_LINES)
+    (list_any is_beyond_unicode key, beyond_unicode_kind)
+    ∷ (is_key T key, key_twice_kind)
+    ∷ (nat_lt MOST_KEY_POINTS (length key) || nat_lt MOST_ROW_ELEMENTS (length row), too_long_kind)
+    ∷ (breaks_wf1 row, wf1_kind)
+    ∷ (breaks_wf3 row, wf3_kind)
+    ∷ (breaks_pair_rule row, pair_rule_kind)
+    ∷ (nat_le MOST_ENTRY_LINES (length T.rows), too_many_lines_kind)
     ∷ [])
 
 -- the smallest kind of fault of a line, behind lines that spell the table T
 abbrev pub line_kind : TableMap → Option Form → Option ℕ
-line_kind T None = Some MALFORMED_LINE
+line_kind T None = Some malformed_line_kind
 line_kind T (Some Empty) = None
 line_kind T (Some Version) = None
 line_kind T (Some (Range range)) = range_kind T range
@@ -91,7 +94,7 @@ fault_at line kind = option_map (λ k. record { line = line; kind = k }) kind
 abbrev pub fault_of_line : List (Option Form) → ℕ → Option TableFault
 fault_of_line forms n = fault_at (n + 1) (line_kind (map_of (take n forms)) (slice_index_or forms n None))
 
--- the first of the numbers to which f gives something
+-- what f gives for the first of the values for which it gives something
 abbrev pub first_some : {A B : Type 0} → (A → Option B) → List A → Option B
 first_some f [] = None
 first_some f (x ∷ xs) = option_or (f x) (first_some f xs)
@@ -108,7 +111,7 @@ table_fault bytes = fault_of_forms (forms_of bytes)
 
 -- refused memory
 abbrev pub out_of_memory : TableFault
-out_of_memory = record { line = 0; kind = OUT_OF_MEMORY }
+out_of_memory = record { line = 0; kind = out_of_memory_kind }
 
 -- a fault that is told: the one that there is, or that of refused memory
 abbrev pub IsFaultOrMemory : Option TableFault → TableFault → Type 0

@@ -1,7 +1,9 @@
 pub mod Bounds
 pub mod Entries
 pub mod Faults
+pub mod Kinds
 pub mod Reading
 pub mod Spelling
 pub mod Table
 pub mod WellFormed
+pub mod WorkedTables

@@ -88,7 +88,7 @@ greatest (n ∷ ns) = max n (greatest ns)
 abbrev pub longest_key : TableMap → ℕ
 longest_key T = greatest (map (λ row. length row.0) T.rows)
 
--- how many elements the largest row has, an implicit pair counted as one
+-- how many elements the largest row has; an implicit pair counts as a row of 2 elements
 abbrev pub most_elements : TableMap → ℕ
 most_elements T = max 2 (greatest (map (λ row. length row.1) T.rows))
 

@@ -6,6 +6,7 @@ use Rattle.std.specs.List.{list_any, AllByRecursion}
 use Rattle.collation_table.specs.declared.limits.TheConstants.{MOST_KEY_POINTS, MOST_ROW_ELEMENTS}
 use Rattle.collation_table.specs.declared.elements.Element.{Element}
 use Rattle.collation_table.specs.declared.ranges.ImplicitRange.{ImplicitRange}
+use Rattle.collation_table.specs.Kinds.{wf2_kind, wf4_kind, wf5_kind, no_entry_kind}
 use Rattle.collation_table.specs.Table.{TableMap, row_of, is_key, is_between, greatest, first_with_base, class_of}
 
 -- ---- kinds of elements
@@ -30,7 +31,7 @@ is_tertiary e = (e.w1 == 0) && (e.w2 == 0) && nat_lt 0 e.w3
 
 -- ---- conditions on a row
 
--- a weight that is not zero at a level, and zero at the next
+-- a weight that is not zero at a level, and zero at the next; an element of the form of a follower is let off
 abbrev pub skips_level : Element → Bool
 skips_level e = not (is_follower e) && ((nat_lt 0 e.w1 && (e.w2 == 0)) || (nat_lt 0 e.w2 && (e.w3 == 0)))
 
@@ -79,7 +80,9 @@ breaks_ranges earlier r =
 abbrev pub elements : TableMap → List Element
 elements T = flat_map (λ row. row.1) T.rows
 
--- 0020 and 0002 are the weights of implicit pairs, which any text may have
+-- A secondary element whose second weight is not above that of each primary one and 0020, or a tertiary element whose third weight
+-- is not above that of each primary and secondary one and 0002. 0020 and 0002 are the weights of implicit pairs, which any text may
+-- have.
 abbrev pub breaks_wf2 : TableMap → Bool
 breaks_wf2 T =
     let es = elements T in (
@@ -87,6 +90,7 @@ breaks_wf2 T =
     || list_any (λ t. is_tertiary t && (nat_le t.w3 2 || list_any (λ p. (is_primary p || is_secondary p) && nat_le t.w3 p.w3) es)) es
     )
 
+-- a primary element, not variable, whose first weight is at least that of a variable one and at most that of another or the same one
 abbrev pub breaks_wf4 : TableMap → Bool
 breaks_wf4 T =
     let es = elements T in
@@ -101,13 +105,14 @@ lacks_front T key =
 abbrev pub breaks_wf5 : TableMap → Bool
 breaks_wf5 T = list_any (λ row. lacks_front T row.0) T.rows
 
--- what a table whose lines are each right is refused for: no row, WF2, WF4 or WF5, the first that holds, as the kind of its fault
 abbrev pub is_empty_list : {X : Type 0} → List X → Bool
 is_empty_list [] = true
 is_empty_list (x ∷ xs) = false
 
+-- what a table whose lines are each right is refused for: no row, WF2, WF4 or WF5, the first that holds, as the kind of its fault
 abbrev pub map_fault : TableMap → Option ℕ
-map_fault T = if is_empty_list T.rows then Some 12 else if breaks_wf2 T then Some 6 else if breaks_wf4 T then Some 8 else if breaks_wf5 T then Some 9 else None
+map_fault T =
+    if is_empty_list T.rows then Some no_entry_kind else if breaks_wf2 T then Some wf2_kind else if breaks_wf4 T then Some wf4_kind else if breaks_wf5 T then Some wf5_kind else None
 
 -- ---- well-formedness
 
@@ -142,7 +147,8 @@ pub record IsWf2 (T : TableMap) : Type 0 where
   pub tertiary : (t p : Element) → HasElement T t → HasElement T p → IsTrue (is_tertiary t) → IsTrue (is_primary p || is_secondary p) → p.w3 < t.w3
   pub tertiary_implicit : (t : Element) → HasElement T t → IsTrue (is_tertiary t) → 2 < t.w3
 
--- WF4: no primary weight that is not variable lies between two variable ones
+-- WF4: no primary element that is not variable has a first weight from that of a variable one on and up to that of another or the
+-- same one
 abbrev pub IsWf4 : TableMap → Type 0
 IsWf4 T =
     (p v w : Element) → HasElement T p → HasElement T v → HasElement T w → IsTrue (is_primary p) → p.is_variable ≡ false → v.is_variable ≡ true → w.is_variable ≡ true → v.w1 ≤ p.w1 → w.w1 < p.w1

@@ -13,6 +13,7 @@ mod elements;
 mod faults;
 mod implicit;
 mod limits;
+mod line_faults;
 mod lines;
 mod lookup;
 mod pieces;
@@ -23,6 +24,7 @@ mod spelling;
 mod starters;
 mod table;
 mod well_formed;
+pub mod worked;
 
 pub use elements::Element;
 pub use faults::TableFault;

@@ -5,7 +5,7 @@ ghost use Rattle.collation_table.specs.WellFormed.{IsWellFormed};
 
 use crate::elements::Element;
 
-/// A well-formed collation element table (UTS #10, sections 3 and 4). No call takes memory.
+/// A well-formed collation element table (UTS #10, section 5). No call takes memory.
 pub trait Weights {
     // The finite map and the ranges that the table stands for.
     ghost table: { Self → TableMap };

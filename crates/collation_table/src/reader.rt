@@ -1,86 +1,18 @@
 //! Reading a table file line by line (UTS #10, the form of allkeys.txt).
 
-ghost use Rattle.std.specs.Prelude.{◌≡◌, None, IfOk, IfErr, OnOk, option_map};
-ghost use Rattle.std.specs.List.{list_any};
+ghost use Rattle.std.specs.Prelude.{◌≡◌, None, IfOk, IfErr, OnOk};
 ghost use Rattle.collation_table.specs.WellFormed.{IsWellFormed};
 ghost use Rattle.collation_table.specs.Spelling.{line_form};
-ghost use Rattle.collation_table.specs.Faults.{forms_of, map_of, is_beyond_unicode, range_kind, entry_kind, line_kind, fault_at, with_line, first_line_fault, table_fault, Spells, IsFaultOrMemory};
-ghost use Rattle.collation_table.specs.Reading.{form};
+ghost use Rattle.collation_table.specs.Faults.{forms_of, map_of, line_kind, fault_at, with_line, first_line_fault, table_fault, Spells, IsFaultOrMemory};
 
-use crate::elements::Element;
-use crate::faults::{
-    BAD_RANGE, BEYOND_UNICODE, BREAKS_PAIRS, BREAKS_WF1, BREAKS_WF3, KEY_TWICE, MALFORMED_LINE,
-    TOO_LONG, TOO_MANY_LINES, TableFault,
-};
-use crate::limits::{MOST_ENTRY_LINES, MOST_KEY_POINTS, MOST_RANGE_LINES, MOST_ROW_ELEMENTS};
+use crate::faults::TableFault;
+use crate::line_faults::line_fault;
 use crate::lines::{Line, parse_line};
 use crate::lookup::Weights;
 use crate::pieces::first_line;
-use crate::ranges::ImplicitRange;
 use crate::rows::Rows;
 use crate::table::Table;
-use crate::well_formed::{breaks_pair_rule, breaks_wf1, breaks_wf3};
 use std::alloc::Global;
-
-/// The last code point of Unicode.
-const LAST_CODE_POINT: u32 = 0x10FFFF;
-
-/// Whether one of the numbers is no code point.
-fn any_beyond_unicode(points: &[u32]) -> bool
-    ensures { result ≡ list_any is_beyond_unicode points.now }
-{
-    points.iter().any(|point| *point > LAST_CODE_POINT)
-}
-
-/// The smallest kind of fault of a range line behind the lines that gave `rows`.
-fn range_fault(rows: &Rows, range: &ImplicitRange) -> Option<u8>
-    ensures { result ≡ range_kind rows.now range.now }
-{
-    if any_beyond_unicode(&[range.first, range.last]) {
-        Some(BEYOND_UNICODE)
-    } else if rows.refuses(range) {
-        Some(BAD_RANGE)
-    } else if rows.ranges().len() >= MOST_RANGE_LINES {
-        Some(TOO_MANY_LINES)
-    } else {
-        None
-    }
-}
-
-/// The smallest kind of fault of an entry line behind the lines that gave `rows`.
-fn entry_fault(rows: &Rows, key: &[u32], row: &[Element]) -> Option<u8>
-    ensures { result ≡ entry_kind rows.now key.now row.now }
-{
-    if any_beyond_unicode(key) {
-        Some(BEYOND_UNICODE)
-    } else if rows.has_key(key) {
-        Some(KEY_TWICE)
-    } else if key.len() > MOST_KEY_POINTS || row.len() > MOST_ROW_ELEMENTS {
-        Some(TOO_LONG)
-    } else if breaks_wf1(row) {
-        Some(BREAKS_WF1)
-    } else if breaks_wf3(row) {
-        Some(BREAKS_WF3)
-    } else if breaks_pair_rule(row) {
-        Some(BREAKS_PAIRS)
-    } else if rows.row_count() >= MOST_ENTRY_LINES {
-        Some(TOO_MANY_LINES)
-    } else {
-        None
-    }
-}
-
-/// The smallest kind of fault of a line behind the lines that gave `rows`.
-fn line_fault(rows: &Rows, line: &Option<Line>) -> Option<u8>
-    ensures { result ≡ line_kind rows.now (option_map form line.now) }
-{
-    match line {
-        None => Some(MALFORMED_LINE),
-        Some(Line::Empty | Line::Version) => None,
-        Some(Line::Range(range)) => range_fault(rows, range),
-        Some(Line::Entry { key, row }) => entry_fault(rows, key, row),
-    }
-}
 
 /// Adds what the line with this number says, or tells its fault; where memory is refused, that is told at line 0.
 fn read_line(alloc: Global, rows: &mut Rows, number: u64, text: &[u8]) -> Result<(), TableFault>

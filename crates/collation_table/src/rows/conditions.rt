@@ -5,6 +5,7 @@ ghost use Rattle.collation_table.specs.WellFormed.{AreLinesSound, breaks_wf2, br
 ghost use Rattle.collation_table.specs.Bounds.{second_bound, third_bound, variable_span};
 
 use super::Rows;
+use crate::faults::{BREAKS_WF2, BREAKS_WF4, BREAKS_WF5, NO_ENTRY};
 use crate::starters::is_nonstarter;
 use crate::well_formed::{
     any_too_light, any_within_span, greatest_second, greatest_third, variable_span,
@@ -14,15 +15,6 @@ use crate::well_formed::{
 const IMPLICIT_SECOND: u16 = 0x20;
 
 const IMPLICIT_THIRD: u16 = 2;
-
-/// The kinds of fault that a whole table has.
-const NO_ROW: u8 = 12;
-
-const BREAKS_WF2: u8 = 6;
-
-const BREAKS_WF4: u8 = 8;
-
-const BREAKS_WF5: u8 = 9;
 
 impl Rows {
     /// The greatest second weight of the primary elements, those of implicit pairs included.
@@ -105,13 +97,13 @@ impl Rows {
         self.rows.values().fold(2, |most, row| most.max(row.len()))
     }
 
-    /// The kind of the first condition on a whole table that is broken: 12 no row, 6 WF2, 8 WF4, 9 WF5.
+    /// The kind of the first condition on a whole table that is broken: no row, WF2, WF4, WF5, in this order.
     pub(crate) fn fault(&self) -> Option<u8>
         ensures fault { result ≡ map_fault self.now }
         ensures lines { AreLinesSound self.now }
     {
         if self.rows.is_empty() {
-            Some(NO_ROW)
+            Some(NO_ENTRY)
         } else if self.breaks_wf2() {
             Some(BREAKS_WF2)
         } else if self.breaks_wf4() {

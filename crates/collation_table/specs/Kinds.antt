@@ -1,0 +1,44 @@
+-- The number of each kind of fault that a table file can have.
+use Rattle.std.specs.Prelude.{ℕ}
+
+abbrev pub malformed_line_kind : ℕ
+malformed_line_kind = 1
+
+abbrev pub beyond_unicode_kind : ℕ
+beyond_unicode_kind = 2
+
+abbrev pub key_twice_kind : ℕ
+key_twice_kind = 3
+
+abbrev pub too_long_kind : ℕ
+too_long_kind = 4
+
+abbrev pub wf1_kind : ℕ
+wf1_kind = 5
+
+abbrev pub wf2_kind : ℕ
+wf2_kind = 6
+
+abbrev pub wf3_kind : ℕ
+wf3_kind = 7
+
+abbrev pub wf4_kind : ℕ
+wf4_kind = 8
+
+abbrev pub wf5_kind : ℕ
+wf5_kind = 9
+
+abbrev pub pair_rule_kind : ℕ
+pair_rule_kind = 10
+
+abbrev pub bad_range_kind : ℕ
+bad_range_kind = 11
+
+abbrev pub no_entry_kind : ℕ
+no_entry_kind = 12
+
+abbrev pub too_many_lines_kind : ℕ
+too_many_lines_kind = 13
+
+abbrev pub out_of_memory_kind : ℕ
+out_of_memory_kind = 14

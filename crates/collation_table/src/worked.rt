@@ -1,0 +1,43 @@
+//! Worked tables: small files with their faults and sizes, and look-ups in them, as the definitions give them, proved by computing.
+
+ghost use Rattle.collation_table.specs.WorkedTables.{LineFaults, RowFaults, RangeFaults, TableFaults, AcceptedTables, ImplicitWeights, LongestFronts, Classes};
+
+/// Lines that can't be read, and which of several faults is told.
+pub fn faults_of_lines()
+    ensures { LineFaults }
+{}
+
+/// Entry lines that break a condition.
+pub fn faults_of_rows()
+    ensures { RowFaults }
+{}
+
+/// Range lines that break a condition.
+pub fn faults_of_ranges()
+    ensures { RangeFaults }
+{}
+
+/// Files whose lines are each right, with what the whole table breaks.
+pub fn faults_of_tables()
+    ensures { TableFaults }
+{}
+
+/// Files with no fault, with the sizes of their longest key and largest row.
+pub fn accepted_tables()
+    ensures { AcceptedTables }
+{}
+
+/// Implicit weights of ideographs, of other code points and of ranges (UTS #10, section 10.1.3).
+pub fn implicit_weights()
+    ensures { ImplicitWeights }
+{}
+
+/// The longest front of a list of code points that is a key (UTS #10, S2.1).
+pub fn longest_fronts()
+    ensures { LongestFronts }
+{}
+
+/// Canonical combining classes of code points of a key.
+pub fn classes()
+    ensures { Classes }
+{}
