@@ -9,4 +9,3 @@ pub mod RisingLemmas
 pub mod RunLemmas
 pub mod ShortRunLemmas
 pub mod StepLemmas
-pub mod WorkedPoints

@@ -1,8 +1,8 @@
 -- What a code point that is no fault does to what waits, and what the clauses of `push` say of it.
-use Rattle.std.proofs.Common.{◌≡◌, ℕ, ◌+◌, ◌<◌, Bool, true, false, not, List, [], ◌∷◌, ◌++◌, length, drop, get_or, None, sym, ap, ap₂, subst, ◌∙◌, add-one, drop-cons, eq-eqb}
+use Rattle.std.proofs.Common.{◌≡◌, ℕ, ◌+◌, ◌<◌, Bool, true, false, not, List, [], ◌∷◌, ◌++◌, length, drop, get_or, None, sym, ap, ap₂, subst, ◌∙◌, eq-eqb}
 use borrow.Table.Char.{scalar_below}
 use Rattle.std.proofs.lemmas.Bool.{and_parts}
-use Rattle.std.proofs.lemmas.List.{append-nil}
+use Rattle.std.proofs.lemmas.List.{append-nil, drop_more}
 use Rattle.std.specs.Char.{IsScalar}
 use Rattle.unicode_normalization.specs.Order.{is_nonstarter}
 use Rattle.unicode_normalization.specs.StreamSafe.{has_short_runs}
@@ -61,11 +61,8 @@ ascii-sound c start scalar h = record { scalar = scalar; in_range = scalar_below
 
 -- ---- the steps of `take_all`
 
-at_place : (points : List Point) (i : ℕ) (d : Point) → i < length points → drop i points ≡ get_or points i d ∷ drop (i + 1) points
-at_place points i d lt = rw add-one (drop-cons points i d lt)
-
 code_at_place : (points : List Point) (i : ℕ) (d : Point) → i < length points → codes (drop i points) ≡ ((get_or points i d).cp ∷ []) ++ codes (drop (i + 1) points)
-code_at_place points i d lt = ap codes (at_place points i d lt)
+code_at_place points i d lt = ap codes (drop_more points i d lt)
 
 pub short-here : (run : ℕ) (points : List Point) (i : ℕ) (d : Point) → i < length points → has_short_runs run (codes (drop i points)) ≡ true → (has_short_runs run ((get_or points i d).cp ∷ []) ≡ true) × (has_short_runs (run_after run ((get_or points i d).cp ∷ [])) (codes (drop (i + 1) points)) ≡ true)
 short-here run points i d lt h =
@@ -78,7 +75,7 @@ run-here run points i d lt =
 
 pub moved-here : (held out held' out' points : List Point) (i : ℕ) (d : Point) → i < length points → ((rest : List Point) → out ++ ordered (held ++ get_or points i d ∷ rest) ≡ out' ++ ordered (held' ++ rest)) → (rest : List Point) → out ++ ordered (held ++ (drop i points ++ rest)) ≡ out' ++ ordered (held' ++ (drop (i + 1) points ++ rest))
 moved-here held out held' out' points i d lt moved rest =
-    ap (λ l. out ++ ordered (held ++ (l ++ rest))) (at_place points i d lt) ∙ moved (drop (i + 1) points ++ rest)
+    ap (λ l. out ++ ordered (held ++ (l ++ rest))) (drop_more points i d lt) ∙ moved (drop (i + 1) points ++ rest)
 
 -- ---- whether there is room
 

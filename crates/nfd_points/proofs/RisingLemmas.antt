@@ -1,6 +1,7 @@
 -- Points whose classes rise from 1 on are the non-starters in canonical order.
-use Rattle.std.proofs.Common.{◌≡◌, ℕ, ◌+◌, ◌<◌, ◌≤◌, true, false, ◌&&◌, nat_le, List, [], ◌∷◌, get_or, drop, length, refl, sym, ap, ◌∙◌, arith, inl, inr, leb-true, le-leb, ne_eqb, add-one, drop-cons}
+use Rattle.std.proofs.Common.{◌≡◌, ℕ, ◌+◌, ◌<◌, ◌≤◌, true, false, ◌&&◌, nat_le, List, [], ◌∷◌, get_or, drop, length, refl, sym, ap, ◌∙◌, arith, inl, inr, leb-true, le-leb, ne_eqb}
 use Rattle.std.proofs.lemmas.Bool.{and_parts, and_from, and_left, not_from_false, lt-leb}
+use Rattle.std.proofs.lemmas.List.{drop_more}
 use Rattle.std.specs.List.{list_all}
 use Rattle.nfd_points.specs.declared.points.Point.{Point}
 use Rattle.nfd_points.specs.Points.{is_in_order}
@@ -16,18 +17,15 @@ rises_from-cons : (class : ℕ) (p : Point) (ps : List Point) → rises_from cla
 unfolding rises_from
 rises_from-cons class p ps = refl
 
-at_place : (points : List Point) (i : ℕ) (d : Point) → i < length points → drop i points ≡ get_or points i d ∷ drop (i + 1) points
-at_place points i d lt = rw add-one (drop-cons points i d lt)
-
 -- the steps of the loop
 pub rises-on : (class : ℕ) (points : List Point) (i : ℕ) (d : Point) → i < length points → class ≤ (get_or points i d).ccc → rises_from class (drop i points) ≡ rises_from (get_or points i d).ccc (drop (i + 1) points)
 rises-on class points i d lt le =
-    ap (rises_from class) (at_place points i d lt) ∙ rises_from-cons class (get_or points i d) (drop (i + 1) points)
+    ap (rises_from class) (drop_more points i d lt) ∙ rises_from-cons class (get_or points i d) (drop (i + 1) points)
     ∙ ap (λ b. b && rises_from (get_or points i d).ccc (drop (i + 1) points)) (le-leb class (get_or points i d).ccc le)
 
 pub falls-here : (class : ℕ) (points : List Point) (i : ℕ) (d : Point) → i < length points → (get_or points i d).ccc < class → rises_from class (drop i points) ≡ false
 falls-here class points i d lt below =
-    ap (rises_from class) (at_place points i d lt) ∙ rises_from-cons class (get_or points i d) (drop (i + 1) points)
+    ap (rises_from class) (drop_more points i d lt) ∙ rises_from-cons class (get_or points i d) (drop (i + 1) points)
     ∙ and_left _ _ (lt-leb class (get_or points i d).ccc below)
 
 -- what it says

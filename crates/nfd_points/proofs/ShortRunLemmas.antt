@@ -1,18 +1,21 @@
--- The points of a text without a fault have no more than 30 non-starters in a row.
-use Rattle.std.proofs.Common.{◌≡◌, ℕ, ◌+◌, ◌<◌, true, ◌&&◌, nat_lt, List, [], ◌∷◌, flat_map, All, None, sym, ap, ◌∙◌, arith, inl, inr, ne_eqb}
-use Rattle.std.proofs.lemmas.Bool.{cases_Bool, and_from, not_from_false}
+-- The points of a text without a fault have no more than 30 non-starters in a row, and a text whose decompositions have no
+-- longer run has no fault.
+use Rattle.std.proofs.Common.{◌≡◌, ℕ, ◌+◌, ◌<◌, true, false, ◌&&◌, nat_lt, List, [], ◌∷◌, ◌++◌, flat_map, All, Some, None, sym, ap, ◌∙◌, arith, inl, inr, ne_eqb, zero-add}
+use Rattle.std.proofs.lemmas.Bool.{cases_Bool, and_from, and_parts, not_from_false}
+use Rattle.std.proofs.lemmas.Grind.{flat_map-append}
+use Rattle.std.proofs.lemmas.List.{append-nil}
 use Rattle.std.proofs.lemmas.List.Elements.{All-head, All-tail}
 use Rattle.std.specs.Char.{len_utf8}
 use Rattle.unicode_normalization.specs.Lookups.{canonical_combining_class}
 use Rattle.unicode_normalization.specs.Order.{is_nonstarter}
 use Rattle.unicode_normalization.specs.StreamSafe.{has_short_runs}
 use Rattle.nfd_points.specs.declared.points.Point.{Point}
-use Rattle.nfd_points.specs.Points.{decomposition, points_from, points, is_reorderable, sink, ordered}
+use Rattle.nfd_points.specs.Points.{decomposition, byte_len, points_from, points, is_reorderable, sink, ordered}
 use Rattle.nfd_points.specs.PointFaults.{run_after, fault_from, point_fault}
 use Rattle.nfd_points.specs.Reordering.{codes}
 use Rattle.nfd_points.proofs.OrderingLemmas.{is_reorderable-true, sink-past, sink-stays, sink-nil, ordered-nil, ordered-cons, All-ordered}
 use Rattle.nfd_points.proofs.PointsLemmas.{HasClass, HasClass-points_from, codes-points_parts}
-use Rattle.nfd_points.proofs.RunLemmas.{short-mark, short-starter, short-nil, short-append, fault_at-none, fault_at-run, fault_from-here, fault_from-later}
+use Rattle.nfd_points.proofs.RunLemmas.{short-mark, short-starter, short-nil, short-append, fault_at-none, fault_at-run, fault_from-nil, fault_from-here, fault_from-later, fault_from-good}
 
 -- ---- ordering keeps the runs
 
@@ -71,3 +74,27 @@ short-good start run (c ∷ cs) good =
 pub short-points : (cs : List ℕ) → point_fault cs ≡ None → has_short_runs 0 (codes (points cs)) ≡ true
 short-points cs good =
     short-ordered 0 (points_from 0 cs) (HasClass-points_from 0 cs) ∙ ap (has_short_runs 0) (codes-points_parts 0 cs) ∙ short-good 0 0 cs good
+
+-- ---- a text with short runs
+
+good-from : (start run : ℕ) (cs : List ℕ) → has_short_runs run (flat_map decomposition cs) ≡ true → fault_from start run cs ≡ None
+good-from start run [] h = fault_from-nil start run
+good-from start run (c ∷ cs) h =
+    let parts = and_parts _ _ (sym (short-append run (decomposition c) (flat_map decomposition cs)) ∙ h) in
+    fault_from-later start run c cs (fault_at-none run c parts.0) ∙ good-from (start + len_utf8 c) (run_after run (decomposition c)) cs parts.1
+
+pub good-short : (cs : List ℕ) → has_short_runs 0 (flat_map decomposition cs) ≡ true → point_fault cs ≡ None
+good-short cs h = good-from 0 0 cs h
+
+-- the first code point that brings a longer run
+pub fault-long : (before after : List ℕ) (c : ℕ) → has_short_runs 0 (flat_map decomposition before) ≡ true → has_short_runs 0 (flat_map decomposition (before ++ c ∷ [])) ≡ false → point_fault (before ++ c ∷ after) ≡ Some (byte_len before, 32)
+fault-long before after c short long =
+    let ds = flat_map decomposition before in
+    let run = run_after 0 ds in
+    let joined : flat_map decomposition (before ++ c ∷ []) ≡ ds ++ decomposition c =
+    flat_map-append decomposition before (c ∷ []) ∙ ap (λ l. ds ++ l) (append-nil (decomposition c)) in
+    let here : has_short_runs run (decomposition c) ≡ false =
+    sym (short-append 0 ds (decomposition c) ∙ ap (λ b. b && has_short_runs run (decomposition c)) short) ∙ sym (ap (has_short_runs 0) joined) ∙ long in
+    fault_from-good 0 0 before (c ∷ after) (good-short before short)
+    ∙ fault_from-here (0 + byte_len before) run c 32 after (fault_at-run run c here)
+    ∙ ap (λ n. Some (n, 32)) (zero-add (byte_len before))

@@ -1,5 +1,5 @@
 -- Laws of points and of their faults, which the functions of src/laws.rt promise.
-use Rattle.std.specs.Prelude.{◌≡◌, ℕ, ◌+◌, ◌<◌, ◌≤◌, Bool, true, List, [], ◌∷◌, ◌++◌, length, map, flat_map, encode_utf8_all, Some, None, All}
+use Rattle.std.specs.Prelude.{◌≡◌, ℕ, ◌+◌, ◌<◌, ◌≤◌, Bool, true, false, List, [], ◌∷◌, ◌++◌, length, map, flat_map, encode_utf8_all, Some, None, All}
 use Rattle.std.specs.Char.{IsScalar}
 use Rattle.std.specs.List.{list_all}
 use Rattle.unicode_normalization.specs.Forms.{nfd}
@@ -87,6 +87,15 @@ FaultsAreRuns = (run c kind : ℕ) → fault_at run c ≡ Some kind → kind ≡
 -- where there is no fault, no more than 30 non-starters follow each other
 abbrev pub GoodRunsAreShort : Type 0
 GoodRunsAreShort = (cs : List ℕ) → point_fault cs ≡ None → has_short_runs 0 (codes (points cs)) ≡ true
+
+-- and where no more than 30 non-starters follow each other in the joined decompositions, there is no fault
+abbrev pub ShortRunsAreGood : Type 0
+ShortRunsAreGood = (cs : List ℕ) → has_short_runs 0 (flat_map decomposition cs) ≡ true → point_fault cs ≡ None
+
+-- the fault is at the first code point whose decomposition, joined to those before it, brings a longer run
+abbrev pub LongRunsAreFaults : Type 0
+LongRunsAreFaults =
+    (before after : List ℕ) (c : ℕ) → has_short_runs 0 (flat_map decomposition before) ≡ true → has_short_runs 0 (flat_map decomposition (before ++ c ∷ [])) ≡ false → point_fault (before ++ c ∷ after) ≡ Some (byte_len before, 32)
 
 -- ---- what a reorderer has given
 

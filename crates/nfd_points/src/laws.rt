@@ -1,7 +1,7 @@
 //! Laws of points and of their faults, each the promise of a function that does nothing.
 //!
 //! They hold for every list of code points, also for numbers that are no scalar values.
-ghost use Rattle.nfd_points.specs.Laws.{DecompositionsAreShort, OthersAreStarters, AsciiIsItself, CodesAreNfd, PointsAreSound, BytesAreCounted, PointsOfParts, PointsAreShifted, TextsPart, OrderingIsInOrder, OrderedStays, OrderingOfFronts, OrderingStopsAtStarters, OrderingIsShifted, OrderingKeeps, OrderingCounts, FaultBehind, FaultInFront, FaultsAreRuns, GoodRunsAreShort, GivenAreFinal, GivenBegin, WaitingAreOthers};
+ghost use Rattle.nfd_points.specs.Laws.{DecompositionsAreShort, OthersAreStarters, AsciiIsItself, CodesAreNfd, PointsAreSound, BytesAreCounted, PointsOfParts, PointsAreShifted, TextsPart, OrderingIsInOrder, OrderedStays, OrderingOfFronts, OrderingStopsAtStarters, OrderingIsShifted, OrderingKeeps, OrderingCounts, FaultBehind, FaultInFront, FaultsAreRuns, GoodRunsAreShort, ShortRunsAreGood, LongRunsAreFaults, GivenAreFinal, GivenBegin, WaitingAreOthers};
 
 /// What the decomposition of one code point is.
 pub fn laws_of_decompositions()
@@ -31,12 +31,14 @@ pub fn laws_of_ordering()
     ensures counts { OrderingCounts }
 {}
 
-/// The first fault of a text, by its parts.
+/// The first fault of a text, by its parts, and by the runs of non-starters in its joined decompositions.
 pub fn laws_of_faults()
     ensures behind { FaultBehind }
     ensures in_front { FaultInFront }
     ensures runs { FaultsAreRuns }
     ensures short { GoodRunsAreShort }
+    ensures good { ShortRunsAreGood }
+    ensures long { LongRunsAreFaults }
 {}
 
 /// What a reorderer has given of a text.

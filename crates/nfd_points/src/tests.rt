@@ -1,7 +1,14 @@
 //! What no clause says: the points of worked texts, and the whole of the data against the crate's own NFD.
 //!
 //! The decompositions and classes of the worked texts are those of Python's `unicodedata`.
+ghost use Rattle.std.specs.Prelude.{◌≡◌, [], ◌∷◌, true, false, Some, None, replicate};
+ghost use Rattle.nfd_points.specs.Points.{points};
+ghost use Rattle.nfd_points.specs.PointFaults.{point_fault};
+ghost use Rattle.nfd_points.specs.WorkedPoints.{worked_point};
 
+use crate::laws::{
+    laws_of_decompositions, laws_of_faults, laws_of_ordering, laws_of_points, laws_of_reordering,
+};
 use crate::{MOST_GIVEN, Point, PointFault, Reorder};
 use arrayvec::ArrayVec;
 use std::alloc::Global;
@@ -18,6 +25,33 @@ fn point(cp: u32, ccc: u8, offset: u64, first: bool) -> Point {
         offset,
         first,
     }
+}
+
+/// The definitions on texts that are written out. 16 times U+0F73 are 32 non-starters.
+fn worked_points()
+    ensures composed { points (0xE9 ∷ []) ≡ worked_point 0x65 0 0 true ∷ worked_point 0x301 230 0 false ∷ [] }
+    ensures decomposed { points (0x65 ∷ 0x301 ∷ [])
+        ≡ worked_point 0x65 0 0 true ∷ worked_point 0x301 230 1 true ∷ [] }
+    ensures hangul { points (0xAC01 ∷ [])
+        ≡ worked_point 0x1100 0 0 true ∷ worked_point 0x1161 0 0 false ∷ worked_point 0x11A8 0 0 false ∷ [] }
+    ensures two_non_starters { points (0xF73 ∷ [])
+        ≡ worked_point 0xF71 129 0 true ∷ worked_point 0xF72 130 0 false ∷ [] }
+    ensures reordered { points (0x65 ∷ 0x301 ∷ 0x327 ∷ [])
+        ≡ worked_point 0x65 0 0 true ∷ worked_point 0x327 202 3 true ∷ worked_point 0x301 230 1 true ∷ [] }
+    ensures surrogate { points (0xD800 ∷ 0x110000 ∷ [])
+        ≡ worked_point 0xD800 0 0 true ∷ worked_point 0x110000 0 3 true ∷ [] }
+    ensures long_run { point_fault (0x61 ∷ replicate 16 0xF73) ≡ Some (46, 32) }
+    ensures full_run { point_fault (0x61 ∷ replicate 15 0xF73) ≡ None }
+{}
+
+#[test]
+fn definitions_compute() {
+    worked_points();
+    laws_of_decompositions();
+    laws_of_points();
+    laws_of_ordering();
+    laws_of_faults();
+    laws_of_reordering();
 }
 
 /// All points of a text that has no fault.
@@ -110,6 +144,28 @@ fn composed_and_decomposed(rt: HostRuntime) -> Result<(), Fail> {
     ];
     assert_eq!(rt; composed.as_slice(), marks_apart.as_slice());
 
+    let decomposed = points(rt.alloc(), "Vie\u{323}\u{302}t")?;
+    let each_its_own = [
+        point(0x56, 0, 0, true),
+        point(0x69, 0, 1, true),
+        point(0x65, 0, 2, true),
+        point(0x323, 220, 3, true),
+        point(0x302, 230, 5, true),
+        point(0x74, 0, 7, true),
+    ];
+    assert_eq!(rt; decomposed.as_slice(), each_its_own.as_slice());
+
+    let above_first = points(rt.alloc(), "Vie\u{302}\u{323}t")?;
+    let in_order = [
+        point(0x56, 0, 0, true),
+        point(0x69, 0, 1, true),
+        point(0x65, 0, 2, true),
+        point(0x323, 220, 5, true),
+        point(0x302, 230, 3, true),
+        point(0x74, 0, 7, true),
+    ];
+    assert_eq!(rt; above_first.as_slice(), in_order.as_slice());
+
     let half = points(rt.alloc(), "\u{EA}\u{323}")?;
     let below_first = [
         point(0x65, 0, 0, true),
@@ -188,6 +244,15 @@ fn changing_code_points(alloc: Global) -> Result<Vec<char>, Fail> {
     Ok(chars)
 }
 
+/// Appends the code points of points, and the offsets where they come from.
+fn append(points: &[Point], codes: &mut Vec<char>, offsets: &mut Vec<u64>) -> Result<(), Fail> {
+    for point in points {
+        codes.push(char::from_u32(point.cp).ok_or("a point is a scalar value")?)?;
+        offsets.push(point.offset)?;
+    }
+    Ok(())
+}
+
 #[test]
 fn whole_data(rt: HostRuntime) -> Result<(), Fail> {
     let chars = changing_code_points(rt.alloc())?;
@@ -197,17 +262,23 @@ fn whole_data(rt: HostRuntime) -> Result<(), Fail> {
     let mut reorder = Reorder::new(rt.alloc());
     let mut out = ArrayVec::<Point, MOST_GIVEN>::new();
     let mut given = Vec::new(rt.alloc());
+    let mut offsets = Vec::new(rt.alloc());
+    // No mark passes the letter before it, so that the offsets of the decompositions rise.
+    let mut expected_offsets = Vec::new(rt.alloc());
+    let mut offset = 0u64;
     for c in &chars {
-        reorder.push(*c, 0, &mut out)?;
-        for point in out.iter() {
-            given.push(char::from_u32(point.cp).ok_or("a point is a scalar value")?)?;
+        reorder.push(*c, offset, &mut out)?;
+        append(out.as_slice(), &mut given, &mut offsets)?;
+        let mut room = [*c; 3];
+        for _part in decomposition(*c, Form::Nfd, &mut room) {
+            expected_offsets.push(offset)?;
         }
+        offset = offset.wrapping_add(c.len_utf8() as u64);
     }
     reorder.finish(&mut out);
-    for point in out.iter() {
-        given.push(char::from_u32(point.cp).ok_or("a point is a scalar value")?)?;
-    }
+    append(out.as_slice(), &mut given, &mut offsets)?;
     assert!(rt; given.len() > chars.len());
     assert!(rt; given == expected);
+    assert!(rt; offsets == expected_offsets);
     Ok(())
 }
