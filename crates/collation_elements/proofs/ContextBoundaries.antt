@@ -16,6 +16,7 @@ use Rattle.collation_elements.specs.Elements.{begins_cluster}
 use Rattle.collation_elements.specs.Items.{after_unit}
 use Rattle.std.proofs.lemmas.Str.{chars-encodes}
 use Rattle.collation_elements.proofs.ContextClusters.{unit_keys, unit_starts-more, unit_starts-next, starts-clusters_on}
+use Rattle.collation_elements.proofs.PointLaws.{PointLaws}
 use Rattle.collation_elements.proofs.ContextParts.{starts_at_zero}
 use Rattle.collation_elements.proofs.ContextLaw.{text_by_units, text_part}
 
@@ -103,10 +104,10 @@ RisesIn-starts : (end low : ℕ) (cs : List Cluster) → Rise end cs → low ≤
 RisesIn-starts end low [] h le = (le, omega arith, tt)
 RisesIn-starts end low (c ∷ cs) h le = (le, omega (arith, below_end end cs h.1), RisesIn-starts end (suc c.start) cs h.1 h.0)
 
-pub starts_rise : (table : TableMap) (strength : Strength) (variable : Variable) (text : List ℕ) → IsUtf8 text → Rise (length text) (clusters table strength variable text)
-starts_rise table strength variable text utf8 =
+pub starts_rise : PointLaws → (table : TableMap) (strength : Strength) (variable : Variable) (text : List ℕ) → IsUtf8 text → Rise (length text) (clusters table strength variable text)
+starts_rise laws table strength variable text utf8 =
     rise_from (length text) (clusters table strength variable text) [] (clusters table strength variable text) refl
-    (λ before d after e. (text_part table strength variable text before d [] after utf8 e).part.longer)
+    (λ before d after e. (text_part laws table strength variable text before d [] after utf8 e).part.longer)
 
 -- ---- the test of a boundary
 
@@ -119,11 +120,11 @@ any-append n (x ∷ xs) ys = ap (λ t. (x == n) || t) (any-append n xs ys) ∙ o
     or_assoc false b c = refl
 
 -- the first unit begins a cluster at 0 or none
-pub first_starts : (table : TableMap) (cs : List ℕ) (u : List Point) (us : List (List Point)) → units table (points cs) ≡ u ∷ us → (unit_starts table u ≡ []) ⊎ (unit_starts table u ≡ 0 ∷ [])
-first_starts table cs [] us e = inl refl
-first_starts table cs (p ∷ ps) us e =
+pub first_starts : PointLaws → (table : TableMap) (cs : List ℕ) (u : List Point) (us : List (List Point)) → units table (points cs) ≡ u ∷ us → (unit_starts table u ≡ []) ⊎ (unit_starts table u ≡ 0 ∷ [])
+first_starts laws table cs [] us e = inl refl
+first_starts laws table cs (p ∷ ps) us e =
     elim (cases_Bool (begins_cluster table (p ∷ ps))) [
-      | inl begins ↦ inr (unit_starts-next table p ps begins ∙ ap (λ n. n ∷ []) (eqb-true p.offset 0 (starts_at_zero table cs p ps us begins e)))
+      | inl begins ↦ inr (unit_starts-next table p ps begins ∙ ap (λ n. n ∷ []) (eqb-true p.offset 0 (starts_at_zero laws table cs p ps us begins e)))
       | inr more ↦ inl (unit_starts-more table (p ∷ ps) more)
     ]
 
@@ -160,21 +161,21 @@ is_boundary-in len n first others (inr at_zero) =
     ∙ twice_or (0 == n) (len == n) (is_in others n)
     ∙ ap (λ t. (0 == n) || t) (sym (any-append n others (len ∷ [])))
 
-boundaries_of : (table : TableMap) (cs : List ℕ) (len : ℕ) (u : List Point) (us : List (List Point)) → units table (points cs) ≡ u ∷ us → RisesIn 0 (suc len) ((0 ∷ flat_map (unit_starts table) us) ++ len ∷ []) → filter (is_boundary (cluster_starts table (points cs)) len) (offsets_to len) ≡ (0 ∷ flat_map (unit_starts table) us) ++ len ∷ []
-boundaries_of table cs len u us e h =
+boundaries_of : PointLaws → (table : TableMap) (cs : List ℕ) (len : ℕ) (u : List Point) (us : List (List Point)) → units table (points cs) ≡ u ∷ us → RisesIn 0 (suc len) ((0 ∷ flat_map (unit_starts table) us) ++ len ∷ []) → filter (is_boundary (cluster_starts table (points cs)) len) (offsets_to len) ≡ (0 ∷ flat_map (unit_starts table) us) ++ len ∷ []
+boundaries_of laws table cs len u us e h =
     ap (λ l. filter (is_boundary (flat_map (unit_starts table) l) len) (offsets_to len)) e
     ∙ kept_of_all len ((0 ∷ flat_map (unit_starts table) us) ++ len ∷ []) (is_boundary (unit_starts table u ++ flat_map (unit_starts table) us) len) h
-    (λ n. is_boundary-in len n (unit_starts table u) (flat_map (unit_starts table) us) (first_starts table cs u us e))
+    (λ n. is_boundary-in len n (unit_starts table u) (flat_map (unit_starts table) us) (first_starts laws table cs u us e))
 
-pub boundaries_start : BoundariesAreStarts
-boundaries_start table strength variable [] utf8 = refl
-boundaries_start table strength variable (b ∷ bs) utf8 =
-    let all = text_by_units table strength variable b bs utf8.0 utf8.1.0 utf8.1.1 in
+pub boundaries_start : PointLaws → BoundariesAreStarts
+boundaries_start laws table strength variable [] utf8 = refl
+boundaries_start laws table strength variable (b ∷ bs) utf8 =
+    let all = text_by_units laws table strength variable b bs utf8.0 utf8.1.0 utf8.1.1 in
     let are : chars (b ∷ bs) ≡ utf8.0 = sym (ap chars utf8.1.1) ∙ chars-encodes utf8.0 utf8.1.0 in
     let starts_are : starts (clusters table strength variable (b ∷ bs)) ≡ 0 ∷ flat_map (unit_starts table) all.us =
     ap starts all.are ∙ starts-clusters_on table strength variable (after_unit table variable false all.u) (record { start = 0; keys = unit_keys table strength variable false all.u }) all.us all.low in
     let rise : RisesIn 0 (suc (length (b ∷ bs))) (starts (clusters table strength variable (b ∷ bs)) ++ length (b ∷ bs) ∷ []) =
-    RisesIn-starts (length (b ∷ bs)) 0 (clusters table strength variable (b ∷ bs)) (starts_rise table strength variable (b ∷ bs) utf8) (omega arith) in
-    boundaries_of table (chars (b ∷ bs)) (length (b ∷ bs)) all.u all.us (ap (λ l. units table (points l)) are ∙ all.units_are)
+    RisesIn-starts (length (b ∷ bs)) 0 (clusters table strength variable (b ∷ bs)) (starts_rise laws table strength variable (b ∷ bs) utf8) (omega arith) in
+    boundaries_of laws table (chars (b ∷ bs)) (length (b ∷ bs)) all.u all.us (ap (λ l. units table (points l)) are ∙ all.units_are)
     (subst (λ l. RisesIn 0 (suc (length (b ∷ bs))) (l ++ length (b ∷ bs) ∷ [])) starts_are rise)
     ∙ ap (λ l. l ++ length (b ∷ bs) ∷ []) (sym starts_are)

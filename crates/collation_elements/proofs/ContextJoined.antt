@@ -7,7 +7,6 @@ use Rattle.std.proofs.lemmas.Str.{chars-nil}
 use Rattle.std.specs.Str.{chars, IsUtf8}
 use Rattle.nfd_points.specs.declared.points.Point.{Point}
 use Rattle.nfd_points.specs.Points.{byte_len, points, shifted}
-use Rattle.nfd_points.proofs.PointsLemmas.{byte_len-append, byte_len-encode}
 use Rattle.collation_table.specs.declared.elements.Element.{Element}
 use Rattle.collation_table.specs.Table.{TableMap}
 use Rattle.collation_elements.specs.declared.settings.Variable.{Variable}
@@ -20,6 +19,7 @@ use Rattle.collation_elements.specs.Items.{after_unit}
 use Rattle.collation_elements.specs.Boundaries.{boundaries}
 use Rattle.collation_elements.specs.Clusters.{Cluster, clusters, starts, start_or, joined}
 use Rattle.collation_elements.specs.Context.{UnitsCut, part_between, ElementsAreJoined, KeysAreJoined}
+use Rattle.collation_elements.proofs.PointLaws.{PointLaws, byte_len-append}
 use Rattle.collation_elements.proofs.ContextOffsets.{rows-shift, begins_cluster-shift}
 use Rattle.collation_elements.proofs.ContextTexts.{units-split, begins_cluster-parts}
 use Rattle.collation_elements.proofs.ContextWeights.{weighted_rows-primary, weighted_rows-append, after_rows}
@@ -55,11 +55,11 @@ pub record Halves (table : TableMap) (variable : Variable) (cs : List ℕ) (star
   pub second : Place cs middle end
   pub elements_are : elements table variable (points whole.middle) ≡ elements table variable (points first.middle) ++ elements table variable (points second.middle)
 
-halves_at : (table : TableMap) (variable : Variable) (cs : List ℕ) (start end : ℕ) (us : List (List Point)) (at : List Point) (vs : List (List Point)) (p : Point) (ps : List Point) → (place : Place cs start end) → units table (points place.middle) ≡ us ++ at ∷ vs → map (shifted start) at ≡ p ∷ ps → begins_cluster table (p ∷ ps) ≡ true → Halves table variable cs start p.offset end
-halves_at table variable cs start end us [] vs p ps place e at h = absurd cc
-halves_at table variable cs start end us (q ∷ qs) vs p ps place e at h =
+halves_at : PointLaws → (table : TableMap) (variable : Variable) (cs : List ℕ) (start end : ℕ) (us : List (List Point)) (at : List Point) (vs : List (List Point)) (p : Point) (ps : List Point) → (place : Place cs start end) → units table (points place.middle) ≡ us ++ at ∷ vs → map (shifted start) at ≡ p ∷ ps → begins_cluster table (p ∷ ps) ≡ true → Halves table variable cs start p.offset end
+halves_at laws table variable cs start end us [] vs p ps place e at h = absurd cc
+halves_at laws table variable cs start end us (q ∷ qs) vs p ps place e at h =
     let begins : begins_cluster table (q ∷ qs) ≡ true = sym (begins_cluster-shift table start (q ∷ qs)) ∙ ap (begins_cluster table) at ∙ h in
-    let cut = units-split table place.middle us q qs vs begins e in
+    let cut = units-split laws table place.middle us q qs vs begins e in
     let same : shifted start q ≡ p = cc in
     let first_end : start + byte_len cut.before ≡ p.offset = ap (λ n. start + n) cut.start_is ∙ ap (λ (r : Point). r.offset) same in
     let second_start : byte_len (place.front ++ cut.before) ≡ p.offset = byte_len-append place.front cut.before ∙ ap (λ n. n + byte_len cut.before) place.start_is ∙ first_end in
@@ -92,15 +92,15 @@ halves_at table variable cs start end us (q ∷ qs) vs p ps place e at h =
           ∙ ap₂ (λ x y. x ++ y) (ap (elements_of table variable false) (sym cut.before_units)) second_units;
     }
 
-pub halves : (table : TableMap) (variable : Variable) (cs : List ℕ) (start end : ℕ) (us : List (List Point)) (p : Point) (ps : List Point) (vs : List (List Point)) → Part table cs start end (us ++ (p ∷ ps) ∷ vs) → begins_cluster table (p ∷ ps) ≡ true → Halves table variable cs start p.offset end
-halves table variable cs start end us p ps vs part h =
+pub halves : PointLaws → (table : TableMap) (variable : Variable) (cs : List ℕ) (start end : ℕ) (us : List (List Point)) (p : Point) (ps : List Point) (vs : List (List Point)) → Part table cs start end (us ++ (p ∷ ps) ∷ vs) → begins_cluster table (p ∷ ps) ≡ true → Halves table variable cs start p.offset end
+halves laws table variable cs start end us p ps vs part h =
     let s = map_split (map (shifted start)) (units table (points part.place.middle)) us (p ∷ ps) vs part.units_are in
-    halves_at table variable cs start end s.before s.at s.behind p ps part.place s.us_are s.at_is h
+    halves_at laws table variable cs start end s.before s.at s.behind p ps part.place s.us_are s.at_is h
 
 -- ---- clusters in a row, and others behind them
 
-two_parts : (table : TableMap) (strength : Strength) (variable : Variable) (cs : List ℕ) (earlier : List (List Point)) (flag : Bool) (v : List Point) (vs : List (List Point)) (start : ℕ) (d : Cluster) (one : List Cluster) (e : Cluster) (two after : List Cluster) → BeginLater table vs → UnitsCut table cs earlier (v ∷ vs) start → clusters_on table strength variable (after_unit table variable flag v) (record { start = start; keys = unit_keys table strength variable flag v }) vs ≡ (d ∷ one) ++ ((e ∷ two) ++ after) → Halves table variable cs d.start e.start (start_or (byte_len cs) after)
-two_parts table strength variable cs earlier flag v vs start d one e two [] low cut is =
+two_parts : PointLaws → (table : TableMap) (strength : Strength) (variable : Variable) (cs : List ℕ) (earlier : List (List Point)) (flag : Bool) (v : List Point) (vs : List (List Point)) (start : ℕ) (d : Cluster) (one : List Cluster) (e : Cluster) (two after : List Cluster) → BeginLater table vs → UnitsCut table cs earlier (v ∷ vs) start → clusters_on table strength variable (after_unit table variable flag v) (record { start = start; keys = unit_keys table strength variable flag v }) vs ≡ (d ∷ one) ++ ((e ∷ two) ++ after) → Halves table variable cs d.start e.start (start_or (byte_len cs) after)
+two_parts laws table strength variable cs earlier flag v vs start d one e two [] low cut is =
     let begun : Cluster = record { start = start; keys = unit_keys table strength variable flag v } in
     let f = find_cluster table strength variable (after_unit table variable flag v) begun vs d one e (two ++ []) low is in
     let next : Cluster = record { start = f.p.offset; keys = unit_keys table strength variable f.flag (f.p ∷ f.ps) } in
@@ -108,8 +108,8 @@ two_parts table strength variable cs earlier flag v vs start d one e two [] low 
     let from : start ≡ d.start = sym (head_start table strength variable (after_unit table variable flag v) begun vs d (one ++ ((e ∷ two) ++ [])) low is) in
     let at : f.p.offset ≡ e.start = sym (head_start table strength variable (after_unit table variable f.flag (f.p ∷ f.ps)) next f.later e (two ++ []) later (sym f.rest)) in
     let part : Part table cs start (byte_len cs) ((v ∷ f.earlier) ++ (f.p ∷ f.ps) ∷ f.later) = part_to_end table cs earlier v (f.earlier ++ (f.p ∷ f.ps) ∷ f.later) start (subst (λ l. UnitsCut table cs earlier (v ∷ l) start) f.us_are cut) in
-    subst₂ (λ m n. Halves table variable cs m n (byte_len cs)) from at (halves table variable cs start (byte_len cs) (v ∷ f.earlier) f.p f.ps f.later part f.begins)
-two_parts table strength variable cs earlier flag v vs start d one e two (c ∷ after) low cut is =
+    subst₂ (λ m n. Halves table variable cs m n (byte_len cs)) from at (halves laws table variable cs start (byte_len cs) (v ∷ f.earlier) f.p f.ps f.later part f.begins)
+two_parts laws table strength variable cs earlier flag v vs start d one e two (c ∷ after) low cut is =
     let begun : Cluster = record { start = start; keys = unit_keys table strength variable flag v } in
     let f = find_cluster table strength variable (after_unit table variable flag v) begun vs d one e (two ++ c ∷ after) low is in
     let next : Cluster = record { start = f.p.offset; keys = unit_keys table strength variable f.flag (f.p ∷ f.ps) } in
@@ -122,19 +122,19 @@ two_parts table strength variable cs earlier flag v vs start d one e two (c ∷ 
     let us : vs ≡ (f.earlier ++ (f.p ∷ f.ps) ∷ g.earlier) ++ (g.p ∷ g.ps) ∷ g.later =
     f.us_are ∙ ap (λ l. f.earlier ++ (f.p ∷ f.ps) ∷ l) g.us_are ∙ sym (append_assoc f.earlier ((f.p ∷ f.ps) ∷ g.earlier) ((g.p ∷ g.ps) ∷ g.later)) in
     let part : Part table cs start g.p.offset ((v ∷ f.earlier) ++ (f.p ∷ f.ps) ∷ g.earlier) =
-    part_to_start table cs earlier v (f.earlier ++ (f.p ∷ f.ps) ∷ g.earlier) g.p g.ps g.later start g.begins (subst (λ l. UnitsCut table cs earlier (v ∷ l) start) us cut) in
+    part_to_start laws table cs earlier v (f.earlier ++ (f.p ∷ f.ps) ∷ g.earlier) g.p g.ps g.later start g.begins (subst (λ l. UnitsCut table cs earlier (v ∷ l) start) us cut) in
     subst (λ n. Halves table variable cs d.start e.start n) to
-    (subst₂ (λ m n. Halves table variable cs m n g.p.offset) from at (halves table variable cs start g.p.offset (v ∷ f.earlier) f.p f.ps g.earlier part f.begins))
+    (subst₂ (λ m n. Halves table variable cs m n g.p.offset) from at (halves laws table variable cs start g.p.offset (v ∷ f.earlier) f.p f.ps g.earlier part f.begins))
 
-pub halves_of_clusters : (table : TableMap) (strength : Strength) (variable : Variable) (cs : List ℕ) (all before : List Cluster) (d : Cluster) (one : List Cluster) (e : Cluster) (two after : List Cluster) → ByUnits table strength variable cs all → all ≡ before ++ ((d ∷ one) ++ ((e ∷ two) ++ after)) → Halves table variable cs d.start e.start (start_or (byte_len cs) after)
-halves_of_clusters table strength variable cs all [] d one e two after b is =
-    two_parts table strength variable cs [] false b.u b.us 0 d one e two after b.low (whole_cut table cs (b.u ∷ b.us) b.units_are) (sym b.are ∙ is)
-halves_of_clusters table strength variable cs all (c ∷ before) d one e two after b is =
+pub halves_of_clusters : PointLaws → (table : TableMap) (strength : Strength) (variable : Variable) (cs : List ℕ) (all before : List Cluster) (d : Cluster) (one : List Cluster) (e : Cluster) (two after : List Cluster) → ByUnits table strength variable cs all → all ≡ before ++ ((d ∷ one) ++ ((e ∷ two) ++ after)) → Halves table variable cs d.start e.start (start_or (byte_len cs) after)
+halves_of_clusters laws table strength variable cs all [] d one e two after b is =
+    two_parts laws table strength variable cs [] false b.u b.us 0 d one e two after b.low (whole_cut table cs (b.u ∷ b.us) b.units_are) (sym b.are ∙ is)
+halves_of_clusters laws table strength variable cs all (c ∷ before) d one e two after b is =
     let begun : Cluster = record { start = 0; keys = unit_keys table strength variable false b.u } in
     let f = find_cluster table strength variable (after_unit table variable false b.u) begun b.us c before d (one ++ ((e ∷ two) ++ after)) b.low (sym b.are ∙ is) in
     let us : units table (points cs) ≡ (b.u ∷ f.earlier) ++ (f.p ∷ f.ps) ∷ f.later = b.units_are ∙ ap (λ l. b.u ∷ l) f.us_are in
-    let cut = units-split table cs (b.u ∷ f.earlier) f.p f.ps f.later f.begins us in
-    two_parts table strength variable cs (b.u ∷ f.earlier) f.flag (f.p ∷ f.ps) f.later f.p.offset d one e two after
+    let cut = units-split laws table cs (b.u ∷ f.earlier) f.p f.ps f.later f.begins us in
+    two_parts laws table strength variable cs (b.u ∷ f.earlier) f.flag (f.p ∷ f.ps) f.later f.p.offset d one e two after
     (BeginLater-suffix table b.us f.earlier (f.p ∷ f.ps) f.later f.us_are b.low)
     cut
     (sym f.rest)
@@ -150,25 +150,25 @@ elements-none table variable text at =
     ∙ ap (λ l. elements table variable (points l)) chars-nil
     ∙ ap (elements table variable) points-nil
 
-joined_at : (table : TableMap) (strength : Strength) (variable : Variable) (text : List ℕ) (before one two after : List Cluster) → IsUtf8 text → clusters table strength variable text ≡ before ++ (one ++ (two ++ after)) → elements_between table variable text (start_or (length text) (one ++ (two ++ after))) (start_or (length text) after) ≡ elements_between table variable text (start_or (length text) (one ++ (two ++ after))) (start_or (length text) (two ++ after)) ++ elements_between table variable text (start_or (length text) (two ++ after)) (start_or (length text) after)
-joined_at table strength variable text before [] two after utf8 is =
+joined_at : PointLaws → (table : TableMap) (strength : Strength) (variable : Variable) (text : List ℕ) (before one two after : List Cluster) → IsUtf8 text → clusters table strength variable text ≡ before ++ (one ++ (two ++ after)) → elements_between table variable text (start_or (length text) (one ++ (two ++ after))) (start_or (length text) after) ≡ elements_between table variable text (start_or (length text) (one ++ (two ++ after))) (start_or (length text) (two ++ after)) ++ elements_between table variable text (start_or (length text) (two ++ after)) (start_or (length text) after)
+joined_at laws table strength variable text before [] two after utf8 is =
     ap (λ l. l ++ elements_between table variable text (start_or (length text) (two ++ after)) (start_or (length text) after)) (sym (elements-none table variable text (start_or (length text) (two ++ after))))
-joined_at table strength variable text before (d ∷ one) [] after utf8 is =
+joined_at laws table strength variable text before (d ∷ one) [] after utf8 is =
     sym (append-nil (elements_between table variable text d.start (start_or (length text) after)))
     ∙ ap (λ l. elements_between table variable text d.start (start_or (length text) after) ++ l) (sym (elements-none table variable text (start_or (length text) after)))
-joined_at table strength variable [] before (d ∷ one) (e ∷ two) after utf8 is =
+joined_at laws table strength variable [] before (d ∷ one) (e ∷ two) after utf8 is =
     let counts : 0 ≡ length (before ++ ((d ∷ one) ++ ((e ∷ two) ++ after))) = ap length is in
     absurd (omega (arith, length-append before ((d ∷ one) ++ ((e ∷ two) ++ after))))
-joined_at table strength variable (b ∷ bs) before (d ∷ one) (e ∷ two) after utf8 is =
+joined_at laws table strength variable (b ∷ bs) before (d ∷ one) (e ∷ two) after utf8 is =
     let text = b ∷ bs in
-    let len : byte_len utf8.0 ≡ length text = byte_len-encode utf8.0 ∙ ap length utf8.1.1 in
+    let len : byte_len utf8.0 ≡ length text = laws.bytes utf8.0 ∙ ap length utf8.1.1 in
     let end = start_or (length text) after in
     let h = subst (λ n. Halves table variable utf8.0 d.start e.start (start_or n after)) len
-    (halves_of_clusters table strength variable utf8.0 (clusters table strength variable text) before d one e two after (text_by_units table strength variable b bs utf8.0 utf8.1.0 utf8.1.1) is) in
+    (halves_of_clusters laws table strength variable utf8.0 (clusters table strength variable text) before d one e two after (text_by_units laws table strength variable b bs utf8.0 utf8.1.0 utf8.1.1) is) in
     let of = λ (l : List ℕ). elements table variable (points l) in
-    ap of (place-chars text utf8.0 d.start end utf8.1.0 utf8.1.1 h.whole)
+    ap of (place-chars laws text utf8.0 d.start end utf8.1.0 utf8.1.1 h.whole)
     ∙ h.elements_are
-    ∙ sym (ap₂ (λ x y. x ++ y) (ap of (place-chars text utf8.0 d.start e.start utf8.1.0 utf8.1.1 h.first)) (ap of (place-chars text utf8.0 e.start end utf8.1.0 utf8.1.1 h.second)))
+    ∙ sym (ap₂ (λ x y. x ++ y) (ap of (place-chars laws text utf8.0 d.start e.start utf8.1.0 utf8.1.1 h.first)) (ap of (place-chars laws text utf8.0 e.start end utf8.1.0 utf8.1.1 h.second)))
 
 -- ---- boundaries among the starts
 
@@ -245,34 +245,34 @@ between len all start middle end rise has_start has_middle has_end low high =
       end_is = third.start_is;
     }
 
-boundaries_between : (table : TableMap) (strength : Strength) (variable : Variable) (text : List ℕ) (start middle end : ℕ) → IsUtf8 text → Contains (boundaries table text) start → Contains (boundaries table text) middle → Contains (boundaries table text) end → start ≤ middle → middle ≤ end → Between (length text) (clusters table strength variable text) start middle end
-boundaries_between table strength variable text start middle end utf8 has_start has_middle has_end low high =
+boundaries_between : PointLaws → (table : TableMap) (strength : Strength) (variable : Variable) (text : List ℕ) (start middle end : ℕ) → IsUtf8 text → Contains (boundaries table text) start → Contains (boundaries table text) middle → Contains (boundaries table text) end → start ≤ middle → middle ≤ end → Between (length text) (clusters table strength variable text) start middle end
+boundaries_between laws table strength variable text start middle end utf8 has_start has_middle has_end low high =
     let len = length text in
     let all = clusters table strength variable text in
-    let found = λ (n : ℕ) (h : Contains (boundaries table text) n). is_in-from_Contains (starts all ++ len ∷ []) n (subst (λ l. Contains l n) (boundaries_start table strength variable text utf8) h) in
-    between len all start middle end (starts_rise table strength variable text utf8) (found start has_start) (found middle has_middle) (found end has_end) low high
+    let found = λ (n : ℕ) (h : Contains (boundaries table text) n). is_in-from_Contains (starts all ++ len ∷ []) n (subst (λ l. Contains l n) (boundaries_start laws table strength variable text utf8) h) in
+    between len all start middle end (starts_rise laws table strength variable text utf8) (found start has_start) (found middle has_middle) (found end has_end) low high
 
-pub elements_join : ElementsAreJoined
-elements_join table variable text start middle end utf8 has_start has_middle has_end low high =
-    let b = boundaries_between table One variable text start middle end utf8 has_start has_middle has_end low high in
+pub elements_join : PointLaws → ElementsAreJoined
+elements_join laws table variable text start middle end utf8 has_start has_middle has_end low high =
+    let b = boundaries_between laws table One variable text start middle end utf8 has_start has_middle has_end low high in
     let of = elements_between table variable text in
     subst (λ n. of start n ≡ of start middle ++ of middle n) b.end_is
     (subst₂ (λ n m. of n (start_or (length text) b.after) ≡ of n m ++ of m (start_or (length text) b.after)) b.start_is b.middle_is
-    (joined_at table One variable text b.before b.one b.two b.after utf8 b.all_are))
+    (joined_at laws table One variable text b.before b.one b.two b.after utf8 b.all_are))
 
-pub keys_join : KeysAreJoined
-keys_join table strength variable text start middle end utf8 has_start has_middle has_end low high =
-    let b = boundaries_between table strength variable text start middle end utf8 has_start has_middle has_end low high in
+pub keys_join : PointLaws → KeysAreJoined
+keys_join laws table strength variable text start middle end utf8 has_start has_middle has_end low high =
+    let b = boundaries_between laws table strength variable text start middle end utf8 has_start has_middle has_end low high in
     let of = λ (from : ℕ) (to : ℕ). keys table strength variable (points (chars (part_between text from to))) in
     let at_start = start_or (length text) (b.one ++ (b.two ++ b.after)) in
     let at_middle = start_or (length text) (b.two ++ b.after) in
     let at_end = start_or (length text) b.after in
     let both : of at_start at_end ≡ joined (b.one ++ b.two) =
     ap (λ l. of (start_or (length text) l) at_end) (sym (append_assoc b.one b.two b.after))
-    ∙ parts_have_keys table strength variable text b.before (b.one ++ b.two) b.after utf8 (b.all_are ∙ ap (λ l. b.before ++ l) (sym (append_assoc b.one b.two b.after))) in
-    let first : of at_start at_middle ≡ joined b.one = parts_have_keys table strength variable text b.before b.one (b.two ++ b.after) utf8 b.all_are in
+    ∙ parts_have_keys laws table strength variable text b.before (b.one ++ b.two) b.after utf8 (b.all_are ∙ ap (λ l. b.before ++ l) (sym (append_assoc b.one b.two b.after))) in
+    let first : of at_start at_middle ≡ joined b.one = parts_have_keys laws table strength variable text b.before b.one (b.two ++ b.after) utf8 b.all_are in
     let second : of at_middle at_end ≡ joined b.two =
-    parts_have_keys table strength variable text (b.before ++ b.one) b.two b.after utf8 (b.all_are ∙ sym (append_assoc b.before b.one (b.two ++ b.after))) in
+    parts_have_keys laws table strength variable text (b.before ++ b.one) b.two b.after utf8 (b.all_are ∙ sym (append_assoc b.before b.one (b.two ++ b.after))) in
     let joins : of at_start at_end ≡ of at_start at_middle ++ of at_middle at_end =
     both ∙ flat_map-append (λ (c : Cluster). c.keys) b.one b.two ∙ sym (ap₂ (λ x y. x ++ y) first second) in
     subst (λ n. of start n ≡ of start middle ++ of middle n) b.end_is

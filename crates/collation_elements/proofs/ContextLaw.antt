@@ -6,7 +6,6 @@ use Rattle.std.specs.Str.{chars, IsUtf8}
 use lib.Utf8.{scalars}
 use Rattle.nfd_points.specs.declared.points.Point.{Point}
 use Rattle.nfd_points.specs.Points.{byte_len, points, shifted}
-use Rattle.nfd_points.proofs.PointsLemmas.{byte_len-nil, byte_len-encode}
 use Rattle.collation_table.specs.Table.{TableMap}
 use Rattle.collation_elements.specs.declared.settings.Variable.{Variable}
 use Rattle.collation_elements.specs.declared.settings.Strength.{Strength}
@@ -17,6 +16,7 @@ use Rattle.collation_elements.specs.Items.{after_unit, items}
 use Rattle.collation_elements.specs.Boundaries.{unit_starts}
 use Rattle.collation_elements.specs.Clusters.{Cluster, clusters_of, clusters, starts, start_or, joined}
 use Rattle.collation_elements.specs.Context.{UnitsCut, part_between, PartsHaveTheKeysOfClusters, PartsAreTexts}
+use Rattle.collation_elements.proofs.PointLaws.{PointLaws, byte_len-nil}
 use Rattle.collation_elements.proofs.ContextTexts.{units-split, begins_cluster-parts}
 use Rattle.collation_elements.proofs.ContextWeights.{keys_of, keys_of-primary}
 use Rattle.collation_elements.proofs.ContextClusters.{clusters_on, clusters_on-more, clusters_on-first, unit_keys, BeginLater, starts-clusters_on, joined-clusters_on, find_cluster}
@@ -32,22 +32,22 @@ pub record ByUnits (table : TableMap) (strength : Strength) (variable : Variable
   pub low : BeginLater table us
   pub are : all ≡ clusters_on table strength variable (after_unit table variable false u) (record { start = 0; keys = unit_keys table strength variable false u }) us
 
-first_cluster : (table : TableMap) (strength : Strength) (variable : Variable) (cs : List ℕ) (u : List Point) (us : List (List Point)) → units table (points cs) ≡ u ∷ us → clusters_on table strength variable false (record { start = 0; keys = [] }) (u ∷ us) ≡ clusters_on table strength variable (after_unit table variable false u) (record { start = 0; keys = unit_keys table strength variable false u }) us
-first_cluster table strength variable cs [] us e = clusters_on-more table strength variable false (record { start = 0; keys = [] }) [] us refl
-first_cluster table strength variable cs (p ∷ ps) us e =
+first_cluster : PointLaws → (table : TableMap) (strength : Strength) (variable : Variable) (cs : List ℕ) (u : List Point) (us : List (List Point)) → units table (points cs) ≡ u ∷ us → clusters_on table strength variable false (record { start = 0; keys = [] }) (u ∷ us) ≡ clusters_on table strength variable (after_unit table variable false u) (record { start = 0; keys = unit_keys table strength variable false u }) us
+first_cluster laws table strength variable cs [] us e = clusters_on-more table strength variable false (record { start = 0; keys = [] }) [] us refl
+first_cluster laws table strength variable cs (p ∷ ps) us e =
     elim (cases_Bool (begins_cluster table (p ∷ ps))) [
-      | inl begins ↦ clusters_on-first table strength variable false (record { start = 0; keys = [] }) p ps us begins (starts_at_zero table cs p ps us begins e)
+      | inl begins ↦ clusters_on-first table strength variable false (record { start = 0; keys = [] }) p ps us begins (starts_at_zero laws table cs p ps us begins e)
       | inr more ↦ clusters_on-more table strength variable false (record { start = 0; keys = [] }) (p ∷ ps) us more
     ]
 
-by_units : (table : TableMap) (strength : Strength) (variable : Variable) (c : ℕ) (cs : List ℕ) (us : List (List Point)) → units table (points (c ∷ cs)) ≡ us → ByUnits table strength variable (c ∷ cs) (clusters_of (items table strength variable false us))
-by_units table strength variable c cs [] e = let none : c ∷ cs ≡ [] = units-none table (c ∷ cs) e in absurd cc
-by_units table strength variable c cs (u ∷ us) e = record {
+by_units : PointLaws → (table : TableMap) (strength : Strength) (variable : Variable) (c : ℕ) (cs : List ℕ) (us : List (List Point)) → units table (points (c ∷ cs)) ≡ us → ByUnits table strength variable (c ∷ cs) (clusters_of (items table strength variable false us))
+by_units laws table strength variable c cs [] e = let none : c ∷ cs ≡ [] = units-none laws table (c ∷ cs) e in absurd cc
+by_units laws table strength variable c cs (u ∷ us) e = record {
   u = u;
   us = us;
   units_are = e;
-  low = λ earlier p ps later same begins. starts_later table (c ∷ cs) u earlier p ps later begins (e ∙ ap (λ l. u ∷ l) same);
-  are = first_cluster table strength variable (c ∷ cs) u us e;
+  low = λ earlier p ps later same begins. starts_later laws table (c ∷ cs) u earlier p ps later begins (e ∙ ap (λ l. u ∷ l) same);
+  are = first_cluster laws table strength variable (c ∷ cs) u us e;
 }
 
 -- ---- clusters in a row
@@ -71,8 +71,8 @@ abbrev Settles : TableMap → Strength → Variable → Bool → List Point → 
 Settles table strength variable flag v = (us : List (List Point)) → keys_of table strength variable flag (v ∷ us) ≡ keys_of table strength variable false (v ∷ us)
 
 -- the clusters from one on, of which the first is made by the unit v
-part_of : (table : TableMap) (strength : Strength) (variable : Variable) (cs : List ℕ) (earlier : List (List Point)) (flag : Bool) (v : List Point) (vs : List (List Point)) (start : ℕ) (d : Cluster) (inside after : List Cluster) → Settles table strength variable flag v → BeginLater table vs → UnitsCut table cs earlier (v ∷ vs) start → clusters_on table strength variable (after_unit table variable flag v) (record { start = start; keys = unit_keys table strength variable flag v }) vs ≡ (d ∷ inside) ++ after → InClusters table strength variable cs d.start (start_or (byte_len cs) after) (d ∷ inside)
-part_of table strength variable cs earlier flag v vs start d inside [] settles low cut e =
+part_of : PointLaws → (table : TableMap) (strength : Strength) (variable : Variable) (cs : List ℕ) (earlier : List (List Point)) (flag : Bool) (v : List Point) (vs : List (List Point)) (start : ℕ) (d : Cluster) (inside after : List Cluster) → Settles table strength variable flag v → BeginLater table vs → UnitsCut table cs earlier (v ∷ vs) start → clusters_on table strength variable (after_unit table variable flag v) (record { start = start; keys = unit_keys table strength variable flag v }) vs ≡ (d ∷ inside) ++ after → InClusters table strength variable cs d.start (start_or (byte_len cs) after) (d ∷ inside)
+part_of laws table strength variable cs earlier flag v vs start d inside [] settles low cut e =
     let begun : Cluster = record { start = start; keys = unit_keys table strength variable flag v } in
     let at : start ≡ d.start = sym (head_start table strength variable (after_unit table variable flag v) begun vs d (inside ++ []) low e) in
     record {
@@ -80,7 +80,7 @@ part_of table strength variable cs earlier flag v vs start d inside [] settles l
       part = subst (λ n. Part table cs n (byte_len cs) (v ∷ vs)) at (part_to_end table cs earlier v vs start cut);
       keys = sym (settles vs) ∙ sym (joined-clusters_on table strength variable (after_unit table variable flag v) begun vs low) ∙ ap joined e ∙ ap joined (append-nil (d ∷ inside));
     }
-part_of table strength variable cs earlier flag v vs start d inside (c ∷ after) settles low cut e =
+part_of laws table strength variable cs earlier flag v vs start d inside (c ∷ after) settles low cut e =
     let begun : Cluster = record { start = start; keys = unit_keys table strength variable flag v } in
     let f = find_cluster table strength variable (after_unit table variable flag v) begun vs d inside c after low e in
     let at : start ≡ d.start = sym (head_start table strength variable (after_unit table variable flag v) begun vs d (inside ++ c ∷ after) low e) in
@@ -91,7 +91,7 @@ part_of table strength variable cs earlier flag v vs start d inside (c ∷ after
       vs = v ∷ f.earlier;
       part =
           subst₂ (λ n m. Part table cs n m (v ∷ f.earlier)) at to
-          (part_to_start table cs earlier v f.earlier f.p f.ps f.later start f.begins (subst (λ l. UnitsCut table cs earlier (v ∷ l) start) f.us_are cut));
+          (part_to_start laws table cs earlier v f.earlier f.p f.ps f.later start f.begins (subst (λ l. UnitsCut table cs earlier (v ∷ l) start) f.us_are cut));
       keys = sym (settles f.earlier) ∙ sym f.keys;
     }
 
@@ -115,16 +115,16 @@ whole_cut table cs us e = record {
     shift_none (u ∷ us) = ap₂ (λ x xs. x ∷ xs) (shift_points u) (shift_none us)
 
 -- clusters in a row, with those before them
-pub part_of_clusters : (table : TableMap) (strength : Strength) (variable : Variable) (cs : List ℕ) (all before : List Cluster) (d : Cluster) (inside after : List Cluster) → ByUnits table strength variable cs all → all ≡ before ++ ((d ∷ inside) ++ after) → InClusters table strength variable cs d.start (start_or (byte_len cs) after) (d ∷ inside)
-part_of_clusters table strength variable cs all [] d inside after b e =
-    part_of table strength variable cs [] false b.u b.us 0 d inside after (λ us. refl) b.low (whole_cut table cs (b.u ∷ b.us) b.units_are) (sym b.are ∙ e)
-part_of_clusters table strength variable cs all (c ∷ before) d inside after b e =
+pub part_of_clusters : PointLaws → (table : TableMap) (strength : Strength) (variable : Variable) (cs : List ℕ) (all before : List Cluster) (d : Cluster) (inside after : List Cluster) → ByUnits table strength variable cs all → all ≡ before ++ ((d ∷ inside) ++ after) → InClusters table strength variable cs d.start (start_or (byte_len cs) after) (d ∷ inside)
+part_of_clusters laws table strength variable cs all [] d inside after b e =
+    part_of laws table strength variable cs [] false b.u b.us 0 d inside after (λ us. refl) b.low (whole_cut table cs (b.u ∷ b.us) b.units_are) (sym b.are ∙ e)
+part_of_clusters laws table strength variable cs all (c ∷ before) d inside after b e =
     let begun : Cluster = record { start = 0; keys = unit_keys table strength variable false b.u } in
     let f = find_cluster table strength variable (after_unit table variable false b.u) begun b.us c before d (inside ++ after) b.low (sym b.are ∙ e) in
     let us : units table (points cs) ≡ (b.u ∷ f.earlier) ++ (f.p ∷ f.ps) ∷ f.later = b.units_are ∙ ap (λ l. b.u ∷ l) f.us_are in
-    let cut = units-split table cs (b.u ∷ f.earlier) f.p f.ps f.later f.begins us in
+    let cut = units-split laws table cs (b.u ∷ f.earlier) f.p f.ps f.later f.begins us in
     let primary = (begins_cluster-parts table f.p f.ps f.begins).2 in
-    part_of table strength variable cs (b.u ∷ f.earlier) f.flag (f.p ∷ f.ps) f.later f.p.offset d inside after
+    part_of laws table strength variable cs (b.u ∷ f.earlier) f.flag (f.p ∷ f.ps) f.later f.p.offset d inside after
     (λ us. keys_of-primary table strength variable f.flag (f.p ∷ f.ps) us primary)
     (BeginLater-suffix table b.us f.earlier (f.p ∷ f.ps) f.later f.us_are b.low)
     cut
@@ -133,38 +133,38 @@ part_of_clusters table strength variable cs all (c ∷ before) d inside after b 
 -- ---- texts of bytes
 
 -- a text that is not empty has a code point
-pub text_by_units : (table : TableMap) (strength : Strength) (variable : Variable) (b : ℕ) (bs cs : List ℕ) → scalars cs ≡ true → encode_utf8_all cs ≡ b ∷ bs → ByUnits table strength variable cs (clusters table strength variable (b ∷ bs))
-text_by_units table strength variable b bs [] h e = absurd cc
-text_by_units table strength variable b bs (c ∷ cs) h e =
+pub text_by_units : PointLaws → (table : TableMap) (strength : Strength) (variable : Variable) (b : ℕ) (bs cs : List ℕ) → scalars cs ≡ true → encode_utf8_all cs ≡ b ∷ bs → ByUnits table strength variable cs (clusters table strength variable (b ∷ bs))
+text_by_units laws table strength variable b bs [] h e = absurd cc
+text_by_units laws table strength variable b bs (c ∷ cs) h e =
     let are : c ∷ cs ≡ chars (b ∷ bs) = sym (chars-encodes (c ∷ cs) h) ∙ ap chars e in
-    by_units table strength variable c cs (units table (points (chars (b ∷ bs)))) (ap (λ l. units table (points l)) are)
+    by_units laws table strength variable c cs (units table (points (chars (b ∷ bs)))) (ap (λ l. units table (points l)) are)
 
-pub text_part : (table : TableMap) (strength : Strength) (variable : Variable) (text : List ℕ) (before : List Cluster) (d : Cluster) (inside after : List Cluster) → (utf8 : IsUtf8 text) → clusters table strength variable text ≡ before ++ ((d ∷ inside) ++ after) → InClusters table strength variable utf8.0 d.start (start_or (length text) after) (d ∷ inside)
-text_part table strength variable [] before d inside after utf8 e =
+pub text_part : PointLaws → (table : TableMap) (strength : Strength) (variable : Variable) (text : List ℕ) (before : List Cluster) (d : Cluster) (inside after : List Cluster) → (utf8 : IsUtf8 text) → clusters table strength variable text ≡ before ++ ((d ∷ inside) ++ after) → InClusters table strength variable utf8.0 d.start (start_or (length text) after) (d ∷ inside)
+text_part laws table strength variable [] before d inside after utf8 e =
     let counts : 0 ≡ length (before ++ ((d ∷ inside) ++ after)) = ap length e in
     absurd (omega (arith, length-append before ((d ∷ inside) ++ after)))
-text_part table strength variable (b ∷ bs) before d inside after utf8 e =
-    let len : byte_len utf8.0 ≡ length (b ∷ bs) = byte_len-encode utf8.0 ∙ ap length utf8.1.1 in
-    let part = part_of_clusters table strength variable utf8.0 (clusters table strength variable (b ∷ bs)) before d inside after (text_by_units table strength variable b bs utf8.0 utf8.1.0 utf8.1.1) e in
+text_part laws table strength variable (b ∷ bs) before d inside after utf8 e =
+    let len : byte_len utf8.0 ≡ length (b ∷ bs) = laws.bytes utf8.0 ∙ ap length utf8.1.1 in
+    let part = part_of_clusters laws table strength variable utf8.0 (clusters table strength variable (b ∷ bs)) before d inside after (text_by_units laws table strength variable b bs utf8.0 utf8.1.0 utf8.1.1) e in
     subst (λ n. InClusters table strength variable utf8.0 d.start (start_or n after) (d ∷ inside)) len part
 
 pub no_part : (text : List ℕ) (at : ℕ) → part_between text at at ≡ []
 no_part text at = let none : at - at ≡ 0 = omega arith in ap (λ n. take n (drop at text)) none
 
-pub parts_have_keys : PartsHaveTheKeysOfClusters
-parts_have_keys table strength variable text before [] after utf8 e =
+pub parts_have_keys : PointLaws → PartsHaveTheKeysOfClusters
+parts_have_keys laws table strength variable text before [] after utf8 e =
     ap (λ l. keys table strength variable (points (chars l))) (no_part text (start_or (length text) after))
     ∙ ap (λ l. keys table strength variable (points l)) chars-nil
     ∙ ap (keys table strength variable) points-nil
-parts_have_keys table strength variable text before (d ∷ inside) after utf8 e =
-    let part = text_part table strength variable text before d inside after utf8 e in
-    ap (λ l. keys table strength variable (points l)) (place-chars text utf8.0 d.start (start_or (length text) after) utf8.1.0 utf8.1.1 part.part.place)
+parts_have_keys laws table strength variable text before (d ∷ inside) after utf8 e =
+    let part = text_part laws table strength variable text before d inside after utf8 e in
+    ap (λ l. keys table strength variable (points l)) (place-chars laws text utf8.0 d.start (start_or (length text) after) utf8.1.0 utf8.1.1 part.part.place)
     ∙ part_keys table strength variable utf8.0 d.start (start_or (length text) after) part.vs part.part
     ∙ part.keys
 
-pub parts_are_utf8 : PartsAreTexts
-parts_are_utf8 table strength variable text before [] after utf8 e = subst IsUtf8 (sym (no_part text (start_or (length text) after))) IsUtf8-nil
-parts_are_utf8 table strength variable text before (d ∷ inside) after utf8 e =
-    let part = text_part table strength variable text before d inside after utf8 e in
-    let bytes = place-bytes text utf8.0 d.start (start_or (length text) after) utf8.1.0 utf8.1.1 part.part.place in
+pub parts_are_utf8 : PointLaws → PartsAreTexts
+parts_are_utf8 laws table strength variable text before [] after utf8 e = subst IsUtf8 (sym (no_part text (start_or (length text) after))) IsUtf8-nil
+parts_are_utf8 laws table strength variable text before (d ∷ inside) after utf8 e =
+    let part = text_part laws table strength variable text before d inside after utf8 e in
+    let bytes = place-bytes laws text utf8.0 d.start (start_or (length text) after) utf8.1.0 utf8.1.1 part.part.place in
     (part.part.middle, (bytes.1, sym bytes.0))

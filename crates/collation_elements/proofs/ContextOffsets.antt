@@ -7,8 +7,9 @@ use Rattle.nfd_points.specs.declared.points.Point.{Point}
 use Rattle.nfd_points.specs.Points.{is_starter, shifted}
 use Rattle.collation_table.specs.Table.{TableMap, is_key, longest_front, row_of, implicit_pair}
 use Rattle.collation_elements.specs.Units.{codes, blocks, joins, Cut, extended, first_unit, units_within, units}
+use Rattle.collation_elements.specs.Windows.{front_length}
 use Rattle.collation_elements.specs.Elements.{unit_row, begins_cluster, begins_primary}
-use Rattle.collation_elements.proofs.ContextUnits.{extended-stop, extended-taken, extended-left, front_length, cut_at}
+use Rattle.collation_elements.proofs.ContextUnits.{extended-stop, extended-taken, extended-left, cut_at}
 
 pub codes-shift : (by : ℕ) (ps : List Point) → codes (map (shifted by) ps) ≡ codes ps
 codes-shift by [] = refl
@@ -57,7 +58,7 @@ cut_at-shift table by n ps =
 pub first_unit-shift : (table : TableMap) (by : ℕ) (p : Point) (ps : List Point) → first_unit table (shifted by p) (map (shifted by) ps) ≡ shifted_cut by (first_unit table p ps)
 first_unit-shift table by p ps =
     ap (λ l. cut_at table (max 1 (longest_front table (p.cp ∷ l))) (map (shifted by) (p ∷ ps))) (codes-shift by ps)
-    ∙ cut_at-shift table by (front_length table p ps) (p ∷ ps)
+    ∙ cut_at-shift table by (front_length table (p ∷ ps)) (p ∷ ps)
 
 units_within-shift : (fuel : List Point) (table : TableMap) (by : ℕ) (ps : List Point) → units_within (map (shifted by) fuel) table (map (shifted by) ps) ≡ map (map (shifted by)) (units_within fuel table ps)
 units_within-shift [] table by ps = refl

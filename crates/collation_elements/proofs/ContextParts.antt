@@ -8,9 +8,6 @@ use Rattle.std.specs.Str.{chars}
 use lib.Utf8.{scalar, scalars}
 use Rattle.nfd_points.specs.declared.points.Point.{Point}
 use Rattle.nfd_points.specs.Points.{decomposition, byte_len, points_at, points_of, points_from, ordered, points, shifted}
-use Rattle.nfd_points.proofs.DecompositionLemmas.{decomposition-some}
-use Rattle.nfd_points.proofs.OrderingLemmas.{length-ordered, ordered-nil}
-use Rattle.nfd_points.proofs.PointsLemmas.{byte_len-cons, byte_len-nil, byte_len-append, byte_len-encode, points_from-cons, points_from-nil}
 use Rattle.collation_table.specs.Table.{TableMap}
 use Rattle.collation_elements.specs.declared.settings.Variable.{Variable}
 use Rattle.collation_elements.specs.declared.settings.Strength.{Strength}
@@ -21,6 +18,7 @@ use Rattle.collation_elements.specs.Context.{UnitsCut, part_between}
 use Rattle.collation_elements.proofs.ContextUnits.{units-cons}
 use Rattle.collation_elements.proofs.ContextOffsets.{begins_cluster-shift}
 use Rattle.collation_elements.proofs.ContextTexts.{units-split}
+use Rattle.collation_elements.proofs.PointLaws.{PointLaws, byte_len-cons, byte_len-nil, byte_len-append, points_from-cons, points_from-nil, ordered-nil}
 use Rattle.collation_elements.proofs.ContextWeights.{keys_of, keys_of-rows, keys_of-shift}
 
 -- ---- a text with characters has points and units
@@ -30,19 +28,19 @@ unfolding points_at
 length-points_at start is_first [] = refl
 length-points_at start is_first (d ∷ ds) = ap suc (length-points_at start false ds)
 
-pub some_points : (c : ℕ) (cs : List ℕ) → 1 ≤ length (points (c ∷ cs))
-some_points c cs =
+pub some_points : PointLaws → (c : ℕ) (cs : List ℕ) → 1 ≤ length (points (c ∷ cs))
+some_points laws c cs =
     let all : length (points (c ∷ cs)) ≡ length (points_of 0 c) + length (points_from (0 + len_utf8 c) cs) =
-    length-ordered (points_from 0 (c ∷ cs)) ∙ ap length (points_from-cons 0 c cs) ∙ length-append (points_of 0 c) (points_from (0 + len_utf8 c) cs) in
+    laws.ordering_counts (points_from 0 (c ∷ cs)) ∙ ap length (points_from-cons 0 c cs) ∙ length-append (points_of 0 c) (points_from (0 + len_utf8 c) cs) in
     let first : length (points_of 0 c) ≡ length (decomposition c) = length-points_at 0 true (decomposition c) in
-    omega (arith, decomposition-some c)
+    omega (arith, (laws.short c).0)
 
 pub points-nil : points [] ≡ []
 points-nil = ap ordered (points_from-nil 0) ∙ ordered-nil
 
-pub units-none : (table : TableMap) (cs : List ℕ) → units table (points cs) ≡ [] → cs ≡ []
-units-none table [] e = refl
-units-none table (c ∷ cs) e = absurd (no_units (points (c ∷ cs)) (some_points c cs) e)
+pub units-none : PointLaws → (table : TableMap) (cs : List ℕ) → units table (points cs) ≡ [] → cs ≡ []
+units-none laws table [] e = refl
+units-none laws table (c ∷ cs) e = absurd (no_units (points (c ∷ cs)) (some_points laws c cs) e)
   where
     no_units : (ps : List Point) → 1 ≤ length ps → units table ps ≡ [] → ⊥
     no_units [] h e = omega arith
@@ -52,15 +50,15 @@ pub byte_len-pos : (c : ℕ) (cs : List ℕ) → 0 < byte_len (c ∷ cs)
 byte_len-pos c cs = omega (arith, byte_len-cons c cs, (len_utf8_bounds c).0)
 
 -- a unit that begins a cluster begins it at 0 exactly where it is the first one
-pub starts_at_zero : (table : TableMap) (cs : List ℕ) (p : Point) (ps : List Point) (vs : List (List Point)) → begins_cluster table (p ∷ ps) ≡ true → units table (points cs) ≡ (p ∷ ps) ∷ vs → (p.offset == 0) ≡ true
-starts_at_zero table cs p ps vs h e =
-    let cut = units-split table cs [] p ps vs h e in
-    let none : byte_len cut.before ≡ 0 = ap byte_len (units-none table cut.before cut.before_units) ∙ byte_len-nil in
+pub starts_at_zero : PointLaws → (table : TableMap) (cs : List ℕ) (p : Point) (ps : List Point) (vs : List (List Point)) → begins_cluster table (p ∷ ps) ≡ true → units table (points cs) ≡ (p ∷ ps) ∷ vs → (p.offset == 0) ≡ true
+starts_at_zero laws table cs p ps vs h e =
+    let cut = units-split laws table cs [] p ps vs h e in
+    let none : byte_len cut.before ≡ 0 = ap byte_len (units-none laws table cut.before cut.before_units) ∙ byte_len-nil in
     eq-eqb p.offset 0 (sym cut.start_is ∙ none)
 
-pub starts_later : (table : TableMap) (cs : List ℕ) (u : List Point) (us : List (List Point)) (p : Point) (ps : List Point) (vs : List (List Point)) → begins_cluster table (p ∷ ps) ≡ true → units table (points cs) ≡ (u ∷ us) ++ (p ∷ ps) ∷ vs → (p.offset == 0) ≡ false
-starts_later table cs u us p ps vs h e =
-    let cut = units-split table cs (u ∷ us) p ps vs h e in
+pub starts_later : PointLaws → (table : TableMap) (cs : List ℕ) (u : List Point) (us : List (List Point)) (p : Point) (ps : List Point) (vs : List (List Point)) → begins_cluster table (p ∷ ps) ≡ true → units table (points cs) ≡ (u ∷ us) ++ (p ∷ ps) ∷ vs → (p.offset == 0) ≡ false
+starts_later laws table cs u us p ps vs h e =
+    let cut = units-split laws table cs (u ∷ us) p ps vs h e in
     some cut.before cut.before_units cut.start_is
   where
     some : (before : List ℕ) → units table (points before) ≡ u ∷ us → byte_len before ≡ p.offset → (p.offset == 0) ≡ false
@@ -142,12 +140,12 @@ part_to_end table cs us v vs start cut =
     }
 
 -- the text from one place on up to the start of a cluster
-part_between_cuts : (table : TableMap) (cs front behind : List ℕ) (us : List (List Point)) (at : List Point) (vs : List (List Point)) (w : List Point) (ws : List (List Point)) (q : Point) (qs : List Point) → cs ≡ front ++ behind → units table (points behind) ≡ us ++ at ∷ vs → map (map (shifted (byte_len front))) us ≡ w ∷ ws → map (shifted (byte_len front)) at ≡ q ∷ qs → begins_cluster table (q ∷ qs) ≡ true → Part table cs (byte_len front) q.offset (w ∷ ws)
-part_between_cuts table cs front behind us [] vs w ws q qs cs_are e before at h = absurd cc
-part_between_cuts table cs front behind us (p ∷ ps) vs w ws q qs cs_are e before at h =
+part_between_cuts : PointLaws → (table : TableMap) (cs front behind : List ℕ) (us : List (List Point)) (at : List Point) (vs : List (List Point)) (w : List Point) (ws : List (List Point)) (q : Point) (qs : List Point) → cs ≡ front ++ behind → units table (points behind) ≡ us ++ at ∷ vs → map (map (shifted (byte_len front))) us ≡ w ∷ ws → map (shifted (byte_len front)) at ≡ q ∷ qs → begins_cluster table (q ∷ qs) ≡ true → Part table cs (byte_len front) q.offset (w ∷ ws)
+part_between_cuts laws table cs front behind us [] vs w ws q qs cs_are e before at h = absurd cc
+part_between_cuts laws table cs front behind us (p ∷ ps) vs w ws q qs cs_are e before at h =
     let by = byte_len front in
     let begins : begins_cluster table (p ∷ ps) ≡ true = sym (begins_cluster-shift table by (p ∷ ps)) ∙ ap (begins_cluster table) at ∙ h in
-    let cut = units-split table behind us p ps vs begins e in
+    let cut = units-split laws table behind us p ps vs begins e in
     let same : shifted by p ≡ q = cc in
     let place : by + byte_len cut.before ≡ q.offset = ap (λ n. by + n) cut.start_is ∙ ap (λ (r : Point). r.offset) same in
     record {
@@ -163,11 +161,11 @@ part_between_cuts table cs front behind us (p ∷ ps) vs w ws q qs cs_are e befo
       longer = omega (arith, some_bytes table by cut.before us w ws cut.before_units before, place);
     }
 
-pub part_to_start : (table : TableMap) (cs : List ℕ) (us : List (List Point)) (v : List Point) (vs : List (List Point)) (q : Point) (qs : List Point) (ws : List (List Point)) (start : ℕ) → begins_cluster table (q ∷ qs) ≡ true → UnitsCut table cs us ((v ∷ vs) ++ (q ∷ qs) ∷ ws) start → Part table cs start q.offset (v ∷ vs)
-part_to_start table cs us v vs q qs ws start h cut =
+pub part_to_start : PointLaws → (table : TableMap) (cs : List ℕ) (us : List (List Point)) (v : List Point) (vs : List (List Point)) (q : Point) (qs : List Point) (ws : List (List Point)) (start : ℕ) → begins_cluster table (q ∷ qs) ≡ true → UnitsCut table cs us ((v ∷ vs) ++ (q ∷ qs) ∷ ws) start → Part table cs start q.offset (v ∷ vs)
+part_to_start laws table cs us v vs q qs ws start h cut =
     let s = map_split (map (shifted (byte_len cut.before))) (units table (points cut.behind)) (v ∷ vs) (q ∷ qs) ws cut.behind_units in
     subst (λ n. Part table cs n q.offset (v ∷ vs)) cut.start_is
-    (part_between_cuts table cs cut.before cut.behind s.before s.at s.behind v vs q qs cut.cs_are s.us_are s.before_is s.at_is h)
+    (part_between_cuts laws table cs cut.before cut.behind s.before s.at s.behind v vs q qs cut.cs_are s.us_are s.before_is s.at_is h)
 
 -- ---- what a part is as bytes
 
@@ -178,19 +176,19 @@ scalars-parts (x ∷ xs) ys h =
     let more = scalars-parts xs ys parts.1 in
     (and_from _ _ parts.0 more.0, more.1)
 
-pub place-bytes : (text cs : List ℕ) (start end : ℕ) → scalars cs ≡ true → encode_utf8_all cs ≡ text → (p : Place cs start end) → (part_between text start end ≡ encode_utf8_all p.middle) × (scalars p.middle ≡ true)
-place-bytes text cs start end h e p =
+pub place-bytes : PointLaws → (text cs : List ℕ) (start end : ℕ) → scalars cs ≡ true → encode_utf8_all cs ≡ text → (p : Place cs start end) → (part_between text start end ≡ encode_utf8_all p.middle) × (scalars p.middle ≡ true)
+place-bytes laws text cs start end h e p =
     let ms = scalars-parts p.middle p.back (scalars-parts p.front (p.middle ++ p.back) (sym (ap scalars p.cs_are) ∙ h)).1 in
     let front = encode_utf8_all p.front in
     let middle = encode_utf8_all p.middle in
     let back = encode_utf8_all p.back in
     let bytes : text ≡ front ++ (middle ++ back) =
     sym e ∙ ap encode_utf8_all p.cs_are ∙ encodes-append p.front (p.middle ++ p.back) ∙ ap (λ l. front ++ l) (encodes-append p.middle p.back) in
-    let from : length front ≡ start = sym (byte_len-encode p.front) ∙ p.start_is in
-    let size : length middle ≡ end - start = sym (byte_len-encode p.middle) ∙ (omega (arith, p.end_is)) in
+    let from : length front ≡ start = sym (laws.bytes p.front) ∙ p.start_is in
+    let size : length middle ≡ end - start = sym (laws.bytes p.middle) ∙ (omega (arith, p.end_is)) in
     (ap (λ l. take (end - start) (drop start l)) bytes ∙ ap (take (end - start)) (drop_at front (middle ++ back) start from) ∙ take_at middle back (end - start) size, ms.0)
 
 -- the characters of a part
-pub place-chars : (text cs : List ℕ) (start end : ℕ) → scalars cs ≡ true → encode_utf8_all cs ≡ text → (p : Place cs start end) → chars (part_between text start end) ≡ p.middle
-place-chars text cs start end h e p =
-    let bytes = place-bytes text cs start end h e p in ap chars bytes.0 ∙ chars-encodes p.middle bytes.1
+pub place-chars : PointLaws → (text cs : List ℕ) (start end : ℕ) → scalars cs ≡ true → encode_utf8_all cs ≡ text → (p : Place cs start end) → chars (part_between text start end) ≡ p.middle
+place-chars laws text cs start end h e p =
+    let bytes = place-bytes laws text cs start end h e p in ap chars bytes.0 ∙ chars-encodes p.middle bytes.1

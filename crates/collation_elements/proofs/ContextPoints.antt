@@ -6,9 +6,8 @@ use Rattle.std.specs.Char.{len_utf8}
 use Rattle.unicode_normalization.specs.Lookups.{canonical_combining_class}
 use Rattle.nfd_points.specs.declared.points.Point.{Point}
 use Rattle.nfd_points.specs.Points.{decomposition, byte_len, points_at, points_of, points_from, is_starter, is_reorderable, sink, ordered, points, shifted}
-use Rattle.nfd_points.proofs.OrderingLemmas.{is_reorderable-true, sink-past, sink-stays, sink-nil, sink-starter, ordered-cons, ordered-nil}
-use Rattle.nfd_points.proofs.PointsLemmas.{byte_len-cons, byte_len-nil, points_from-cons, points_from-nil, points_from-shift, ordered-shift}
 use Rattle.collation_elements.proofs.ContextUnits.{behind_passed}
+use Rattle.collation_elements.proofs.PointLaws.{PointLaws, byte_len-cons, byte_len-nil, points_from-cons, points_from-nil, is_reorderable-true, sink-past, sink-stays, sink-nil, sink-starter, ordered-cons, ordered-nil}
 
 starter-class : (s : Point) → is_starter s ≡ true → s.ccc ≤ 0
 starter-class s h = let e : s.ccc ≡ 0 = eqb-true s.ccc 0 h in omega arith
@@ -183,21 +182,21 @@ pub record TextCut (cs : List ℕ) (front : List Point) (s : Point) (later : Lis
   pub later_is : map (shifted (byte_len before)) (points (c ∷ behind)) ≡ s ∷ later
   pub offset_is : s.offset ≡ byte_len before
 
-pub points-split : (cs : List ℕ) (front : List Point) (s : Point) (later : List Point) → is_starter s ≡ true → s.first ≡ true → points cs ≡ front ++ s ∷ later → TextCut cs front s later
-points-split cs front s later starter first e =
+pub points-split : PointLaws → (cs : List ℕ) (front : List Point) (s : Point) (later : List Point) → is_starter s ≡ true → s.first ≡ true → points cs ≡ front ++ s ∷ later → TextCut cs front s later
+points-split laws cs front s later starter first e =
     let low = starter-class s starter in
     let u = ordered-split (points_from 0 cs) front s later low e in
     let f = first-split 0 cs u.before s u.behind first u.ps_are in
     let by = byte_len f.before in
     let zero : 0 + by ≡ by + 0 = omega arith in
     let same : map (shifted by) (points_from 0 (f.c ∷ f.behind)) ≡ s ∷ u.behind =
-    sym (points_from-shift by 0 (f.c ∷ f.behind)) ∙ ap (λ n. points_from n (f.c ∷ f.behind)) (sym zero) ∙ sym f.later_is in
+    sym (laws.shifts by 0 (f.c ∷ f.behind)) ∙ ap (λ n. points_from n (f.c ∷ f.behind)) (sym zero) ∙ sym f.later_is in
     record {
       before = f.before;
       c = f.c;
       behind = f.behind;
       cs_are = f.cs_are;
       front_is = ap ordered (sym f.front_is) ∙ u.front_is;
-      later_is = sym (ordered-shift by (points_from 0 (f.c ∷ f.behind))) ∙ ap ordered same ∙ ordered-cons s u.behind ∙ sink-starter s (ordered u.behind) low ∙ ap (λ l. s ∷ l) u.later_is;
+      later_is = sym (laws.ordering_shifts by (points_from 0 (f.c ∷ f.behind))) ∙ ap ordered same ∙ ordered-cons s u.behind ∙ sink-starter s (ordered u.behind) low ∙ ap (λ l. s ∷ l) u.later_is;
       offset_is = f.offset_is ∙ (omega arith);
     }

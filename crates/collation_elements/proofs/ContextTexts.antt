@@ -10,6 +10,7 @@ use Rattle.collation_elements.specs.Elements.{unit_row, begins_primary, begins_c
 use Rattle.collation_elements.proofs.ContextUnits.{CutsOff, CutsOff-from, CutsOff-suffix, CutsOff-front, first_unit-head, units-cons}
 use Rattle.collation_elements.proofs.ContextOffsets.{units-shift}
 use Rattle.collation_elements.proofs.ContextPoints.{points-split}
+use Rattle.collation_elements.proofs.PointLaws.{PointLaws}
 
 -- a unit that begins a cluster begins with a starter that is the first point of its code point
 pub begins_cluster-parts : (table : TableMap) (p : Point) (ps : List Point) → begins_cluster table (p ∷ ps) ≡ true → (p.first ≡ true) × (is_starter p ≡ true) × (begins_primary (unit_row table (p ∷ ps)) ≡ true)
@@ -28,14 +29,14 @@ units-first table (q ∷ qs) p ps vs e =
     let same : q ≡ p = cc in
     (qs, ap (λ x. x ∷ qs) same)
 
-pub units-split : UnitsPartWhereClustersBegin
-units-split table cs us p ps vs h e =
+pub units-split : PointLaws → UnitsPartWhereClustersBegin
+units-split laws table cs us p ps vs h e =
     let b = begins_cluster-parts table p ps h in
     let cut = CutsOff-from table (points cs) us ((p ∷ ps) ∷ vs) e in
     let f = units-first table cut.0 p ps vs cut.2 in
     let off : CutsOff table (points cs) us (p ∷ f.0) = subst (CutsOff table (points cs) us) f.1 cut.1 in
     let s = CutsOff-suffix table (points cs) us p f.0 b.1 off in
-    let text = points-split cs s.0 p f.0 b.1 b.0 s.1 in
+    let text = points-split laws cs s.0 p f.0 b.1 b.0 s.1 in
     record {
       before = text.before;
       behind = text.c ∷ text.behind;

@@ -9,6 +9,7 @@ use Rattle.nfd_points.specs.Points.{is_starter}
 use Rattle.nfd_points.specs.Reordering.{is_non_starter}
 use Rattle.collation_table.specs.Table.{TableMap, is_key, longest_front, longest_front_within}
 use Rattle.collation_elements.specs.Units.{codes, joins, Cut, extended, first_unit, units_within, units}
+use Rattle.collation_elements.specs.Windows.{front_length}
 
 -- ---- the steps of the look at non-starters
 
@@ -89,10 +90,6 @@ extended-leaves table unit between (c ∷ cs) h =
 
 -- ---- the longest front
 
--- how many points the first cut of a unit takes
-abbrev pub front_length : TableMap → Point → List Point → ℕ
-front_length table p ps = max 1 (longest_front table (codes (p ∷ ps)))
-
 within-le : (table : TableMap) (points : List ℕ) (n : ℕ) → longest_front_within table points n ≤ n
 within-le table points zero = omega arith
 within-le table points (suc n) =
@@ -138,7 +135,7 @@ longest_front-le table points = within-le table points (length points)
 length-codes : (ps : List Point) → length (codes ps) ≡ length ps
 length-codes ps = length-map ps (λ (p : Point). p.cp)
 
-front_length-le : (table : TableMap) (p : Point) (ps : List Point) → front_length table p ps ≤ length (p ∷ ps)
+front_length-le : (table : TableMap) (p : Point) (ps : List Point) → front_length table (p ∷ ps) ≤ length (p ∷ ps)
 front_length-le table p ps = omega (arith, longest_front-le table (codes (p ∷ ps)), length-codes (p ∷ ps))
 
 -- a unit whose first n points are cut off together
@@ -164,12 +161,12 @@ cut_at-front table n ps s later h le =
     ap₂ (λ front rest. extended table front [] rest) (take-append-le n ps (s ∷ later) le) (drop-append-le n ps (s ∷ later) le)
     ∙ extended-at_starter table (take n ps) [] (drop n ps) s later h
 
-pub first_unit-leaves : (table : TableMap) (p : Point) (ps : List Point) → Leaves (take (front_length table p ps) (p ∷ ps)) [] (drop (front_length table p ps) (p ∷ ps)) (first_unit table p ps)
-first_unit-leaves table p ps = extended-leaves table (take (front_length table p ps) (p ∷ ps)) [] (drop (front_length table p ps) (p ∷ ps)) refl
+pub first_unit-leaves : (table : TableMap) (p : Point) (ps : List Point) → Leaves (take (front_length table (p ∷ ps)) (p ∷ ps)) [] (drop (front_length table (p ∷ ps)) (p ∷ ps)) (first_unit table p ps)
+first_unit-leaves table p ps = extended-leaves table (take (front_length table (p ∷ ps)) (p ∷ ps)) [] (drop (front_length table (p ∷ ps)) (p ∷ ps)) refl
 
 -- no point is lost
-pub first_unit-length : (table : TableMap) (p : Point) (ps : List Point) → (length (first_unit table p ps).unit + length (first_unit table p ps).rest ≡ length (p ∷ ps)) × (front_length table p ps ≤ length (first_unit table p ps).unit)
-first_unit-length table p ps = cut_at-length table (front_length table p ps) (p ∷ ps) (front_length-le table p ps)
+pub first_unit-length : (table : TableMap) (p : Point) (ps : List Point) → (length (first_unit table p ps).unit + length (first_unit table p ps).rest ≡ length (p ∷ ps)) × (front_length table (p ∷ ps) ≤ length (first_unit table p ps).unit)
+first_unit-length table p ps = cut_at-length table (front_length table (p ∷ ps)) (p ∷ ps) (front_length-le table p ps)
 
 one_at_least : (n : ℕ) → 1 ≤ max 1 n
 one_at_least n = omega arith
@@ -179,18 +176,18 @@ first_unit-shorter table p ps = let l = first_unit-length table p ps in let one 
 
 -- a unit begins with the first point
 pub first_unit-head : (table : TableMap) (p : Point) (ps : List Point) → (taken : List Point) × ((first_unit table p ps).unit ≡ p ∷ taken)
-first_unit-head table p ps = cut_at-head table (front_length table p ps) p ps (one_at_least (longest_front table (codes (p ∷ ps))))
+first_unit-head table p ps = cut_at-head table (front_length table (p ∷ ps)) p ps (one_at_least (longest_front table (codes (p ∷ ps))))
 
 -- Where the first cut stays within a front, what follows it from a starter on is left behind.
-pub first_unit-front : (table : TableMap) (p : Point) (ps : List Point) (s : Point) (later : List Point) → is_starter s ≡ true → front_length table p (ps ++ s ∷ later) ≤ length (p ∷ ps) → first_unit table p (ps ++ s ∷ later) ≡ behind (s ∷ later) (first_unit table p ps)
+pub first_unit-front : (table : TableMap) (p : Point) (ps : List Point) (s : Point) (later : List Point) → is_starter s ≡ true → front_length table (p ∷ (ps ++ s ∷ later)) ≤ length (p ∷ ps) → first_unit table p (ps ++ s ∷ later) ≡ behind (s ∷ later) (first_unit table p ps)
 first_unit-front table p ps s later h le =
     let parts : codes (p ∷ (ps ++ s ∷ later)) ≡ codes (p ∷ ps) ++ codes (s ∷ later) = map-append (λ (q : Point). q.cp) (p ∷ ps) (s ∷ later) in
     let low : longest_front table (codes (p ∷ ps) ++ codes (s ∷ later)) ≤ length (codes (p ∷ ps)) =
     subst (λ l. longest_front table l ≤ length (codes (p ∷ ps))) parts (omega (arith, length-codes (p ∷ ps))) in
-    let same : front_length table p (ps ++ s ∷ later) ≡ front_length table p ps =
+    let same : front_length table (p ∷ (ps ++ s ∷ later)) ≡ front_length table (p ∷ ps) =
     ap (λ l. max 1 (longest_front table l)) parts ∙ ap (max 1) (longest_front-front table (codes (p ∷ ps)) (codes (s ∷ later)) low) in
     ap (λ n. cut_at table n ((p ∷ ps) ++ s ∷ later)) same
-    ∙ cut_at-front table (front_length table p ps) (p ∷ ps) s later h (front_length-le table p ps)
+    ∙ cut_at-front table (front_length table (p ∷ ps)) (p ∷ ps) s later h (front_length-le table p ps)
 
 -- ---- all units
 
@@ -262,7 +259,7 @@ CutsOff-suffix table ps [] s later h e = ([], e)
 CutsOff-suffix table [] (u ∷ us) s later h e = absurd e
 CutsOff-suffix table (p ∷ ps) (u ∷ us) s later h e =
     let more = CutsOff-suffix table (first_unit table p ps).rest us s later h e.1 in
-    let n = front_length table p ps in
+    let n = front_length table (p ∷ ps) in
     let l = first_unit-leaves table p ps in
     let b = behind_passed is_non_starter more.0 l.left l.later s later l.marks (not_from_true _ h) (sym more.1 ∙ l.rest_is) in
     let dropped : drop n (p ∷ ps) ≡ l.passed ++ (b.gap ++ s ∷ later) = l.was ∙ ap (λ x. l.passed ++ x) b.later_is in
@@ -285,7 +282,7 @@ CutsOff-front table (p ∷ ps) (u ∷ us) s later h e =
     let more = CutsOff-suffix table whole.rest us s later h e.1 in
     let long : length whole.rest ≡ length more.0 + length (s ∷ later) = ap length more.1 ∙ length-append more.0 (s ∷ later) in
     let counts = first_unit-length table p (ps ++ s ∷ later) in
-    let fits : front_length table p (ps ++ s ∷ later) ≤ length (p ∷ ps) = omega (arith, length-append ps (s ∷ later)) in
+    let fits : front_length table (p ∷ (ps ++ s ∷ later)) ≤ length (p ∷ ps) = omega (arith, length-append ps (s ∷ later)) in
     let same : whole ≡ behind (s ∷ later) front = first_unit-front table p ps s later h fits in
     let rest : whole.rest ≡ front.rest ++ s ∷ later = ap (λ (c : Cut). c.rest) same in
     let unit : front.unit ≡ u = sym (ap (λ (c : Cut). c.unit) same) ∙ e.0 in

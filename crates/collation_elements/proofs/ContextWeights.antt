@@ -12,6 +12,7 @@ use Rattle.collation_elements.specs.declared.keys.Key.{Key}
 use Rattle.collation_elements.specs.Elements.{unit_row, after_variable, shifted_element, weighted_row, after_row, weighted_rows, begins_primary, ignorable}
 use Rattle.collation_elements.specs.Keys.{row_keys}
 use Rattle.collation_elements.specs.Items.{after_unit}
+use Rattle.collation_elements.specs.Weighing.{after_units}
 use Rattle.collation_elements.specs.Context.{PrimariesSettleWeighting}
 use Rattle.collation_elements.proofs.ContextOffsets.{unit_row-shift}
 
@@ -64,10 +65,6 @@ abbrev pub keys_of : TableMap → Strength → Variable → Bool → List (List 
 keys_of table strength variable after [] = []
 keys_of table strength variable after (u ∷ us) =
     row_keys strength (weighted_row variable after (unit_row table u)) ++ keys_of table strength variable (after_unit table variable after u) us
-
-abbrev pub after_units : TableMap → Variable → Bool → List (List Point) → Bool
-after_units table variable after [] = after
-after_units table variable after (u ∷ us) = after_units table variable (after_unit table variable after u) us
 
 pub keys_of-rows : (table : TableMap) (strength : Strength) (variable : Variable) (after : Bool) (us : List (List Point)) → keys_of table strength variable after us ≡ flat_map (row_keys strength) (weighted_rows variable after (map (unit_row table) us))
 keys_of-rows table strength variable after [] = refl

@@ -14,7 +14,7 @@ use Rattle.collation_elements.specs.UnitValues.{UnitValue, IsUnitOf}
 use Rattle.collation_elements.specs.Windows.{Held, front_length, is_decided, next_cut, WindowStandsFor}
 use Rattle.collation_elements.proofs.Longest.{longest_front-le_longest}
 use Rattle.collation_elements.proofs.Cutting.{next_cut-of, front_length-le, units-decided}
-use Rattle.collation_elements.proofs.Joining.{extended-starter}
+use Rattle.collation_elements.proofs.ContextUnits.{extended-stop}
 
 -- ---- the front
 
@@ -88,7 +88,7 @@ next_cut-before_starter T ps n some is starter =
     next_cut-of T ps some
     ∙ ap (λ k. extended T (take k ps) [] (drop k ps)) (sym is)
     ∙ ap (extended T (take n ps) []) s.1
-    ∙ extended-starter T (take n ps) [] s.0 (drop (suc n) ps) s.2
+    ∙ extended-stop T (take n ps) [] s.0 (drop (suc n) ps) s.2
     ∙ ap (λ (rest : List Point). record { unit = take n ps; rest = rest }) (sym s.1)
 
 pub next_cut-all : (T : TableMap) (ps : List Point) (n : ℕ) → 0 < length ps → n ≡ front_length T ps → length ps ≤ n → next_cut T ps ≡ record { unit = take n ps; rest = drop n ps }

@@ -1,15 +1,16 @@
 -- One look at the non-starters behind a unit: `left` of the points were looked at and stay, and the key is the code points
 -- of the unit with those that joined it.
-use Rattle.std.proofs.Common.{◌≡◌, ℕ, suc, ◌+◌, ◌<◌, ◌≤◌, max, nat_le, Bool, true, false, cond, not, ◌||◌, ◌&&◌, List, [], ◌∷◌, ◌++◌, length, take, drop, remove, Some, slice_get, refl, sym, ◌∙◌, ap, ⊎_elim, arith, length-take}
+use Rattle.std.proofs.Common.{◌≡◌, ℕ, suc, ◌+◌, ◌<◌, ◌≤◌, max, nat_le, Bool, true, false, not, ◌||◌, ◌&&◌, List, [], ◌∷◌, ◌++◌, length, take, drop, remove, Some, slice_get, refl, sym, ◌∙◌, ap, ⊎_elim, arith, length-take}
 use Rattle.std.specs.List.{list_any}
 use Rattle.std.proofs.lemmas.List.{map_push, take-append-drop, take_at, drop_at, drop_more, take_more, take_all, drop_all}
 use Rattle.std.proofs.lemmas.List.Folds.{list_any_more}
-use Rattle.std.proofs.lemmas.Bool.{false≢true, cases_lt, le-leb, lt-leb}
+use Rattle.std.proofs.lemmas.Bool.{cases_lt, le-leb, lt-leb}
 use Rattle.std.proofs.lemmas.Option.{slice_get_within, get_or_from_slice_get}
 use Rattle.nfd_points.specs.declared.points.Point.{Point}
 use Rattle.nfd_points.specs.Points.{is_starter}
 use Rattle.collation_table.specs.Table.{TableMap, is_key}
 use Rattle.collation_elements.specs.Units.{codes, blocks, joins, Cut, extended}
+use Rattle.collation_elements.proofs.ContextUnits.{extended-stop, extended-taken, extended-left}
 
 -- a later point is blocked exactly where the greatest class among those left is at least its own
 abbrev pub IsHighest : List Point → ℕ → ℕ → Type 0
@@ -44,24 +45,6 @@ drop-remove_at ps left h =
     drop_at (take left ps) (drop (suc left) ps) left (omega (arith, length-take left ps)) ∙ ap (λ k. drop k ps) next
 
 -- ---- one look
-
-cond-taken : {A : Type 0} (s j : Bool) (stop taken left : A) → s ≡ false → j ≡ true → cond s stop (cond j taken left) ≡ taken
-cond-taken true j stop taken left a b = absurd (false≢true (sym a))
-cond-taken false true stop taken left a b = refl
-cond-taken false false stop taken left a b = absurd (false≢true b)
-
-cond-left : {A : Type 0} (s j : Bool) (stop taken left : A) → s ≡ false → j ≡ false → cond s stop (cond j taken left) ≡ left
-cond-left true j stop taken left a b = absurd (false≢true (sym a))
-cond-left false true stop taken left a b = absurd (false≢true (sym b))
-cond-left false false stop taken left a b = refl
-
-extended-taken : (T : TableMap) (unit between : List Point) (c : Point) (following : List Point) → is_starter c ≡ false → joins T unit between c ≡ true → extended T unit between (c ∷ following) ≡ extended T (unit ++ c ∷ []) between following
-extended-taken T unit between c following a b =
-    cond-taken (is_starter c) (joins T unit between c) (record { unit = unit; rest = between ++ c ∷ following }) (extended T (unit ++ c ∷ []) between following) (extended T unit (between ++ c ∷ []) following) a b
-
-extended-left : (T : TableMap) (unit between : List Point) (c : Point) (following : List Point) → is_starter c ≡ false → joins T unit between c ≡ false → extended T unit between (c ∷ following) ≡ extended T unit (between ++ c ∷ []) following
-extended-left T unit between c following a b =
-    cond-left (is_starter c) (joins T unit between c) (record { unit = unit; rest = between ++ c ∷ following }) (extended T (unit ++ c ∷ []) between following) (extended T unit (between ++ c ∷ []) following) a b
 
 joins_when : (T : TableMap) (unit between : List Point) (c : Point) (key : List ℕ) (blocked found : Bool) → codes unit ≡ key → list_any (blocks c) between ≡ blocked → is_key T (key ++ c.cp ∷ []) ≡ found → joins T unit between c ≡ (not blocked && found)
 joins_when T unit between c key blocked found is stands there =
@@ -131,17 +114,9 @@ IsDone-none T key_before before key ps left so_far past unit unit_is =
     let end : extended T was.0 (take left ps) (drop left ps) ≡ record { unit = was.0; rest = ps } = ap (λ between. extended T was.0 between (drop left ps)) (take_all left ps past) ∙ ap (extended T was.0 ps) (drop_all left ps past) in
     done T unit before key ps was.0 was.1 (sym end ∙ was.2)
 
-pub extended-starter : (T : TableMap) (unit between : List Point) (c : Point) (following : List Point) → is_starter c ≡ true → extended T unit between (c ∷ following) ≡ record { unit = unit; rest = between ++ c ∷ following }
-extended-starter T unit between c following h =
-    first (is_starter c) (record { unit = unit; rest = between ++ c ∷ following }) (cond (joins T unit between c) (extended T (unit ++ c ∷ []) between following) (extended T unit (between ++ c ∷ []) following)) h
-  where
-    first : (s : Bool) (stop others : Cut) → s ≡ true → cond s stop others ≡ stop
-    first true stop others e = refl
-    first false stop others e = absurd (false≢true e)
-
 pub IsDone-starter : (T : TableMap) (key_before : List ℕ) (before : List Point) (key : List ℕ) (ps : List Point) (left : ℕ) (c : Point) → JoinsSoFar T key_before before key ps left → slice_get ps left ≡ Some c → is_starter c ≡ true → IsDone T key_before before key ps
 IsDone-starter T key_before before key ps left c so_far at starter unit unit_is =
     let was = so_far unit unit_is in
     let whole : take left ps ++ c ∷ drop (left + 1) ps ≡ ps = ap (λ rest. take left ps ++ rest) (sym (drop-at ps left c at)) ∙ take-append-drop left ps in
-    let end : extended T was.0 (take left ps) (drop left ps) ≡ record { unit = was.0; rest = ps } = ap (extended T was.0 (take left ps)) (drop-at ps left c at) ∙ extended-starter T was.0 (take left ps) c (drop (left + 1) ps) starter ∙ ap (λ (rest : List Point). record { unit = was.0; rest = rest }) whole in
+    let end : extended T was.0 (take left ps) (drop left ps) ≡ record { unit = was.0; rest = ps } = ap (extended T was.0 (take left ps)) (drop-at ps left c at) ∙ extended-stop T was.0 (take left ps) c (drop (left + 1) ps) starter ∙ ap (λ (rest : List Point). record { unit = was.0; rest = rest }) whole in
     done T unit before key ps was.0 was.1 (sym end ∙ was.2)

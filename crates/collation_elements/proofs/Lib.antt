@@ -1,4 +1,5 @@
 pub mod Longest
+pub mod PointLaws
 pub mod Cutting
 pub mod Deciding
 pub mod Joining
@@ -12,7 +13,6 @@ pub mod ContextLaw
 pub mod ContextOffsets
 pub mod ContextParts
 pub mod ContextPoints
-pub mod ContextRows
 pub mod ContextTexts
 pub mod ContextUnits
 pub mod ContextWeights

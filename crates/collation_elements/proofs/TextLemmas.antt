@@ -15,11 +15,7 @@ use Rattle.collation_elements.specs.Units.{units}
 use Rattle.collation_elements.specs.Items.{items}
 use Rattle.collation_elements.specs.Texts.{Gives}
 use Rattle.collation_elements.specs.Windows.{Held}
-
-pub byte_len-append : (xs ys : List ℕ) → byte_len (xs ++ ys) ≡ byte_len xs + byte_len ys
-unfolding byte_len
-byte_len-append [] ys = omega arith
-byte_len-append (x ∷ xs) ys = let rest = byte_len-append xs ys in omega arith
+use Rattle.collation_elements.proofs.PointLaws.{byte_len-append}
 
 pub byte_len-one : (c : ℕ) → byte_len (c ∷ []) ≡ len_utf8 c
 unfolding byte_len
@@ -43,10 +39,6 @@ front_bytes cs i c below is =
     let sum = byte_len-append (take i cs) (c ∷ drop (suc i) cs) in
     let rest = byte_len-append (c ∷ []) (drop (suc i) cs) in
     let one = byte_len-one c in omega arith
-
-pub byte_len-nil : 0 ≡ byte_len []
-unfolding byte_len
-byte_len-nil = refl
 
 -- ---- all units
 

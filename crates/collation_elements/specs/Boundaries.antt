@@ -1,4 +1,4 @@
--- The boundaries of a text, at which a match may begin or end (UTS #10, section 8, leaves the choice): its two ends, and
+-- The boundaries of a text, at which a match may begin or end (UTS #10, section 11, leaves the choice): its two ends, and
 -- each offset at which a cluster begins.
 use Rattle.std.specs.Prelude.{ℕ, zero, suc, Bool, ◌==◌, ◌||◌, List, [], ◌∷◌, ◌++◌, flat_map, filter, length, if◌then◌else◌}
 use Rattle.std.specs.List.{list_any}

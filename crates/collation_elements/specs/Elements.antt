@@ -32,12 +32,13 @@ after_variable after e = if e.is_variable then true else (if nat_lt 0 e.w1 then 
 abbrev pub shifted_element : Bool → Element → Element
 shifted_element after e = if e.is_variable || (after && e.w1 == 0) then ignorable else e
 
--- one row under variable weighting, and what the next row follows
+-- one row under variable weighting; `after` says whether the last element before it that was variable or primary was variable
 abbrev pub weighted_row : Variable → Bool → List Element → List Element
 weighted_row NonIgnorable after es = es
 weighted_row Shifted after [] = []
 weighted_row Shifted after (e ∷ es) = shifted_element after e ∷ weighted_row Shifted (after_variable after e) es
 
+-- the same of the element that the next row follows
 abbrev pub after_row : Variable → Bool → List Element → Bool
 after_row NonIgnorable after es = after
 after_row Shifted after [] = after

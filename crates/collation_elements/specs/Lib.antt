@@ -11,3 +11,4 @@ pub mod Boundaries
 pub mod Clusters
 pub mod Context
 pub mod Texts
+pub mod WorkedClusters

@@ -5,7 +5,7 @@
 pub enum Key {
     /// The primary, secondary and tertiary weight of an element with a primary weight.
     Primary(u16, u16, u16),
-    /// A pair of elements that stands for one character (UTS #10, section 10.1): both primary weights, and the
+    /// A pair of elements that stands for one character (UTS #10, section 10.1.3): both primary weights, and the
     /// secondary and tertiary weight of the first.
     Pair(u16, u16, u16, u16),
     /// The secondary and tertiary weight of an element without a primary weight.
@@ -17,7 +17,7 @@ pub enum Key {
 /// What a text is made of, in order.
 #[derive(Clone, Copy, Debug, PartialEq, Eq)]
 pub enum Item {
-    /// A cluster begins at this byte offset.
+    /// A cluster begins at this offset, in bytes from the beginning of the text.
     ClusterStart(u64),
     /// The next key.
     Element(Key),

@@ -7,8 +7,8 @@
 //! units: the keys that a strength keeps of the elements under variable weighting, and the places where clusters begin.
 //!
 //! What units, elements, keys, items and boundaries of a whole text are stands in `specs/`. The contracts say of each call what
-//! the window or the weigher stands for after it, so that what was given begins what the whole text has. Only
-//! `Window::with_capacity` takes memory.
+//! the window or the weigher stands for after it, so that what was given begins what the whole text has.
+//! `Window::with_capacity` and `items_of_text` alone take memory.
 #![tactic(auto)]
 
 mod context;

@@ -16,6 +16,7 @@ pub enum Strength {
 pub enum Variable {
     /// They are compared as others are.
     NonIgnorable,
-    /// They become ignorable, and with them each primary ignorable element that follows one.
+    /// They become ignorable, and with them each primary ignorable element that follows one, up to the next element that
+    /// has a primary weight and is not variable.
     Shifted,
 }

@@ -1,5 +1,11 @@
 //! What no clause says: worked windows and worked keys, over tables of a few rows.
-ghost use Rattle.std.specs.Prelude.{◌≡◌, false, IfOk};
+ghost use Rattle.std.specs.Prelude.{◌≡◌, [], ◌∷◌, false, IfOk};
+ghost use Rattle.collation_elements.specs.declared.settings.Strength.TheVariants.{One, Two};
+ghost use Rattle.collation_elements.specs.declared.settings.Variable.TheVariants.{NonIgnorable, Shifted};
+ghost use Rattle.collation_elements.specs.declared.keys.Key.TheVariants.{Primary, Secondary};
+ghost use Rattle.collation_elements.specs.Boundaries.{boundaries};
+ghost use Rattle.collation_elements.specs.Clusters.{clusters};
+ghost use Rattle.collation_elements.specs.WorkedClusters.{worked_table, worked_cluster};
 
 use crate::{Item, MOST_ITEMS, Strength, Variable, Weigher, Window};
 use arrayvec::ArrayVec;
@@ -37,26 +43,38 @@ const CONTRACTED: &str = "0061 ; [.1C00.0020.0002]
 
 const ONE_CONTRACTION: &str = "0078 0301 ; [.1CA0.0020.0002]";
 
-fn class_of(c: char) -> u8 {
-    match c {
-        '\u{300}' | '\u{301}' | '\u{302}' => 230,
-        '\u{323}' => 220,
-        '\u{327}' => 202,
-        _ => 0,
-    }
+/// The definitions on texts that are written out: a contraction is one unit; a soft hyphen has no key and begins no cluster,
+/// but the text begins with it; an accent at the beginning has its key in the first cluster; after a hyphen the circle has no
+/// key under shifted weighting, and the hyphen begins a cluster without keys.
+fn worked_clusters()
+    ensures empty_text { clusters worked_table Two NonIgnorable [] ≡ [] }
+    ensures contraction { clusters worked_table One NonIgnorable (0x61 ∷ 0x63 ∷ 0x68 ∷ [])
+        ≡ worked_cluster 0 (Primary 0x1C00 0 0 ∷ []) ∷ worked_cluster 1 (Primary 0x1C28 0 0 ∷ []) ∷ [] }
+    ensures contraction_boundaries { boundaries worked_table (0x61 ∷ 0x63 ∷ 0x68 ∷ []) ≡ 0 ∷ 1 ∷ 3 ∷ [] }
+    ensures soft_hyphen { clusters worked_table One NonIgnorable (0xC2 ∷ 0xAD ∷ 0x61 ∷ [])
+        ≡ worked_cluster 0 [] ∷ worked_cluster 2 (Primary 0x1C00 0 0 ∷ []) ∷ [] }
+    ensures accent_first { clusters worked_table Two NonIgnorable (0xCC ∷ 0x81 ∷ 0x61 ∷ [])
+        ≡ worked_cluster 0 (Secondary 0x24 0 ∷ []) ∷ worked_cluster 2 (Primary 0x1C00 0x20 0 ∷ []) ∷ [] }
+    ensures accent_boundaries { boundaries worked_table (0xCC ∷ 0x81 ∷ 0x61 ∷ []) ≡ 0 ∷ 2 ∷ 3 ∷ [] }
+    ensures hyphen_shifted { clusters worked_table Two Shifted (0x61 ∷ 0x2D ∷ 0xE2 ∷ 0x83 ∷ 0x9D ∷ 0x62 ∷ [])
+        ≡ worked_cluster 0 (Primary 0x1C00 0x20 0 ∷ []) ∷ worked_cluster 1 []
+        ∷ worked_cluster 5 (Primary 0x1C10 0x20 0 ∷ []) ∷ [] }
+    ensures hyphen_kept { clusters worked_table Two NonIgnorable (0x61 ∷ 0x2D ∷ 0xE2 ∷ 0x83 ∷ 0x9D ∷ [])
+        ≡ worked_cluster 0 (Primary 0x1C00 0x20 0 ∷ [])
+        ∷ worked_cluster 1 (Primary 0x0202 0x20 0 ∷ Secondary 0x40 0 ∷ []) ∷ [] }
+{}
+
+#[test]
+fn definitions_compute() {
+    worked_clusters();
 }
 
 /// A window of the characters of a text, each its own decomposition, in this order.
 fn window_of(alloc: Global, table: &Table, text: &str) -> Result<Window, AllocError> {
     let mut window = Window::with_capacity(alloc, table.longest_key())?;
-    for c in text.chars() {
+    for (offset, c) in text.char_indices() {
         if !window.is_full() {
-            window.push(Point {
-                cp: c as u32,
-                ccc: class_of(c),
-                offset: 0,
-                first: true,
-            });
+            window.push(Point::new(c, offset as u64, true));
         }
     }
     Ok(window)
@@ -158,7 +176,7 @@ fn gives_keys_up_to_the_strength(rt: HostRuntime) -> Result<(), Fail> {
     )?;
     assert_eq!(rt;
         given.as_str(),
-        "ClusterStart(0) ClusterStart(0) Element(Primary(7184, 32, 0)) Element(Secondary(64, 0)) "
+        "ClusterStart(0) ClusterStart(4) Element(Primary(7184, 32, 0)) Element(Secondary(64, 0)) "
     );
     Ok(())
 }

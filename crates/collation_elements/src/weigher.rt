@@ -7,7 +7,7 @@ ghost use Rattle.arrayvec.specs.ArrayVec.{array_vec_len};
 ghost use Rattle.collation_table.specs.declared.elements.Element.{Element as CollationElement};
 ghost use Rattle.collation_table.specs.Table.{TableMap};
 ghost use Rattle.collation_elements.specs.declared.keys.Item.{Item};
-ghost use Rattle.collation_table.specs.WellFormed.{is_lead, is_follower};
+ghost use Rattle.collation_table.specs.WellFormed.{is_lead};
 ghost use Rattle.collation_elements.specs.Keys.{element_keys, pair_key, second_at, third_at};
 ghost use Rattle.collation_elements.specs.UnitValues.{IsUnitOf};
 ghost use Rattle.collation_elements.specs.Weighing.{weigher, weigher_after, is_after_variable, weighted_element, after_element, key_items, value_items, WeigherStandsFor};
@@ -18,7 +18,8 @@ use crate::unit::Unit;
 use arrayvec::ArrayVec;
 use collation_table::Element;
 
-/// The most items of a unit: the start of its cluster, and a key for each element of a row.
+/// The room for the items of a unit: the start of its cluster, and a key for each element of a row. A row has fewer elements
+/// than there is room for.
 pub const MOST_ITEMS: usize = 129;
 
 /// Weighs the units of a text, from its beginning on.
@@ -128,13 +129,13 @@ fn add_keys(
         ≤ array_vec_len items.old + length (option_to_list lead) + 1 }
 {
     if let Some(lead) = lead {
-        if is_follower(&e) {
+        if e.is_follower() {
             items.push(Item::Element(pair_key(strength, &lead, &e)));
             return None;
         }
         add_key(strength, lead, items);
     }
-    if is_lead(&e) {
+    if e.is_lead() {
         return Some(e);
     }
     add_key(strength, e, items);
@@ -187,18 +188,4 @@ fn third_at(strength: Strength, weight: u16) -> u16
         Strength::One | Strength::Two => 0,
         Strength::Three => weight,
     }
-}
-
-/// Whether the element has the form of the second one of an implicit pair (UTS #10, section 10.1.3).
-fn is_follower(e: &Element) -> bool
-    ensures { result ≡ is_follower e.now }
-{
-    !e.is_variable && e.w1 >= 0x8000 && e.w2 == 0 && e.w3 == 0
-}
-
-/// Whether its primary weight says that the element and the next one are a pair.
-fn is_lead(e: &Element) -> bool
-    ensures { result ≡ is_lead e.now }
-{
-    !e.is_variable && e.w1 >= 0xFB00 && e.w1 <= 0xFBFF && !is_follower(e)
 }

@@ -14,12 +14,9 @@ use crate::queue::Queue;
 use crate::unit::Unit;
 use arrayvec::ArrayVec;
 use collation_table::{MOST_KEY_POINTS, Weights};
-use nfd_points::Point;
+use nfd_points::{MOST_GIVEN, Point};
 use std::alloc::{AllocError, Global};
 use std::marker::Model;
-
-/// How many points may become final at once: those that wait, at most 30, and a decomposition, at most 4.
-const MOST_NEW_POINTS: usize = 34;
 
 /// Points in order that no unit has taken.
 #[derive(Drop)]
@@ -37,7 +34,8 @@ impl Model for Window {
 }
 
 impl Window {
-    /// An empty window for a table whose longest key has `longest_key` points.
+    /// An empty window for a table whose longest key has `longest_key` points, with room for those and for what one call of a
+    /// `nfd_points::Reorder` gives.
     pub fn with_capacity(alloc: Global, longest_key: usize) -> Result<Self, AllocError>
         requires some { 1 ≤ longest_key }
         requires few { longest_key ≤ MOST_KEY_POINTS }
@@ -45,7 +43,7 @@ impl Window {
         ensures stands { IfOk result (λ w. (table : TableMap) → WindowStandsFor table w [] []) }
     {
         Ok(Window {
-            queue: Queue::with_capacity(alloc, longest_key + MOST_NEW_POINTS)?,
+            queue: Queue::with_capacity(alloc, longest_key + MOST_GIVEN)?,
             has_ended: false,
         })
     }

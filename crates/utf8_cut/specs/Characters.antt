@@ -39,7 +39,7 @@ abbrev pub is_cut_or_empty : List ℕ → Bool
 is_cut_or_empty [] = true
 is_cut_or_empty (x ∷ bytes) = is_cut_character (x ∷ bytes)
 
--- an open text: whole characters, and behind them nothing or a cut character
+-- whole characters, and behind them nothing or a cut character; how many bytes there are, and which characters, is not asked
 abbrev pub is_open : List ℕ → Bool
 is_open bytes = is_cut_or_empty (after_characters bytes)
 

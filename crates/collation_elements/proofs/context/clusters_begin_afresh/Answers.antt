@@ -1,9 +1,15 @@
 use Rattle.collation_elements.proofs.ContextTexts.{units-split}
 use Rattle.collation_elements.proofs.ContextWeights.{weighted_rows-primary}
+use Rattle.collation_elements.proofs.PointLaws.{PointLaws}
 use Rattle.collation_elements.proofs.context.clusters_begin_afresh.Goals as goal
 
-pub returns-clause-units : goal.returns-clause-units
-returns-clause-units c = units-split
-
-pub returns-clause-weights : goal.returns-clause-weights
-returns-clause-weights c = weighted_rows-primary
+pub returns : goal.returns
+returns c =
+    let laws : PointLaws = record {
+      short = c.laws_of_decompositions.ensures.short;
+      bytes = c.laws_of_points.ensures.bytes;
+      shifts = c.laws_of_points.ensures.shifted;
+      ordering_shifts = c.laws_of_ordering.ensures.shifted;
+      ordering_counts = c.laws_of_ordering.ensures.counts;
+    } in
+    record { units = units-split laws; weights = weighted_rows-primary }

@@ -1,8 +1,14 @@
 use Rattle.collation_elements.proofs.ContextJoined.{elements_join, keys_join}
+use Rattle.collation_elements.proofs.PointLaws.{PointLaws}
 use Rattle.collation_elements.proofs.context.parts_join.Goals as goal
 
-pub returns-clause-elements : goal.returns-clause-elements
-returns-clause-elements c = elements_join
-
-pub returns-clause-keys : goal.returns-clause-keys
-returns-clause-keys c = keys_join
+pub returns : goal.returns
+returns c =
+    let laws : PointLaws = record {
+      short = c.laws_of_decompositions.ensures.short;
+      bytes = c.laws_of_points.ensures.bytes;
+      shifts = c.laws_of_points.ensures.shifted;
+      ordering_shifts = c.laws_of_ordering.ensures.shifted;
+      ordering_counts = c.laws_of_ordering.ensures.counts;
+    } in
+    record { elements = elements_join laws; keys = keys_join laws }

@@ -12,7 +12,8 @@ use Rattle.collation_elements.specs.Units.{units}
 use Rattle.collation_elements.specs.Weighing.{WeigherStandsFor}
 use Rattle.nfd_points.specs.Reordering.{is_closed}
 use Rattle.collation_elements.proofs.Cutting.{is_closed-both}
-use Rattle.collation_elements.proofs.TextLemmas.{next_front, next_bytes, around, front_bytes, byte_len-nil, gives_all}
+use Rattle.collation_elements.proofs.TextLemmas.{next_front, next_bytes, around, front_bytes, gives_all}
+use Rattle.collation_elements.proofs.PointLaws.{byte_len-nil}
 use Rattle.collation_elements.proofs.texts.items_of_characters.Goals as goal
 
 pub loop-c-init : goal.loop-c-init
@@ -29,7 +30,7 @@ loop-c-init g c =
           weighed = subst (λ (given : List Item). WeigherStandsFor table c.new-weigher.result [] given) (sym c.in_ok-items.ensures.items) (c.new-weigher.ensures.stands table);
         },
       );
-      offset = byte_len-nil;
+      offset = sym byte_len-nil;
       strength = ap (λ w. w.strength) c.new-weigher.ensures.value;
       variable = ap (λ w. w.variable) c.new-weigher.ensures.value;
       capacity = ap (λ w. w.capacity) c.in_ok-window.ensures.empty ∙ ap (λ n. n + 34) c.longest_key.ensures;
