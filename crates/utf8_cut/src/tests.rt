@@ -4,7 +4,10 @@
 ghost use Rattle.std.specs.Prelude.{◌≡◌, ℕ, ◌<◌, List, [], ◌∷◌, Some, None, length, IsTrue, true, false};
 ghost use Rattle.utf8_cut.specs.Characters.{characters, first_fault, ill_formed_at, is_open, is_cut_character};
 
-use super::{Cut, Cutting, front};
+use super::{
+    Cut, Cutting, any_bytes_may_follow, cut_characters_begin_characters, front,
+    text_may_stand_before, whole_characters_are_the_longest_text,
+};
 use std::alloc::{AllocError, Global};
 use std::test::Fail;
 
@@ -49,6 +52,10 @@ fn worked_rows()
 #[test]
 fn definitions_compute() {
     worked_rows();
+    any_bytes_may_follow();
+    text_may_stand_before();
+    whole_characters_are_the_longest_text();
+    cut_characters_begin_characters();
 }
 
 #[test]
