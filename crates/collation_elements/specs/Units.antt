@@ -1,13 +1,10 @@
 -- The units of a text: which points one collation element mapping takes (UTS #10, S2.1 to S2.1.3).
-use Rattle.std.specs.Prelude.{ℕ, Bool, ◌||◌, ◌&&◌, not, nat_le, List, [], ◌∷◌, ◌++◌, map, take, drop, max, if◌then◌else◌}
+use Rattle.std.specs.Prelude.{Bool, ◌||◌, ◌&&◌, not, nat_le, List, [], ◌∷◌, ◌++◌, take, drop, max, if◌then◌else◌}
 use Rattle.std.specs.List.{list_any}
 use Rattle.nfd_points.specs.declared.points.Point.{Point}
 use Rattle.nfd_points.specs.Points.{is_starter}
+pub use Rattle.nfd_points.specs.Reordering.{codes}
 use Rattle.collation_table.specs.Table.{TableMap, is_key, longest_front}
-
--- the code points of these points
-abbrev pub codes : List Point → List ℕ
-codes ps = map (λ p. p.cp) ps
 
 -- b, which stands between a unit and the later point c, blocks c from it
 abbrev pub blocks : Point → Point → Bool

@@ -7,7 +7,7 @@ ghost use Rattle.collation_elements.specs.Boundaries.{boundaries};
 ghost use Rattle.collation_elements.specs.Clusters.{clusters};
 ghost use Rattle.collation_elements.specs.WorkedClusters.{worked_table, worked_cluster};
 
-use crate::{Item, MOST_ITEMS, Strength, Variable, Weigher, Window};
+use crate::{Item, ItemsFault, Key, MOST_ITEMS, Strength, Variable, Weigher, Window};
 use arrayvec::ArrayVec;
 use collation_table::{Table, Weights};
 use nfd_points::Point;
@@ -197,7 +197,15 @@ fn answers_each_call(rt: HostRuntime) -> Result<(), Fail> {
         Strength::Two,
         Variable::Shifted,
     )?;
-    assert_eq!(rt; items.len(), 3);
+    let expected = [
+        Item::ClusterStart(0),
+        Item::Element(Key::Primary(0x1C40, 0x20, 0)),
+        Item::Element(Key::Secondary(0x24, 0)),
+    ];
+    assert_eq!(rt; items.as_slice(), expected.as_slice());
+    let marks = "\u{301}".repeat(rt.alloc(), 31)?;
+    let fault = crate::items_of_text(rt.alloc(), &table, &marks, Strength::Two, Variable::Shifted);
+    assert_eq!(rt; fault.err(), Some(ItemsFault::Points));
     crate::items_are_keys_and_starts();
     crate::closed_points_append();
     crate::clusters_are_parts();
