@@ -1,17 +1,17 @@
--- The keys among some items, one item more.
-use Rattle.std.proofs.Common.{◌≡◌, ℕ, ◌+◌, ◌<◌, List, [], ◌∷◌, ◌++◌, length, take, get_or, refl, sym, ◌∙◌, ap}
-use Rattle.std.proofs.lemmas.List.{take_more}
+-- The keys of items, the first item apart.
+use Rattle.std.proofs.Common.{◌≡◌, ℕ, ◌+◌, ◌<◌, List, [], ◌∷◌, ◌++◌, length, drop, get_or, refl, sym, ◌∙◌, ap, append_assoc}
+use Rattle.std.proofs.lemmas.List.{at_drop_more}
 use Rattle.collation_elements.specs.declared.keys.Key.{Key}
 use Rattle.collation_elements.specs.declared.keys.Item.{Item}
 use Rattle.collation_elements.specs.declared.keys.Item.TheVariants.{ClusterStart, Element}
 use Rattle.collation_elements.specs.ItemParts.{item_keys}
 
-pub item_keys-append : (xs ys : List Item) → item_keys (xs ++ ys) ≡ item_keys xs ++ item_keys ys
-item_keys-append [] ys = refl
-item_keys-append (ClusterStart start ∷ xs) ys = item_keys-append xs ys
-item_keys-append (Element key ∷ xs) ys = ap (λ ks. key ∷ ks) (item_keys-append xs ys)
+item_keys-first : (item : Item) (rest : List Item) → item_keys (item ∷ []) ++ item_keys rest ≡ item_keys (item ∷ rest)
+item_keys-first (ClusterStart start) rest = refl
+item_keys-first (Element key) rest = refl
 
-pub item_keys-next : (xs : List Item) (i : ℕ) (d : Item) (ks : List Key) → i < length xs → ks ≡ item_keys (take i xs) →
-    ks ++ item_keys (get_or xs i d ∷ []) ≡ item_keys (take (i + 1) xs)
-item_keys-next xs i d ks below so_far =
-    ap (λ front. front ++ item_keys (get_or xs i d ∷ [])) so_far ∙ sym (item_keys-append (take i xs) (get_or xs i d ∷ [])) ∙ ap item_keys (sym (take_more xs i d below))
+pub item_keys-next : (xs : List Item) (i : ℕ) (d : Item) (ks : List Key) → i < length xs →
+    (ks ++ item_keys (get_or xs i d ∷ [])) ++ item_keys (drop (i + 1) xs) ≡ ks ++ item_keys (drop i xs)
+item_keys-next xs i d ks below =
+    append_assoc ks (item_keys (get_or xs i d ∷ [])) (item_keys (drop (i + 1) xs))
+    ∙ ap (λ (rest : List Key). ks ++ rest) (item_keys-first (get_or xs i d) (drop (i + 1) xs) ∙ sym (at_drop_more item_keys xs i d below))
