@@ -1,14 +1,13 @@
 -- Faults and open texts, from what a cutter of characters and a reorderer stand for.
-use Rattle.std.specs.Str.{chars, IsUtf8, is_utf8}
-use Rattle.std.specs.Str.Lossy.{utf8_valid_len}
+use Rattle.std.specs.Str.{chars, IsUtf8}
 use Rattle.std.specs.Char.{len_utf8, encode_utf8}
-use Rattle.std.specs.Prelude.{encode_utf8_all, IsTrue}
-use Rattle.std.proofs.Common.{◌≡◌, ℕ, zero, suc, ◌+◌, ◌-◌, ◌^◌, ◌<◌, ◌≤◌, Bool, true, false, not, ◌&&◌, ◌==◌, cond, nat_lt, nat_le, Result, Ok, Err, IfOk, OnOk, OnErr, IfErr, subst, List, [], ◌∷◌, ◌++◌, length, take, drop, get_or, map, Option, Some, None, is_none, ◌⊎◌, inl, inr, sym, ◌∙◌, ap, arith, refl}
-use Rattle.std.proofs.lemmas.Bool.{cases_Bool, and_parts, and_right, ltb-true, ltb-false, leb-true, lt-ltb, le-ltb, le-leb, lt-leb, eqb-true, eqb-false, eq-eqb, both_ways}
+use Rattle.std.specs.Prelude.{encode_utf8_all}
+use Rattle.std.proofs.Common.{◌≡◌, ℕ, suc, ◌+◌, ◌-◌, ◌<◌, ◌≤◌, true, false, ◌&&◌, ◌==◌, cond, nat_lt, nat_le, Result, Ok, Err, IfOk, OnOk, OnErr, IfErr, subst, List, [], ◌∷◌, ◌++◌, length, take, drop, get_or, map, Option, Some, None, is_none, inl, inr, sym, ◌∙◌, ap, arith, refl}
+use Rattle.std.proofs.lemmas.Bool.{cases_Bool, and_parts, and_right, ltb-false, leb-true, lt-ltb, le-ltb, le-leb, eqb-true, eqb-false}
 use Rattle.std.proofs.lemmas.List.{take_all, map-append, append-nil, length-append, length-take-le, append_assoc}
 use Rattle.std.proofs.lemmas.Str.{length-encode, encodes-chars}
 use Rattle.std.proofs.Math.Seq.{take-append-add, split_at}
-use Rattle.utf8_cut.specs.Characters.{characters, characters_from, characters_end, with_offsets, first_fault, ill_formed_at, is_open as is_cut_open}
+use Rattle.utf8_cut.specs.Characters.{characters, characters_end, with_offsets, first_fault, ill_formed_at, is_open as is_cut_open}
 use Rattle.nfd_points.specs.Points.{byte_len}
 use Rattle.nfd_points.specs.PointFaults.{point_fault}
 use Rattle.collation_search.specs.declared.faults.TextFault.{TextFault}
@@ -84,7 +83,7 @@ pub still_open : (u : List ℕ) (b : ℕ) → length u < most_bytes → ill_form
 still_open u b short formed good = open_from (u ++ b ∷ []) (longer u b short) (not_formed (u ++ b ∷ []) formed) good
 
 -- the next character stands behind the bytes of those so far
-byte_len_encoded : (cs : List ℕ) → byte_len cs ≡ length (encode_utf8_all cs)
+pub byte_len_encoded : (cs : List ℕ) → byte_len cs ≡ length (encode_utf8_all cs)
 unfolding byte_len
 byte_len_encoded [] = refl
 byte_len_encoded (c ∷ cs) = let rest = byte_len_encoded cs in let here = length-encode c in let sum = length-append (encode_utf8 c) (encode_utf8_all cs) in omega arith
@@ -262,6 +261,11 @@ not_open_ill u b more at short ill =
 -- a piece around one of its bytes, behind other bytes
 pub around : (u piece : List ℕ) (i : ℕ) → i < length piece → (u ++ take i piece) ++ get_or piece i 0 ∷ drop (suc i) piece ≡ u ++ piece
 around u piece i h = append_assoc u (take i piece) (get_or piece i 0 ∷ drop (suc i) piece) ∙ ap (λ t. u ++ t) (sym (split_at piece i 0 h))
+
+-- and with more bytes behind the piece
+pub around_more : (u piece more : List ℕ) (i : ℕ) → i < length piece → (u ++ take i piece) ++ get_or piece i 0 ∷ (drop (suc i) piece ++ more) ≡ (u ++ piece) ++ more
+around_more u piece more i h =
+    sym (append_assoc (u ++ take i piece) (get_or piece i 0 ∷ drop (suc i) piece) more) ∙ ap (λ t. t ++ more) (around u piece i h)
 
 pub if_ok_map : {A E : Type 0} → (r : Result A E) (P Q : A → Type 0) → ((a : A) → P a → Q a) → IfOk r P → IfOk r Q
 if_ok_map (Ok a) P Q f h = f a h

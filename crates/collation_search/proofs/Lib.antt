@@ -9,7 +9,6 @@ mod BridgeFlat
 mod BridgeMatches
 mod WalkLemmas
 mod BridgeBorder
-mod WorkedClusters
 pub mod FrontLemmas
 pub mod WorkedRowLemmas
 pub mod SearchLemmas

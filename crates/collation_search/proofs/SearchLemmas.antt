@@ -2,10 +2,10 @@
 use Rattle.std.specs.Str.{chars, IsUtf8, all_scalars}
 use Rattle.std.specs.Char.{len_utf8, encode_utf8}
 use Rattle.std.specs.Prelude.{encode_utf8_all}
-use Rattle.std.proofs.Common.{◌≡◌, ℕ, zero, suc, ◌+◌, ◌<◌, ◌≤◌, Bool, true, false, ◌&&◌, cond, nat_lt, List, [], ◌∷◌, ◌++◌, length, take, drop, Option, Some, None, sym, ◌∙◌, ap, subst, arith, refl, ◌⊎◌, inl, inr}
+use Rattle.std.proofs.Common.{◌≡◌, ℕ, ◌+◌, ◌≤◌, true, ◌&&◌, nat_lt, List, [], ◌∷◌, ◌++◌, length, take, drop, Option, Some, None, sym, ◌∙◌, ap, subst, arith, refl, ◌⊎◌, inl, inr}
 use Rattle.std.proofs.lemmas.Bool.{cases_Bool, and_parts}
 use Rattle.std.proofs.lemmas.List.{length-append, length-take, take-append-drop, take-append-le, take_all, append_assoc}
-use Rattle.std.proofs.lemmas.Str.{length-encode, encodes-chars, chars-encodes, scalars-chars}
+use Rattle.std.proofs.lemmas.Str.{encodes-chars, chars-encodes, scalars-chars}
 use Rattle.std.proofs.Math.Seq.{take-append_seam}
 use Rattle.std.proofs.Math.Utf8.{scalar}
 use Rattle.utf8_cut.specs.Characters.{characters_end, is_open as is_cut_open}
@@ -18,6 +18,7 @@ use Rattle.collation_elements.specs.declared.settings.Strength.{Strength}
 use Rattle.collation_search.specs.Answer.{Answer, answer, answer_at}
 use Rattle.collation_search.specs.Matches.{matches, settled}
 use Rattle.collation_search.specs.GoodFront.{most_bytes, seen, whole, byte_fault, first_of, fault, front, front_at}
+use Rattle.collation_search.proofs.FrontLemmas.{byte_len_encoded}
 
 -- the code points before the one at fault
 pub record Before (start run : ℕ) (cs : List ℕ) (at : ℕ × ℕ) : Type 0 where
@@ -80,11 +81,6 @@ scalars_front (x ∷ xs) ys h =
 encoded-append : (xs ys : List ℕ) → encode_utf8_all (xs ++ ys) ≡ encode_utf8_all xs ++ encode_utf8_all ys
 encoded-append [] ys = refl
 encoded-append (x ∷ xs) ys = ap (λ t. encode_utf8 x ++ t) (encoded-append xs ys) ∙ sym (append_assoc (encode_utf8 x) (encode_utf8_all xs) (encode_utf8_all ys))
-
-byte_len_encoded : (cs : List ℕ) → byte_len cs ≡ length (encode_utf8_all cs)
-unfolding byte_len
-byte_len_encoded [] = refl
-byte_len_encoded (c ∷ cs) = let rest = byte_len_encoded cs in let here = length-encode c in let sum = length-append (encode_utf8 c) (encode_utf8_all cs) in omega arith
 
 -- a good text, and how much of the bytes it is
 pub record IsGoodFront (bytes good : List ℕ) (end : ℕ) : Type 0 where

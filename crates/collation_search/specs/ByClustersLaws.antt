@@ -1,5 +1,5 @@
 -- What holds of the ranges found cluster by cluster.
-use Rattle.std.specs.Prelude.{◌≡◌, ℕ, ◌<◌, ◌≤◌, Bool, true, List, [], ◌∷◌, ◌++◌, filter, length}
+use Rattle.std.specs.Prelude.{◌≡◌, ℕ, ◌-◌, ◌<◌, ◌≤◌, Bool, true, ◌==◌, List, [], ◌∷◌, ◌++◌, map, filter, length, drop, if◌then◌else◌}
 use Rattle.std.specs.Bool.{Decides}
 use Rattle.std.specs.List.Sorted.{IsStrictlyIncreasing}
 use Rattle.collation_elements.specs.declared.keys.Key.{Key}
@@ -10,8 +10,10 @@ use Rattle.collation_elements.specs.declared.settings.Variable.{Variable}
 use Rattle.collation_elements.specs.declared.settings.Strength.{Strength}
 use Rattle.collation_elements.specs.Clusters.{clusters, clusters_of}
 use Rattle.collation_pattern.specs.Levels.{text_keys}
+use Rattle.collation_pattern.specs.Border.{border}
+use Rattle.collation_search.specs.declared.by_clusters.PlacedKey.{PlacedKey}
 use Rattle.collation_search.specs.Matches.{ranges_among, minimal, matches, settled}
-use Rattle.collation_search.specs.ByClusters.{last_has_keys, ended, found, found_before_last, placed, ended_by_keys, text_items}
+use Rattle.collation_search.specs.ByClusters.{last_has_keys, ended, found, found_before_last, placed, range_from, ended_by_keys, text_items}
 
 -- Of all ranges between boundaries whose clusters have the pattern's keys, those with no other one within them are those
 -- found cluster by cluster, in the same order. `test` tells whether the clusters of a range have these keys.
@@ -50,6 +52,15 @@ abbrev pub last_keys_tell : Type 0
 last_keys_tell =
     (pattern : List Key) (cs : List Cluster) (end : ℕ) →
     last_has_keys cs ≡ true → ended pattern cs end ≡ ended_by_keys pattern (placed cs) end
+
+-- The last keys are the pattern's exactly where the whole pattern is the longest front of it that ends the keys.
+abbrev pub border_tells : Type 0
+border_tells =
+    (pattern : List Key) (ks : List PlacedKey) (end : ℕ) →
+    ended_by_keys pattern ks end
+    ≡ (let state = border pattern (map (λ k. k.key) ks) in
+    let ranges = range_from (drop (length ks - length pattern) ks) end in
+    if state == length pattern then ranges else [])
 
 -- Matches, which compare the sort keys of all parts between boundaries, each part taken as a text by itself, are the ranges
 -- that are found by the keys of the whole text's clusters.

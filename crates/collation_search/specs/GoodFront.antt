@@ -1,7 +1,7 @@
 -- How far bytes are a text that can be searched: the longest front of whole characters (the Unicode Standard, D92) before
 -- the first fault, which is an ill-formed or cut character, the end of 2^62 bytes, a decomposition of more than 4 code
 -- points or a run of more than 30 non-starters (UAX #15, Stream-Safe Text).
-use Rattle.std.specs.Prelude.{ℕ, ◌^◌, ◌&&◌, Bool, nat_lt, nat_le, List, [], ◌∷◌, length, take, Option, Some, None, is_none, if◌then◌else◌}
+use Rattle.std.specs.Prelude.{ℕ, ◌^◌, ◌&&◌, Bool, nat_lt, nat_le, List, length, take, Option, Some, None, is_none, if◌then◌else◌}
 use Rattle.std.specs.Str.{chars}
 use Rattle.utf8_cut.specs.Characters.{characters_end, is_open as is_cut_open}
 use Rattle.nfd_points.specs.PointFaults.{point_fault}

@@ -1,5 +1,5 @@
--- Matches and minimal matches (UTS #10, section 8).
-use Rattle.std.specs.Prelude.{ℕ, ◌-◌, Bool, true, false, ◌==◌, ◌&&◌, not, nat_le, nat_lt, List, map, flat_map, filter, length, take, drop, bytes_eq}
+-- Matches and minimal matches (UTS #10, section 11).
+use Rattle.std.specs.Prelude.{ℕ, ◌-◌, Bool, ◌==◌, ◌&&◌, not, nat_le, nat_lt, List, map, flat_map, filter, length, take, drop, bytes_eq}
 use Rattle.std.specs.List.{list_any}
 use Rattle.collation_table.specs.Table.{TableMap}
 use Rattle.collation_elements.specs.declared.settings.Variable.{Variable}
@@ -34,7 +34,8 @@ abbrev pub matches : TableMap → Strength → Variable → List ℕ → List �
 matches table strength variable pattern text =
     let key = text_key table strength variable pattern in minimal (ranges_with_key table strength variable key text)
 
--- those that end before the end of the text, which no text that follows can change
+-- Those that end before the end of the text. They are handed out where a text counts as ended, as at a fault. Of a text that
+-- goes on they need not be matches: a longer contraction across the old end may take a boundary away.
 abbrev pub settled : TableMap → Strength → Variable → List ℕ → List ℕ → List (ℕ × ℕ)
 settled table strength variable pattern text =
     filter (λ range. nat_lt range.1 (length text)) (matches table strength variable pattern text)

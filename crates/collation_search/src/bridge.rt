@@ -1,8 +1,8 @@
 //! Why the search may walk over a text once. A match is defined by all pairs of boundaries, and the minimal ones among
-//! them by all pairs of matches (UTS #10, section 8); the functions here state, each by its contract, that these are the
+//! them by all pairs of matches (UTS #10, section 11); the functions here state, each by its contract, that these are the
 //! ranges found at the end of one cluster after the other.
 
-ghost use Rattle.collation_search.specs.ByClustersLaws.{minimal_ranges_are_found, one_cluster_more, one_range_ends, last_cluster_left_out, found_ranges_stay, last_keys_tell, matches_are_found, settled_are_found, items_tell_ranges};
+ghost use Rattle.collation_search.specs.ByClustersLaws.{minimal_ranges_are_found, one_cluster_more, one_range_ends, last_cluster_left_out, found_ranges_stay, last_keys_tell, border_tells, matches_are_found, settled_are_found, items_tell_ranges};
 
 use collation_elements::clusters_are_parts;
 use collation_pattern::laws::key_law;
@@ -21,9 +21,11 @@ pub fn growing_text()
     ensures begins { found_ranges_stay }
 {}
 
-/// Whether a range ends with a cluster is told by the last keys, as many as the pattern has.
+/// Whether a range ends with a cluster is told by the last keys, as many as the pattern has, and whether these are the
+/// pattern's by how much of the pattern ends the keys so far.
 pub fn last_keys()
-    ensures { last_keys_tell }
+    ensures keys { last_keys_tell }
+    ensures border { border_tells }
 {}
 
 /// Under a well-formed table the minimal matches of a pattern in a text are the ranges that its keys and the clusters of

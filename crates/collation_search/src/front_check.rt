@@ -15,17 +15,19 @@ use utf8_cut::{Cut, Cutting, any_bytes_may_follow, whole_characters_are_the_long
 /// How many bytes a text may have.
 pub const MOST_BYTES: u64 = 1 << 62;
 
-/// Takes the bytes of a text in pieces, and tells its first fault.
+/// Takes the bytes of a text in pieces, and tells its first fault. A fault that was told is told again by each later call.
 #[derive(Drop)]
 pub struct FrontCheck {
     cut: Cut,
     reorder: Reorder,
+    told: Option<TextFault>,
 }
 
 impl FrontCheck {
-    ghost use Rattle.std.specs.Prelude.{◌≡◌, ◌++◌, ℕ, List, [], ◌∷◌, OnOk, OnErr, IfErr, Some, true, false};
+    ghost use Rattle.std.specs.Prelude.{◌≡◌, ◌++◌, ℕ, List, [], ◌∷◌, OnOk, OnErr, IfErr, Some, Err, true, false};
     ghost use Rattle.collation_search.specs.GoodFront.{fault, is_open};
-    ghost use Rattle.collation_search.specs.FrontChecks.{HasChecked};
+    ghost use Rattle.collation_search.specs.declared.faults.TextFault.{TextFault};
+    ghost use Rattle.collation_search.specs.FrontChecks.{HasChecked, HasTold};
 
     /// Nothing was taken yet.
     pub fn new(alloc: Global) -> FrontCheck
@@ -34,6 +36,7 @@ impl FrontCheck {
         FrontCheck {
             cut: Cut::new(),
             reorder: Reorder::new(alloc),
+            told: None,
         }
     }
 
@@ -41,14 +44,21 @@ impl FrontCheck {
     ///
     /// # Errors
     ///
-    /// The first fault of the text so far, which no byte that follows changes.
+    /// The first fault of the text so far, which no byte that follows changes; from then on the same fault.
     pub fn take(&mut self, piece: &[u8]) -> Result<(), TextFault>
         ensures open { (u : List ℕ) → HasChecked self.old u → OnOk result (HasChecked self.new (u ++ piece.now)) }
         ensures fault { (u : List ℕ) → HasChecked self.old u → IfErr result (λ f. fault (u ++ piece.now) ≡ Some f) }
         ensures closed { (u : List ℕ) → HasChecked self.old u → OnErr result (is_open (u ++ piece.now) ≡ false) }
+        ensures stays { (u more : List ℕ) → HasChecked self.old u → IfErr result (λ f. fault ((u ++ piece.now) ++ more) ≡ Some f) }
+        ensures told { IfErr result (λ f. HasTold self.new f) }
+        ensures again { (f : TextFault) → HasTold self.old f → result ≡ Err f }
     {
+        if let Some(fault) = self.told {
+            return Err(fault);
+        }
         for byte in piece {
             if let Err(fault) = self.take_byte(*byte) {
+                self.told = Some(fault);
                 return Err(fault);
             }
         }
@@ -82,9 +92,13 @@ impl FrontCheck {
 
     /// The first fault of the text, which ends here.
     pub fn finish(&self) -> Option<TextFault>
-        ensures { (u : List ℕ) → HasChecked self.now u → result ≡ fault u }
+        ensures fault { (u : List ℕ) → HasChecked self.now u → result ≡ fault u }
+        ensures again { (f : TextFault) → HasTold self.now f → result ≡ Some f }
     {
         whole_characters_are_the_longest_text();
+        if let Some(fault) = self.told {
+            return Some(fault);
+        }
         match self.cut.finish() {
             None => None,
             Some(offset) => Some(TextFault {

@@ -1,4 +1,4 @@
-//! The search: minimal matches of a pattern in a text (UTS #10, section 8).
+//! The search: minimal matches of a pattern in a text (UTS #10, section 11).
 //!
 //! It stands on `collation_pattern` (patterns and the law that keys decide what sort keys decide), `collation_elements`
 //! (the items of a text), `nfd_points` and `utf8_cut` (where a text is good), and `collation_table`. [`answer_of`] answers a

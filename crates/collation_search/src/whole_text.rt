@@ -21,7 +21,7 @@ use utf8_cut::whole_characters_are_the_longest_text;
 /// What a search answers of a text that has ended.
 #[derive(Drop)]
 pub struct Answered {
-    /// The start and the end of each range, in bytes from the beginning of the text, by rising start.
+    /// The start and the end of each range, in bytes from the beginning of the text, the end not included, by rising start.
     pub ranges: Vec<(u64, u64)>,
     /// The first fault of the text.
     pub fault: Option<TextFault>,
@@ -45,6 +45,7 @@ pub fn answer_of<W: Weights>(
         → IsUtf8 p → pattern.now.keys ≡ text_keys (W.table table.now) pattern.now.strength pattern.now.variable p
         → answer (W.table table.now) pattern.now.strength pattern.now.variable p text.now
         ≡ record { ranges = a.ranges.items; fault = a.fault }) }
+    ensures fault { IfOk result (λ a. a.fault ≡ fault text.now) }
     ensures open { IfOk result (λ a. a.fault ≡ None → is_open text.now ≡ true) }
 {
     whole_characters_are_the_longest_text();
@@ -68,7 +69,10 @@ pub fn answer_of<W: Weights>(
     }
 }
 
-/// The settled matches of the whole characters of an open text, which cannot be read further.
+/// The settled matches of the whole characters of an open text, which cannot be read further: the start and the end of each,
+/// in bytes from the beginning of the text, the end not included, by rising start.
+///
+/// The pattern was compiled with this table.
 ///
 /// # Errors
 ///

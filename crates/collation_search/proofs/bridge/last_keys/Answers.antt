@@ -1,6 +1,7 @@
 -- The last keys begin behind a cluster, within it or at its start.
 use Rattle.collation_search.proofs.BridgeFlat.{ended-by_keys}
+use Rattle.collation_search.proofs.BridgeBorder.{ended-by_border}
 use Rattle.collation_search.proofs.bridge.last_keys.Goals as goal
 
 pub returns : goal.returns
-returns c = ended-by_keys
+returns c = record { keys = ended-by_keys; border = ended-by_border }

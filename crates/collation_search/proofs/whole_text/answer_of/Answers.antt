@@ -1,6 +1,5 @@
-use Rattle.std.specs.Str.{chars, IsUtf8}
-use Rattle.std.specs.Prelude.{length}
-use Rattle.std.proofs.Common.{◌≡◌, ◌∙◌, ℕ, List, take, sym, ap, subst, arith, refl}
+use Rattle.std.specs.Str.{chars}
+use Rattle.std.proofs.Common.{◌∙◌, sym, ap, refl}
 use Rattle.std.proofs.lemmas.List.{length-take-le}
 use Rattle.nfd_points.specs.PointFaults.{point_fault}
 use Rattle.collation_search.specs.Matches.{matches, settled}

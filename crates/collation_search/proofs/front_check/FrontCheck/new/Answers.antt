@@ -7,4 +7,4 @@ use Rattle.collation_search.proofs.front_check.FrontCheck.new.Goals as goal
 
 pub returns : goal.returns
 unfolding chars is_utf8 utf8_valid_len encode_utf8 fault_from
-returns c = record { given = []; cut = c.new.ensures.stands_for; reordered = c.new-2.ensures.starts; is_open_text = refl }
+returns c = record { given = []; cut = c.new.ensures.stands_for; reordered = c.new-2.ensures.starts; is_open_text = refl; none_told = refl }

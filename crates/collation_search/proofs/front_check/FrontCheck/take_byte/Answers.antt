@@ -1,6 +1,6 @@
 use Rattle.std.specs.Str.{chars}
-use Rattle.std.proofs.Common.{◌≡◌, ◌<◌, ◌≤◌, ◌∙◌, ℕ, List, [], ◌∷◌, ◌++◌, length, true, Some, Err, Ok, sym, ap, subst, arith, refl}
-use Rattle.utf8_cut.specs.Characters.{characters, characters_end}
+use Rattle.std.proofs.Common.{◌≡◌, ◌<◌, ◌≤◌, ◌∙◌, ℕ, List, [], ◌∷◌, ◌++◌, length, true, Some, Err, sym, ap, subst, arith, refl}
+use Rattle.utf8_cut.specs.Characters.{characters}
 use Rattle.utf8_cut.specs.State.{StandsFor}
 use Rattle.nfd_points.specs.Points.{byte_len}
 use Rattle.nfd_points.specs.PointFaults.{point_fault}
@@ -29,6 +29,7 @@ returns-in-More-clause-open c = λ u h.
       cut = subst (λ g. StandsFor c.push.new.self (u ++ c.args.byte ∷ []) g) stands.characters_given stands;
       reordered = subst (λ cs. HasReordered c.args.self.now.reorder cs h.given) (sym codes) h.reordered;
       is_open_text = still_open u c.args.byte short (sym formed) (ap point_fault codes ∙ open_good u h.is_open_text);
+      none_told = h.none_told;
     }
 
 -- what is known once an ill-formed sequence was met
@@ -89,6 +90,7 @@ returns-in-Char-clause-open c = λ u h.
       cut = known.4;
       reordered = subst (λ cs. HasReordered c.reordered.new.reorder cs (h.given ++ next.0)) (sym known.1) next.1;
       is_open_text = still_open u c.args.byte known.0 (sym formed) good;
+      none_told = h.none_told;
     })
 
 at_fault : (c : goal.After-reordered) (u more : List ℕ) (f : TextFault) → HasChecked c.args.self.now u → c.reordered.result ≡ Err f →
