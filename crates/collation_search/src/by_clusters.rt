@@ -119,8 +119,8 @@ impl Walk {
 /// The ranges of a text of `len` bytes with these items that have the pattern's keys, cluster end by cluster end: the start
 /// and the end of each, in bytes from the beginning of the text, the end not included.
 ///
-/// Where the clusters start at rising offsets below `len`, as those of a text do, these are the ranges that have no other
-/// such range within them, by rising start.
+/// Where the clusters start at rising offsets below `len`, as those of a text do, and the pattern has a key, these are the
+/// ranges that have no other such range within them, by rising start.
 pub fn ranges_by_clusters(
     alloc: Global,
     items: &[Item],
