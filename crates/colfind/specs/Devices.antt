@@ -16,7 +16,7 @@ abbrev pub moved : Result ℕ DeviceFault → List ℕ → List ℕ
 moved (Ok k) buffer = take k buffer
 moved (Err _) buffer = []
 
--- a `write` of a non-empty buffer that took no byte
+-- a `write` that failed: an `Err`, or one that took no byte of a non-empty buffer
 abbrev pub takes_nothing : Result ℕ DeviceFault → List ℕ → Bool
 takes_nothing (Ok k) buffer = k == 0 && not (length buffer == 0)
 takes_nothing (Err _) buffer = true

@@ -6,5 +6,6 @@ pub mod Patterns
 pub mod Printing
 pub mod Reading
 pub mod Running
+pub mod Searching
 pub mod Settings
 pub mod Writing

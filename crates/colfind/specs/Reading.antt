@@ -2,8 +2,8 @@
 use Rattle.std.specs.Prelude.{◌≡◌, ℕ, List, ◌++◌, Option, Bool, true, false}
 use Rattle.colfind.specs.declared.reading.Reading.{Reading}
 use Rattle.colfind.specs.declared.reading.Reading.TheVariants.{Fault}
-use Rattle.colfind.specs.declared.reading.Ending.{Ending}
-use Rattle.colfind.specs.declared.reading.Ending.TheVariants as ending
+use Rattle.colfind.specs.declared.texts.Ending.{Ending}
+use Rattle.colfind.specs.declared.texts.Ending.TheVariants as ending
 use Rattle.colfind.specs.Devices.{behind_piece}
 
 -- the bytes that were read stood in front of those that are left, and are now at the end of what is kept

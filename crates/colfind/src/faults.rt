@@ -9,7 +9,7 @@ use collation_pattern::PatternFault;
 use collation_search::TextFault;
 use collation_table::TableFault;
 
-/// The words or the kind of the search were refused memory.
+/// Memory was refused for the words of the command line or for the search.
 pub const MEMORY: u8 = 36;
 
 /// Memory was refused while the table file was read.
@@ -29,7 +29,9 @@ pub const TABLE_FILE: u8 = 43;
 pub enum Fault {
     /// The words are not those of the command.
     Usage,
-    /// A kind of fault, and the line or the offset at which it stands, or 0.
+    /// The kind of a fault, and where it stands: for a fault in the table file its line, counted
+    /// from 1; for one in the text, or of its reader, a byte offset from the start of the text.
+    /// It is 0 where the fault has no such place.
     At(u8, u64),
 }
 

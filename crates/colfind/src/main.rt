@@ -4,12 +4,18 @@
 //! The text is read from standard input, and the ranges are written to standard output. `run` is
 //! the search over any reader and writer, `program` is the whole program but for the standard
 //! streams, and `settings` reads the words of the command line.
+//!
+//! It stands on `collation_search`, which answers a text, on `collation_pattern` and
+//! `collation_table`, which make the pattern and the table, and on the settings of
+//! `collation_elements`; on `clap` for the words, on `itoa` and `arrayvec` for the lines.
 #![tactic(auto)]
 
-ghost use Rattle.std.specs.Prelude.{◌^◌, ◌<◌};
+ghost use Rattle.std.specs.Prelude.{◌≡◌, ◌^◌, ◌<◌, ◌≤◌};
+ghost use Rattle.colfind.specs.Faults.{TellsSomeFault};
 
 mod devices;
 mod faults;
+mod files;
 mod memory;
 mod output;
 mod program;
@@ -17,6 +23,7 @@ mod reading;
 mod run;
 mod settings;
 mod streams;
+mod texts;
 mod words;
 mod writing;
 
@@ -53,6 +60,10 @@ fn given_words(rt: &HostRuntime) -> Result<Vec<String>, Fault> {
 /// What the words ask for, between the standard streams. It answers the status.
 fn answer<E: Target>(rt: &HostRuntime, given: &Vec<String>, err: &mut E) -> u8
     requires { E.failures err.old < 2 ^ 63 }
+    ensures status { result ≤ 2 }
+    ensures quiet { result < 2 → err.new ≡ err.old }
+    ensures told { result ≡ 2 → TellsSomeFault (E.held err.old) (E.held err.new)
+        (E.failures err.old) (E.failures err.new) }
 {
     let Ok(words) = texts_of(rt.alloc(), given) else {
         return tell(err, Fault::At(MEMORY, 0));

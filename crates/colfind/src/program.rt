@@ -1,20 +1,21 @@
 //! The program: its words, its table file, and a run from standard input to standard output.
-ghost use Rattle.std.specs.Prelude.{◌≡◌, ◌<◌, ◌≤◌, ◌^◌};
-ghost use Rattle.colfind.specs.declared.faults.Fault.{Fault};
+ghost use Rattle.std.specs.Prelude.{◌≡◌, ◌<◌, ◌≤◌, ◌^◌, ℕ, map, IfOk, OnOk};
 ghost use Rattle.colfind.specs.Devices.{with_piece};
-ghost use Rattle.colfind.specs.Faults.{fault_line};
+ghost use Rattle.colfind.specs.Faults.{fault_line, TellsSomeFault};
+ghost use Rattle.colfind.specs.Searching.{FindsAll, FindsAsked, status_of};
 ghost use Rattle.colfind.specs.Writing.{WritesFront};
 
 use crate::devices::{Source, Target};
 use crate::faults::{Fault, MEMORY, READ, TABLE_FILE, TABLE_MEMORY, WRITE};
+use crate::files::{FileFault, read_all};
 use crate::output::Output;
-use crate::reading::{FileFault, read_all};
 use crate::run::{Outcome, run};
 use crate::settings::settings;
 use crate::streams::FromRead;
 use crate::writing::write_all;
+use collation_elements::{Strength, Variable};
 use collation_pattern::Pattern;
-use collation_table::Table;
+use collation_table::{Table, Weights};
 use std::alloc::Global;
 use std::fs;
 use std::rt::Files;
@@ -34,9 +35,15 @@ pub fn program<'a, F: Files, R: Source, O: Target, E: Target>(
     requires writes { O.failures out.old < 2 ^ 63 }
     requires tells { E.failures err.old < 2 ^ 63 }
     ensures status { result ≤ 2 }
+    // No clause can name the table file, so the table is any that is well formed.
+    ensures found { result < 2 → (count : ℕ) × (result ≡ status_of count)
+        × FindsAsked (map (λ word. word.now) words.entry.now) count
+        (R.left input.old) (R.left input.new) (O.held out.old) (O.held out.new) }
+    ensures sound { result < 2 → (R.failures input.new ≡ R.failures input.old)
+        × (O.failures out.new ≡ O.failures out.old) }
     ensures quiet { result < 2 → err.new ≡ err.old }
-    ensures told { result ≡ 2 → (fault : Fault)
-        × WritesFront (E.held err.old) (E.held err.new) (fault_line fault) }
+    ensures told { result ≡ 2 → TellsSomeFault (E.held err.old) (E.held err.new)
+        (E.failures err.old) (E.failures err.new) }
 {
     match count_matches(runtime, alloc, words, input, out) {
         Ok(0) => 1,
@@ -67,11 +74,43 @@ fn count_matches<'a, F: Files, R: Source, O: Target>(
 ) -> Result<u64, Fault>
     requires reads { R.failures input.old < 2 ^ 63 }
     requires writes { O.failures out.old < 2 ^ 63 }
+    ensures found { IfOk result (λ count. FindsAsked (map (λ word. word.now) words.entry.now) count
+        (R.left input.old) (R.left input.new) (O.held out.old) (O.held out.new)) }
+    ensures sound { OnOk result ((R.failures input.new ≡ R.failures input.old)
+        × (O.failures out.new ≡ O.failures out.old)) }
 {
     let asked = settings(alloc, words)?;
     let table = read_table(runtime, alloc, asked.table)?;
-    let pattern = Pattern::compile(alloc, &table, asked.pattern, asked.strength, asked.variable)?;
-    match run(alloc, &table, &pattern, Output::Ranges, input, out) {
+    search(
+        alloc,
+        &table,
+        asked.pattern,
+        asked.strength,
+        asked.variable,
+        input,
+        out,
+    )
+}
+
+/// The number of matches of a text in the input, which were written.
+fn search<W: Weights, R: Source, O: Target>(
+    alloc: Global,
+    table: &W,
+    text: &str,
+    strength: Strength,
+    variable: Variable,
+    input: &mut R,
+    out: &mut O,
+) -> Result<u64, Fault>
+    requires reads { R.failures input.old < 2 ^ 63 }
+    requires writes { O.failures out.old < 2 ^ 63 }
+    ensures found { IfOk result (λ count. FindsAll (W.table table.now) strength variable text.now count
+        (R.left input.old) (R.left input.new) (O.held out.old) (O.held out.new)) }
+    ensures sound { OnOk result ((R.failures input.new ≡ R.failures input.old)
+        × (O.failures out.new ≡ O.failures out.old)) }
+{
+    let pattern = Pattern::compile(alloc, table, text, strength, variable)?;
+    match run(alloc, table, &pattern, Output::Ranges, input, out) {
         Outcome::Done(count) => Ok(count),
         Outcome::Text(fault) => Err(Fault::from(fault)),
         Outcome::Read(offset) => Err(Fault::At(READ, offset)),

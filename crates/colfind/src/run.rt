@@ -1,5 +1,5 @@
 //! A run of the search over a reader and a writer.
-ghost use Rattle.std.specs.Prelude.{ℕ, List, ◌≡◌, ◌<◌, ◌^◌, ◌-◌, ◌+◌, ◌≤◌, ◌↔◌, ◌≢◌, nat_lt, IfOk, OnErr};
+ghost use Rattle.std.specs.Prelude.{ℕ, List, ◌≡◌, ◌<◌, ◌^◌, ◌+◌, ◌≤◌, ◌↔◌, ◌≢◌, nat_lt, IfOk, OnErr};
 ghost use Rattle.colfind.specs.Patterns.{IsCompiledFrom, answer_to, settled_in};
 ghost use Rattle.colfind.specs.Reading.{ReadsSome};
 ghost use Rattle.colfind.specs.Finding.{Finds, failures_of};
@@ -7,7 +7,7 @@ ghost use Rattle.colfind.specs.Running.{Runs, FailsAs, IsRead};
 
 use crate::devices::{Source, Target};
 use crate::output::Output;
-use crate::reading::{Ending, read_text};
+use crate::texts::{Ending, read_text};
 use crate::writing::write_ranges;
 use collation_pattern::Pattern;
 use collation_search::{TextFault, answer_of, settled_of};
@@ -79,10 +79,10 @@ fn find<W: Weights, R: Source>(
 }
 
 /// Finds the pattern in the text that `reader` gives, and writes the matches to `out`, which it
-/// then flushes. The text is read to its end or to its first fault. A failure of the reader ends
-/// the text too, and then the matches that end before the end of its last whole character are
-/// written. After a failure of `out` nothing more is written, and that is told in place of
-/// anything else.
+/// then flushes; no clause can say the latter. The text is read to its end or to its first fault.
+/// A failure of the reader ends the text too, and then the matches that end before the end of its
+/// last whole character are written. After a failure of `out` nothing more is written, and that
+/// is told in place of anything else. Where memory is refused, `out` is asked for nothing.
 pub fn run<W: Weights, R: Source, O: Target>(
     alloc: Global,
     table: &W,
@@ -101,8 +101,8 @@ pub fn run<W: Weights, R: Source, O: Target>(
     ensures write_failed { (result ≡ Outcome.Write) ↔ (O.failures out.old < O.failures out.new) }
     ensures read_failed { result ≢ Outcome.Memory → IsRead result
         ↔ ((R.failures reader.old < R.failures reader.new) × (O.failures out.new ≡ O.failures out.old)) }
-    ensures failures { FailsAs result (R.failures reader.new - R.failures reader.old)
-        (O.failures out.new - O.failures out.old) }
+    ensures failures { FailsAs result (R.failures reader.old) (R.failures reader.new)
+        (O.failures out.old) (O.failures out.new) }
     ensures memory { result ≡ Outcome.Memory → out.new ≡ out.old }
 {
     let Ok(found) = find(alloc, table, pattern, reader) else {

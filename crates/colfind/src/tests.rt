@@ -2,10 +2,10 @@
 ghost use Rattle.std.specs.Prelude.{◌<◌, ◌^◌};
 
 use crate::devices::{Source, Target};
+use crate::files::{FileFault, read_all};
 use crate::memory::{MemorySource, MemoryTarget};
 use crate::output::Output;
 use crate::program::program;
-use crate::reading::{FileFault, read_all};
 use crate::run::{Outcome, run};
 use crate::settings::settings;
 use crate::streams::{FromRead, ToWrite};
@@ -22,6 +22,8 @@ use std::test::Fail;
 use std::{env, fs};
 
 mod devices;
+mod pieces;
+mod refusals;
 mod rows;
 
 const TABLE: &str = "@version 0.0.0
@@ -71,62 +73,50 @@ fn outcome_of<R: Source, O: Target>(
     run(alloc, &table, &pattern, form, reader, out)
 }
 
+/// A pattern, a text, a form of output, what is printed, and what is told.
+type FormRow<'a> = (&'a str, &'a [u8], Output, &'a str, Outcome);
+
+/// Compares what a run tells and prints of each row, over devices that move a byte at a time.
+fn compare_by_bytes(rt: &impl Abort, alloc: Global, rows: &[FormRow]) {
+    for (pattern, text, form, printed, outcome) in rows {
+        let mut reader = MemorySource::new(*text, 1);
+        let mut out = FailingTarget::new(alloc, 1, u64::MAX);
+        let told = outcome_of(rt, alloc, *pattern, *form, &mut reader, &mut out);
+        assert_eq!(rt; told, *outcome);
+        assert_eq!(rt; out.bytes(), printed.as_bytes());
+    }
+}
+
+/// What a run tells of an ill-formed sequence at a byte offset.
+fn ill_formed_at(offset: u64) -> Outcome {
+    Outcome::Text(TextFault { kind: 31, offset })
+}
+
 #[test]
-fn reads_and_writes_a_byte_at_a_time(rt: HostRuntime) {
-    let alloc = rt.alloc();
-    for (pattern, text, form, printed, outcome) in [
+fn moves_a_byte_at_a_time(rt: HostRuntime) {
+    let rows: [FormRow; 5] = [
+        ("aa", b"aaa", Output::Ranges, "0:2\n1:3\n", Outcome::Done(2)),
+        ("aa", b"aaa", Output::Count, "2\n", Outcome::Done(2)),
         (
             "aa",
-            b"aaa".as_slice(),
-            Output::Ranges,
-            "0:2\n1:3\n",
-            Outcome::Done(2),
-        ),
-        (
-            "aa",
-            b"aaa".as_slice(),
-            Output::Count,
-            "2\n",
-            Outcome::Done(2),
-        ),
-        (
-            "aa",
-            b"aaa".as_slice(),
+            b"aaa",
             Output::Marks,
             "[0\n]2\n[1\n]3\n",
             Outcome::Done(2),
         ),
-        ("a", b"".as_slice(), Output::Ranges, "", Outcome::Done(0)),
-        ("a", b"".as_slice(), Output::Count, "0\n", Outcome::Done(0)),
-        (
-            "a",
-            b"ab \xff".as_slice(),
-            Output::Ranges,
-            "0:1\n",
-            Outcome::Text(TextFault {
-                kind: 31,
-                offset: 3,
-            }),
-        ),
-        (
-            "b",
-            b"ab\xff".as_slice(),
-            Output::Count,
-            "0\n",
-            Outcome::Text(TextFault {
-                kind: 31,
-                offset: 2,
-            }),
-        ),
-    ] {
-        let mut reader = MemorySource::new(text, 1);
-        let mut out = FailingTarget::new(alloc, 1, u64::MAX);
-        assert_eq!(rt;
-            outcome_of(&rt, alloc, pattern, form, &mut reader, &mut out),
-            outcome
-        );
-        assert_eq!(rt; out.bytes(), printed.as_bytes());
-    }
+        ("a", b"", Output::Ranges, "", Outcome::Done(0)),
+        ("a", b"", Output::Count, "0\n", Outcome::Done(0)),
+    ];
+    compare_by_bytes(&rt, rt.alloc(), &rows);
+}
+
+#[test]
+fn moves_a_byte_at_a_time_to_a_fault(rt: HostRuntime) {
+    let rows: [FormRow; 2] = [
+        ("a", b"ab \xff", Output::Ranges, "0:1\n", ill_formed_at(3)),
+        ("b", b"ab\xff", Output::Count, "0\n", ill_formed_at(2)),
+    ];
+    compare_by_bytes(&rt, rt.alloc(), &rows);
 }
 
 #[test]
@@ -191,6 +181,11 @@ fn a_read_fails(rt: HostRuntime) {
     let outcome = outcome_of(&rt, alloc, "aa", Output::Count, &mut reader, &mut out);
     assert_eq!(rt; outcome, Outcome::Read(0));
     assert_eq!(rt; out.bytes(), b"0\n".as_slice());
+    let mut reader = FailingSource::new(b"\xc3\xa9", 1, 1);
+    let mut out = FailingTarget::new(alloc, 5, u64::MAX);
+    let outcome = outcome_of(&rt, alloc, "aa", Output::Ranges, &mut reader, &mut out);
+    assert_eq!(rt; outcome, Outcome::Read(1));
+    assert_eq!(rt; out.bytes(), b"".as_slice());
 }
 
 #[test]
@@ -214,13 +209,7 @@ fn nothing_is_read_behind_a_fault_of_the_text(rt: HostRuntime) {
     let mut reader = FailingSource::new(b"ab \xffab", 1, 4);
     let mut out = FailingTarget::new(alloc, 5, u64::MAX);
     let outcome = outcome_of(&rt, alloc, "a", Output::Ranges, &mut reader, &mut out);
-    assert_eq!(rt;
-        outcome,
-        Outcome::Text(TextFault {
-            kind: 31,
-            offset: 3
-        })
-    );
+    assert_eq!(rt; outcome, ill_formed_at(3));
     assert_eq!(rt; out.bytes(), b"0:1\n".as_slice());
 }
 
@@ -327,95 +316,85 @@ fn answered<'a, R: Source>(
     (status, out, err)
 }
 
-#[test]
-fn tells_its_faults(rt: HostRuntime) -> Result<(), Fail> {
-    let alloc = rt.alloc();
-    let folder = env::temp_dir(&rt)?;
-    let path = format!(in alloc; "{}/colfind-faults.table", folder.as_path().as_str())?;
-    fs::write(&rt, path.as_str(), TABLE)?;
-    let empty = format!(in alloc; "{}/colfind-empty.table", folder.as_path().as_str())?;
-    fs::write(&rt, empty.as_str(), "")?;
-    for (words, text, status, printed, told) in [
-        (
-            ["--table", path.as_str(), "--", "aa"],
-            b"aaa".as_slice(),
-            0,
-            "0:2\n1:3\n",
-            "",
-        ),
-        (
-            ["--table", path.as_str(), "--", "b"],
-            b"aaa".as_slice(),
-            1,
-            "",
-            "",
-        ),
-        (
-            ["--table", path.as_str(), "--", ""],
-            b"aaa".as_slice(),
-            2,
-            "",
-            "colfind: fault 22 at 0\n",
-        ),
-        (
-            ["--table", path.as_str(), "--", "a"],
-            b"ab \xff".as_slice(),
-            2,
-            "0:1\n",
-            "colfind: fault 31 at 3\n",
-        ),
-        (
-            ["--table", "no such file", "--", "a"],
-            b"a".as_slice(),
-            2,
-            "",
-            "colfind: fault 43 at 0\n",
-        ),
-        (
-            ["--table", folder.as_path().as_str(), "--", "a"],
-            b"a".as_slice(),
-            2,
-            "",
-            "colfind: fault 43 at 0\n",
-        ),
-        (
-            ["--table", empty.as_str(), "--", "a"],
-            b"a".as_slice(),
-            2,
-            "",
-            "colfind: fault 12 at 0\n",
-        ),
-        (
-            ["--tables", path.as_str(), "--", "a"],
-            b"a".as_slice(),
-            2,
-            "",
-            "colfind: usage\n",
-        ),
-    ] {
-        let (answer, out, err) = answered(&rt, &words, &mut MemorySource::new(text, 2));
-        assert_eq!(rt; answer, status);
+/// The path of a file with this name and contents, in the folder for files of tests.
+fn file_with(host: &HostRuntime, name: &str, contents: &str) -> Result<String, Fail> {
+    let folder = env::temp_dir(host)?;
+    let path = format!(in host.alloc(); "{}/colfind-{name}.table", folder.as_path().as_str())?;
+    fs::write(host, path.as_str(), contents)?;
+    Ok(path)
+}
+
+/// A pattern, a text, the status, and what goes to the two outputs.
+type StatusRow<'a> = (&'a str, &'a [u8], u8, &'a str, &'a str);
+
+/// Compares what the program answers of each row, with a table in the file at `path`.
+fn compare_status(rt: &impl Abort, host: &HostRuntime, path: &str, rows: &[StatusRow]) {
+    for (pattern, text, status, printed, told) in rows {
+        let words = ["--table", path, "--", *pattern];
+        let (answer, out, err) = answered(host, &words, &mut MemorySource::new(*text, 2));
+        assert_eq!(rt; answer, *status);
         assert_eq!(rt; out.bytes(), printed.as_bytes());
         assert_eq!(rt; err.bytes(), told.as_bytes());
     }
+}
+
+#[test]
+fn answers_a_status(rt: HostRuntime) -> Result<(), Fail> {
+    let path = file_with(&rt, "status", TABLE)?;
+    let rows: [StatusRow; 4] = [
+        ("aa", b"aaa", 0, "0:2\n1:3\n", ""),
+        ("b", b"aaa", 1, "", ""),
+        ("", b"aaa", 2, "", "colfind: fault 22 at 0\n"),
+        ("a", b"ab \xff", 2, "0:1\n", "colfind: fault 31 at 3\n"),
+    ];
+    compare_status(&rt, &rt, path.as_str(), &rows);
+    fs::remove_file(&rt, path.as_str())?;
+    Ok(())
+}
+
+#[test]
+fn tells_a_bad_table_file(rt: HostRuntime) -> Result<(), Fail> {
+    let unopened: [StatusRow; 1] = [("a", b"a", 2, "", "colfind: fault 43 at 0\n")];
+    compare_status(&rt, &rt, "no such file", &unopened);
+    let folder = env::temp_dir(&rt)?;
+    compare_status(&rt, &rt, folder.as_path().as_str(), &unopened);
+    let empty = file_with(&rt, "empty", "")?;
+    let rows: [StatusRow; 1] = [("a", b"a", 2, "", "colfind: fault 12 at 0\n")];
+    compare_status(&rt, &rt, empty.as_str(), &rows);
+    fs::remove_file(&rt, empty.as_str())?;
+    Ok(())
+}
+
+#[test]
+fn tells_words_of_another_command(rt: HostRuntime) {
+    let words = ["--tables", "table", "--", "a"];
+    let (answer, out, err) = answered(&rt, &words, &mut MemorySource::new(b"a", 2));
+    assert_eq!(rt; answer, 2);
+    assert_eq!(rt; out.bytes(), b"".as_slice());
+    assert_eq!(rt; err.bytes(), b"colfind: usage\n".as_slice());
+}
+
+#[test]
+fn tells_devices_that_fail(rt: HostRuntime) -> Result<(), Fail> {
+    let alloc = rt.alloc();
+    let path = file_with(&rt, "devices", TABLE)?;
     let words = ["--table", path.as_str(), "a"];
     let (answer, out, err) = answered(&rt, &words, &mut FailingSource::new(b"ab", 2, 1));
     assert_eq!(rt; answer, 2);
     assert_eq!(rt; out.bytes(), b"0:1\n".as_slice());
     assert_eq!(rt; err.bytes(), b"colfind: fault 41 at 2\n".as_slice());
+    let mut input = MemorySource::new(b"ab", 2);
+    let mut out = FailingTarget::new(alloc, 7, 0);
+    let mut err = FailingTarget::new(alloc, 7, u64::MAX);
+    let status = program(&rt, alloc, &words, &mut input, &mut out, &mut err);
+    assert_eq!(rt; status, 2);
+    assert_eq!(rt; err.bytes(), b"colfind: fault 42 at 0\n".as_slice());
+    let mut input = MemorySource::new(b"ab", 2);
     let mut out = FailingTarget::new(alloc, 7, 0);
     let mut err = FailingTarget::new(alloc, 1, 9);
-    let status = program(
-        &rt,
-        alloc,
-        &words,
-        &mut MemorySource::new(b"ab", 2),
-        &mut out,
-        &mut err,
-    );
+    let status = program(&rt, alloc, &words, &mut input, &mut out, &mut err);
     assert_eq!(rt; status, 2);
     assert_eq!(rt; err.bytes(), b"colfind: ".as_slice());
     fs::remove_file(&rt, path.as_str())?;
-    fs::remove_file(&rt, empty.as_str())?;
     Ok(())
 }

@@ -7,8 +7,11 @@ use thiserror::Error;
 pub struct Settings<'a> {
     /// The path of the table file.
     pub table: &'a str,
+    /// The text to search for.
     pub pattern: &'a str,
+    /// How many levels of weights are compared.
     pub strength: Strength,
+    /// How variable elements are weighted (UTS #10, section 4).
     pub variable: Variable,
 }
 

@@ -1,17 +1,16 @@
 //! Devices over memory that fail after some calls.
-ghost use Rattle.std.specs.Prelude.{◌≡◌, ◌<◌, Some, []};
+ghost use Rattle.std.specs.Prelude.{◌≡◌, ◌<◌, Some, [], IfOk};
 
 use crate::devices::{DeviceFault, Source, Target};
-use std::alloc::Global;
+use crate::memory::MemorySource;
+use std::alloc::{AllocError, Global};
 
 /// A reader over bytes that gives at most `most` bytes a read, and fails after `reads` reads.
 #[derive(Drop)]
 pub struct FailingSource<'a> {
-    rest: &'a [u8],
-    most: usize,
+    source: MemorySource<'a>,
     reads: u64,
     failures: u64,
-    ghost gives: { 0 < most },
 }
 
 impl<'a> FailingSource<'a> {
@@ -21,8 +20,7 @@ impl<'a> FailingSource<'a> {
         ensures failures { ⟦<FailingSource<'a> as Source>⟧.failures result ≡ 0 }
     {
         FailingSource {
-            rest: bytes,
-            most,
+            source: MemorySource::new(bytes, most),
             reads,
             failures: 0,
         }
@@ -30,7 +28,7 @@ impl<'a> FailingSource<'a> {
 }
 
 impl<'a> Source for FailingSource<'a> {
-    ghost left = { λ s. Some s.rest.now };
+    ghost left = { λ s. ⟦<MemorySource<'a> as Source>⟧.left s.source };
 
     ghost failures = { λ s. s.failures };
 
@@ -40,11 +38,7 @@ impl<'a> Source for FailingSource<'a> {
             return Err(DeviceFault);
         }
         self.reads -= 1;
-        let count = self.most.min(buf.len()).min(self.rest.len());
-        let (piece, rest) = self.rest.split_at(count);
-        buf[..count].copy_from_slice(piece);
-        self.rest = rest;
-        Ok(count)
+        self.source.read(buf)
     }
 }
 
@@ -75,6 +69,21 @@ impl FailingTarget {
             fails_to_flush: false,
             failures: 0,
         }
+    }
+
+    /// One that does not fail, and asks for no memory while it holds at most `room` bytes.
+    pub fn with_room(alloc: Global, room: usize, most: usize) -> Result<Self, AllocError>
+        requires { 0 < most }
+        ensures failures { IfOk result (λ t. ⟦<FailingTarget as Target>⟧.failures t ≡ 0) }
+    {
+        Ok(FailingTarget {
+            bytes: Vec::with_capacity(alloc, room)?,
+            most,
+            writes: u64::MAX,
+            takes_nothing: false,
+            fails_to_flush: false,
+            failures: 0,
+        })
     }
 
     pub fn taking_nothing(mut self) -> Self

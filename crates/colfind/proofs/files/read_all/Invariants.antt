@@ -1,6 +1,6 @@
 use Rattle.std.proofs.Common.{◌≡◌, ◌-◌, ◌^◌, vec_len}
 use Rattle.colfind.specs.Devices.{behind_piece}
-use Rattle.colfind.proofs.reading.read_all.Given as goal
+use Rattle.colfind.proofs.files.read_all.Given as goal
 
 -- the bytes read so far stood in front of those that are left
 abbrev pub invariant-loop-bytes : goal.invariant-loop-bytes

@@ -1,7 +1,7 @@
 use Rattle.std.proofs.Common.{◌≡◌, ◌-◌, ◌^◌, vec_len}
 use Rattle.colfind.specs.Devices.{behind_piece}
 use Rattle.collation_search.specs.FrontChecks.{HasChecked}
-use Rattle.colfind.proofs.reading.read_text.Given as goal
+use Rattle.colfind.proofs.texts.read_text.Given as goal
 
 -- the text so far is open, and stood in front of the bytes that are left
 abbrev pub invariant-loop-front : goal.invariant-loop-front

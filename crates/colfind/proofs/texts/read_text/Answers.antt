@@ -5,7 +5,7 @@ use Rattle.collation_search.specs.GoodFront.{is_open}
 use Rattle.collation_search.specs.FrontChecks.{HasChecked}
 use Rattle.colfind.proofs.Pieces.{behind_piece-then, read-step, rest-behind}
 use Rattle.colfind.proofs.Runs.{at_err, at_ok}
-use Rattle.colfind.proofs.reading.read_text.Goals as goal
+use Rattle.colfind.proofs.texts.read_text.Goals as goal
 
 pub returns-in_err-read_piece-clause-lost : goal.returns-in_err-read_piece-clause-lost
 returns-in_err-read_piece-clause-lost g c =
