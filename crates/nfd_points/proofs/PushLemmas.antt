@@ -15,6 +15,7 @@ use Rattle.nfd_points.proofs.OrderingLemmas.{ordered-ordered}
 use Rattle.nfd_points.proofs.PointsLemmas.{codes-points_at}
 use Rattle.nfd_points.proofs.RunLemmas.{run_after-append, short-append, short-starter, short-nil, fault_at-none}
 use Rattle.nfd_points.proofs.ReorderingLemmas.{is_closed-nil, carries}
+use Rattle.nfd_points.proofs.StepLemmas.{code_at_place}
 
 -- ---- what `push` does
 
@@ -60,9 +61,6 @@ pub ascii-sound : (c start : ℕ) → IsScalar c → c < 128 → IsSound (record
 ascii-sound c start scalar h = record { scalar = scalar; in_range = scalar_below c scalar; class = sym (class-ascii c h) }
 
 -- ---- the steps of `take_all`
-
-code_at_place : (points : List Point) (i : ℕ) (d : Point) → i < length points → codes (drop i points) ≡ ((get_or points i d).cp ∷ []) ++ codes (drop (i + 1) points)
-code_at_place points i d lt = ap codes (drop_more points i d lt)
 
 pub short-here : (run : ℕ) (points : List Point) (i : ℕ) (d : Point) → i < length points → has_short_runs run (codes (drop i points)) ≡ true → (has_short_runs run ((get_or points i d).cp ∷ []) ≡ true) × (has_short_runs (run_after run ((get_or points i d).cp ∷ [])) (codes (drop (i + 1) points)) ≡ true)
 short-here run points i d lt h =

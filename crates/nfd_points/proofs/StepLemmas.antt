@@ -1,7 +1,7 @@
 -- The steps of the loops that build the points of a code point and count a run over points.
-use Rattle.std.proofs.Common.{◌≡◌, ◌≢◌, ℕ, ◌+◌, ◌<◌, ◌≤◌, Bool, true, false, not, ◌&&◌, ◌==◌, nat_lt, List, [], ◌∷◌, ◌++◌, length, take, drop, get_or, All, suc, refl, sym, ap, ap₂, ◌∙◌, arith, lt-ltb, ltb-true, le-ltb, eq-eqb, ne_eqb, add-one, drop-cons}
+use Rattle.std.proofs.Common.{◌≡◌, ◌≢◌, ℕ, ◌+◌, ◌<◌, ◌≤◌, Bool, true, false, not, ◌&&◌, ◌==◌, nat_lt, List, [], ◌∷◌, ◌++◌, length, take, drop, get_or, All, suc, refl, sym, ap, ap₂, ◌∙◌, arith, lt-ltb, ltb-true, le-ltb, eq-eqb, ne_eqb}
 use Rattle.std.proofs.lemmas.Bool.{and_parts, and_left, not_from_false}
-use Rattle.std.proofs.lemmas.List.{take_more}
+use Rattle.std.proofs.lemmas.List.{take_more, drop_more}
 use Rattle.std.proofs.lemmas.List.Elements.{All-get_or}
 use Rattle.unicode_normalization.specs.Lookups.{canonical_combining_class}
 use Rattle.unicode_normalization.specs.Order.{is_nonstarter}
@@ -48,23 +48,23 @@ mark p sound ne = not_from_false _ (ne_eqb (canonical_combining_class p.cp) 0 (�
 starter : (p : Point) → IsSound p → p.ccc ≡ 0 → is_nonstarter p.cp ≡ false
 starter p sound e = ap not (eq-eqb (canonical_combining_class p.cp) 0 (sym sound.class ∙ e))
 
-at_place : (points : List Point) (i : ℕ) (d : Point) → i < length points → codes (drop i points) ≡ (get_or points i d).cp ∷ codes (drop (i + 1) points)
-at_place points i d lt = rw add-one (ap codes (drop-cons points i d lt))
+pub code_at_place : (points : List Point) (i : ℕ) (d : Point) → i < length points → codes (drop i points) ≡ (get_or points i d).cp ∷ codes (drop (i + 1) points)
+code_at_place points i d lt = ap codes (drop_more points i d lt)
 
 pub short-at_starter : (run : ℕ) (points : List Point) (i : ℕ) (d : Point) → i < length points → All IsSound points → (get_or points i d).ccc ≡ 0 → has_short_runs run (codes (drop i points)) ≡ has_short_runs 0 (codes (drop (i + 1) points))
 short-at_starter run points i d lt sound e =
-    ap (has_short_runs run) (at_place points i d lt)
+    ap (has_short_runs run) (code_at_place points i d lt)
     ∙ short-starter run _ _ (starter (get_or points i d) (All-get_or IsSound points i d lt sound) e)
 
 pub short-at_mark : (run : ℕ) (points : List Point) (i : ℕ) (d : Point) → i < length points → All IsSound points → (get_or points i d).ccc ≢ 0 → run < 30 → has_short_runs run (codes (drop i points)) ≡ has_short_runs (run + 1) (codes (drop (i + 1) points))
 short-at_mark run points i d lt sound ne room =
-    ap (has_short_runs run) (at_place points i d lt)
+    ap (has_short_runs run) (code_at_place points i d lt)
     ∙ short-mark run _ _ (mark (get_or points i d) (All-get_or IsSound points i d lt sound) ne)
     ∙ ap (λ b. b && has_short_runs (run + 1) (codes (drop (i + 1) points))) (lt-ltb run 30 room)
 
 pub short-at_last : (run : ℕ) (points : List Point) (i : ℕ) (d : Point) → i < length points → All IsSound points → (get_or points i d).ccc ≢ 0 → 30 ≤ run → has_short_runs run (codes (drop i points)) ≡ false
 short-at_last run points i d lt sound ne full =
-    ap (has_short_runs run) (at_place points i d lt)
+    ap (has_short_runs run) (code_at_place points i d lt)
     ∙ short-mark run _ _ (mark (get_or points i d) (All-get_or IsSound points i d lt sound) ne)
     ∙ and_left _ _ (le-ltb run 30 full)
 
