@@ -1,0 +1,300 @@
+"""The definitions of colfind once more, in Python and by brute force: from a table, a pattern and the bytes of a text to
+what the program prints. It was written from the definitions in words, not from the code. See random_searches.py."""
+
+import unicodedata
+
+MOST_PATTERN_BYTES = 65536
+MOST_NON_STARTERS = 30
+MOST_DECOMPOSITION = 4
+MOST_KEY_POINTS = 16
+MOST_ROW_ELEMENTS = 32
+
+# An element is (is_variable, first, second, third). A table is a dict from tuples of code points to lists of elements,
+# with a list of ranges (first, last, base). A point is (code point, class, byte offset, is_first).
+
+
+def is_surrogate(code_point):
+    return 0xD800 <= code_point <= 0xDFFF
+
+
+def decomposition(code_point):
+    if is_surrogate(code_point):
+        return [code_point]
+    return [ord(c) for c in unicodedata.normalize("NFD", chr(code_point))]
+
+
+def combining_class(code_point):
+    return 0 if is_surrogate(code_point) else unicodedata.combining(chr(code_point))
+
+
+# ---- texts
+
+
+def whole_characters(data):
+    """The code points of the longest front of whole characters with their byte offsets, and where the rest begins."""
+    characters, start = [], 0
+    while start < len(data):
+        for length in range(1, 5):
+            piece = data[start : start + length]
+            try:
+                if len(piece) == length:
+                    characters.append((ord(piece.decode("utf-8")), start))
+                    start += length
+                    break
+            except UnicodeDecodeError:
+                pass
+        else:
+            return characters, start
+    return characters, None
+
+
+def good_front(data):
+    """The characters in front of the first fault, and the fault."""
+    characters, bad = whole_characters(data)
+    run = 0
+    for place, (code_point, offset) in enumerate(characters):
+        points = decomposition(code_point)
+        if len(points) > MOST_DECOMPOSITION:
+            return characters[:place], (33, offset)
+        for point in points:
+            run = run + 1 if combining_class(point) else 0
+            if run > MOST_NON_STARTERS:
+                return characters[:place], (32, offset)
+    return characters, None if bad is None else (31, bad)
+
+
+def points_of(characters):
+    points = []
+    for code_point, offset in characters:
+        for place, part in enumerate(decomposition(code_point)):
+            points.append((part, combining_class(part), offset, place == 0))
+    ordered, start = [], 0
+    while start < len(points):
+        end = start
+        while end < len(points) and points[end][1]:
+            end += 1
+        ordered += sorted(points[start:end], key=lambda point: point[1])
+        ordered += points[end : end + 1]
+        start = end + 1
+    return ordered
+
+
+# ---- collation elements
+
+
+def code_points(points):
+    return tuple(point[0] for point in points)
+
+
+def units(rows, points):
+    rest, found = list(points), []
+    while rest:
+        lengths = [n for n in range(1, len(rest) + 1) if code_points(rest[:n]) in rows]
+        longest = max(lengths, default=1)
+        unit, rest = rest[:longest], rest[longest:]
+        place = 0
+        while place < len(rest) and rest[place][1]:
+            mark = rest[place]
+            is_blocked = any(other[1] >= mark[1] for other in rest[:place])
+            if not is_blocked and code_points(unit + [mark]) in rows:
+                unit, rest = unit + [mark], rest[:place] + rest[place + 1 :]
+            else:
+                place += 1
+        found.append(unit)
+    return found
+
+
+def is_core_ideograph(c):
+    others = (0xFA0E, 0xFA0F, 0xFA11, 0xFA13, 0xFA14, 0xFA1F, 0xFA21, 0xFA23, 0xFA24, 0xFA27, 0xFA28, 0xFA29)
+    return 0x4E00 <= c <= 0x9FFF or c in others
+
+
+def is_other_ideograph(c):
+    blocks = ((0x3400, 0x4DBF), (0x20000, 0x2A6DF), (0x2A700, 0x2EE5F), (0x30000, 0x323AF))
+    return any(first <= c <= last for first, last in blocks)
+
+
+def implicit_pair(ranges, c):
+    for first, last, base in ranges:
+        if first <= c <= last:
+            start = min(other[0] for other in ranges if other[2] == base)
+            return [(False, base, 0x20, 2), (False, (c - start) | 0x8000, 0, 0)]
+    base = 0xFB40 if is_core_ideograph(c) else 0xFB80 if is_other_ideograph(c) else 0xFBC0
+    return [(False, base + (c >> 15), 0x20, 2), (False, (c & 0x7FFF) | 0x8000, 0, 0)]
+
+
+def elements_of_unit(table, unit):
+    rows, ranges = table
+    key = code_points(unit)
+    return rows[key] if key in rows else implicit_pair(ranges, key[0])
+
+
+def weighted(elements, is_shifted):
+    weights, after_variable = [], False
+    for is_variable, *element in elements:
+        if is_shifted and is_variable:
+            after_variable = True
+            weights.append([0, 0, 0])
+        elif is_shifted and element[0] == 0 and after_variable:
+            weights.append([0, 0, 0])
+        else:
+            weights.append(element)
+            if element[0]:
+                after_variable = False
+    return weights
+
+
+def weights_of(table, is_shifted, characters):
+    found = units(table[0], points_of(characters))
+    return weighted([e for unit in found for e in elements_of_unit(table, unit)], is_shifted)
+
+
+def sort_key(table, strength, is_shifted, characters):
+    weights = weights_of(table, is_shifted, characters)
+    return [[element[level] for element in weights if element[level]] for level in range(strength)]
+
+
+# ---- matches
+
+
+def boundaries(table, characters, length):
+    places = {0, length}
+    for unit in units(table[0], points_of(characters)):
+        _, combining, offset, is_first = unit[0]
+        if is_first and combining == 0 and elements_of_unit(table, unit)[0][1]:
+            places.add(offset)
+    return sorted(places)
+
+
+def part(characters, start, end):
+    return [(c, offset - start) for c, offset in characters if start <= offset < end]
+
+
+def matches(table, strength, is_shifted, key, characters, length):
+    places = boundaries(table, characters, length)
+    ranges = [
+        (start, end)
+        for start in places
+        for end in places
+        if start <= end and sort_key(table, strength, is_shifted, part(characters, start, end)) == key
+    ]
+    return [r for r in ranges if not any(o != r and r[0] <= o[0] and o[1] <= r[1] for o in ranges)]
+
+
+def pattern_fault(table, strength, is_shifted, pattern):
+    if len(pattern) > MOST_PATTERN_BYTES:
+        return 21
+    characters, fault = good_front(pattern)
+    if fault:
+        return 23
+    if not any(sort_key(table, strength, is_shifted, characters)):
+        return 22
+    return None
+
+
+def printed(table, strength, is_shifted, pattern, data):
+    """The status, and what goes to standard output and standard error."""
+    kind = pattern_fault(table, strength, is_shifted, pattern)
+    if kind:
+        return 2, "", f"colfind: fault {kind} at 0\n"
+    key = sort_key(table, strength, is_shifted, good_front(pattern)[0])
+    characters, fault = good_front(data)
+    length = sum(len(chr(c).encode()) for c, _ in characters)
+    found = matches(table, strength, is_shifted, key, characters, length)
+    if fault:
+        found = [r for r in found if r[1] < length]
+    lines = "".join(f"{start}:{end}\n" for start, end in found)
+    if fault:
+        return 2, lines, "colfind: fault %d at %d\n" % fault
+    return (0 if found else 1), lines, ""
+
+
+# ---- table files: a line is None where it is malformed, ("range", first, last, base) or ("entry", key, row)
+
+
+def is_follower(e):
+    return not e[0] and e[1] >= 0x8000 and e[2] == e[3] == 0
+
+
+def is_lead(e):
+    return not e[0] and 0xFB00 <= e[1] <= 0xFBFF and not is_follower(e)
+
+
+def breaks_pairs(row):
+    place = 0
+    while place < len(row):
+        element = row[place]
+        if is_follower(element) or (element[0] and element[1] >= 0xFB00):
+            return True
+        if is_lead(element):
+            place += 1
+            if place == len(row) or not is_follower(row[place]):
+                return True
+        place += 1
+    return False
+
+
+def range_kinds(ranges, first, last, base):
+    with_base = [r for r in ranges if r[2] == base] + [(first, last, base)]
+    spread = max(r[1] for r in with_base) - min(r[0] for r in with_base)
+    overlaps = any(first <= r[1] and r[0] <= last for r in ranges)
+    if last > 0x10FFFF or first > 0x10FFFF:
+        yield 2
+    if first > last or not 0xFB00 <= base <= 0xFB3F or overlaps or spread > 0x7FFF:
+        yield 11
+
+
+def entry_kinds(rows, key, row):
+    if any(c > 0x10FFFF for c in key):
+        yield 2
+    if key in rows:
+        yield 3
+    if len(key) > MOST_KEY_POINTS or len(row) > MOST_ROW_ELEMENTS:
+        yield 4
+    if any(not is_follower(e) and ((e[1] and not e[2]) or (e[2] and not e[3])) for e in row):
+        yield 5
+    if any(e[0] and e[1] == 0 for e in row):
+        yield 7
+    if breaks_pairs(row):
+        yield 10
+
+
+def class_in_key(c):
+    return combining_class(c) if decomposition(c) == [c] else 0
+
+
+def whole_table_kind(rows):
+    elements = [e for row in rows.values() for e in row if not is_follower(e)]
+    primaries = [e for e in elements if e[1]]
+    secondaries = [e for e in elements if not e[1] and e[2]]
+    tertiaries = [e for e in elements if not e[1] and not e[2] and e[3]]
+    second = max([0x20] + [e[2] for e in primaries])
+    third = max([2] + [e[3] for e in primaries + secondaries])
+    variable = [e[1] for e in primaries if e[0]]
+    if not rows:
+        return 12
+    if any(e[2] <= second for e in secondaries) or any(e[3] <= third for e in tertiaries):
+        return 6
+    if variable and any(not e[0] and min(variable) <= e[1] <= max(variable) for e in primaries):
+        return 8
+    if any(len(key) > 2 and class_in_key(key[-1]) and key[:-1] not in rows for key in rows):
+        return 9
+    return None
+
+
+def table_of(lines):
+    """The rows and ranges, and the first fault as its kind and line."""
+    rows, ranges = {}, []
+    for number, line in enumerate(lines, 1):
+        if line is None:
+            return (rows, ranges), (1, number)
+        kinds = range_kinds(ranges, *line[1:]) if line[0] == "range" else entry_kinds(rows, *line[1:])
+        kind = min(kinds, default=None)
+        if kind:
+            return (rows, ranges), (kind, number)
+        if line[0] == "range":
+            ranges.append(line[1:])
+        else:
+            rows[line[1]] = line[2]
+    kind = whole_table_kind(rows)
+    return (rows, ranges), (kind, 0) if kind else None
