@@ -122,12 +122,12 @@ fn moves_a_byte_at_a_time_to_a_fault(rt: HostRuntime) {
 #[test]
 fn a_text_longer_than_one_read(rt: HostRuntime) -> Result<(), Fail> {
     let alloc = rt.alloc();
-    let text = vec![in alloc; b'a'; 10_000]?;
+    let text = vec![in alloc; b'a'; 100_000]?;
     let mut reader = MemorySource::new(&text, usize::MAX);
     let mut out = MemoryTarget::new(alloc);
     let outcome = outcome_of(&rt, alloc, "aa", Output::Count, &mut reader, &mut out);
-    assert_eq!(rt; outcome, Outcome::Done(9_999));
-    assert_eq!(rt; out.bytes(), b"9999\n".as_slice());
+    assert_eq!(rt; outcome, Outcome::Done(99_999));
+    assert_eq!(rt; out.bytes(), b"99999\n".as_slice());
     Ok(())
 }
 

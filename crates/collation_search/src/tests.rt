@@ -1,6 +1,6 @@
-//! What no clause says: that the walk over a text succeeds where memory is there, and worked texts.
+//! What no clause says: that the walk over a text succeeds where memory is there, the printed fault, and worked texts.
 
-use crate::ranges_by_clusters;
+use crate::{TextFault, ranges_by_clusters};
 use collation_elements::{Item, Key};
 use std::test::Fail;
 
@@ -51,5 +51,30 @@ fn clusters_without_keys(rt: HostRuntime) -> Result<(), Fail> {
 fn text_without_items(rt: HostRuntime) -> Result<(), Fail> {
     let ranges = ranges_by_clusters(rt.alloc(), &[], 0, &[A_KEY])?;
     assert_eq!(rt; ranges.len(), 0);
+    Ok(())
+}
+
+/// No clause says that the walk gives up for want of memory alone, and not for the length of a text.
+#[test]
+fn keys_beyond_sixteen_bits(rt: HostRuntime) -> Result<(), Fail> {
+    let mut items = Vec::new(rt.alloc());
+    for start in 0..70_000u64 {
+        items.push(Item::ClusterStart(start))?;
+        items.push(A)?;
+    }
+    let ranges = ranges_by_clusters(rt.alloc(), items.as_slice(), 70_000, &[A_KEY, A_KEY])?;
+    assert_eq!(rt; ranges.len(), 69_999);
+    assert_eq!(rt; ranges[69_998], (69_998, 70_000));
+    Ok(())
+}
+
+#[test]
+fn prints_a_fault(rt: HostRuntime) -> Result<(), Fail> {
+    let fault = TextFault {
+        kind: TextFault::ILL_FORMED,
+        offset: 3,
+    };
+    let want = "fault 31 at byte 3 of the text";
+    assert_eq!(rt; fault.to_string(rt.alloc())?.as_str(), want);
     Ok(())
 }
