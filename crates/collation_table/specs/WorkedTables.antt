@@ -2,6 +2,7 @@
 use Rattle.std.specs.Prelude.{◌≡◌, ℕ, zero, suc, List, [], ◌∷◌, ◌++◌, codes, Some, None}
 use Rattle.std.specs.List.{join_with_byte}
 use Rattle.collation_table.specs.Table.{TableMap, longest_front, implicit_weights, longest_key, most_elements, class_of}
+use Rattle.collation_table.specs.declared.limits.TheConstants.{MOST_KEY_POINTS, MOST_ROW_ELEMENTS, MOST_ENTRY_LINES, MOST_RANGE_LINES}
 use Rattle.collation_table.specs.Faults.{forms_of, map_of, table_fault}
 
 -- the lines of a file, the last without an end
@@ -102,6 +103,13 @@ pub record AcceptedTables : Type 0 where
   pub range_just_near : IsTable (codes "@implicitweights 17000..17000; FB00" ∷ codes "@implicitweights 1EFFF..1EFFF; FB00" ∷ codes "0061 ; [.1C00.0020.0002]" ∷ []) 1 2
   pub key_of_16 : IsTable ((copies 16 (codes "0061 ") ++ codes "; [.1C00.0020.0002]") ∷ []) 16 2
   pub row_of_32 : IsTable ((codes "0061 ; " ++ copies 32 (codes "[.1C00.0020.0002]")) ∷ []) 1 32
+
+-- the sizes that a table may have
+pub record Limits : Type 0 where
+  pub key_points : MOST_KEY_POINTS ≡ 16
+  pub row_elements : MOST_ROW_ELEMENTS ≡ 32
+  pub entry_lines : MOST_ENTRY_LINES ≡ 1048576
+  pub range_lines : MOST_RANGE_LINES ≡ 256
 
 -- implicit weights of code points (UTS #10, section 10.1.3)
 pub record ImplicitWeights : Type 0 where

@@ -1,6 +1,6 @@
 //! Worked tables: small files with their faults and sizes, and look-ups in them, as the definitions give them, proved by computing.
 
-ghost use Rattle.collation_table.specs.WorkedTables.{LineFaults, RowFaults, RangeFaults, TableFaults, AcceptedTables, ImplicitWeights, LongestFronts, Classes};
+ghost use Rattle.collation_table.specs.WorkedTables.{LineFaults, RowFaults, RangeFaults, TableFaults, AcceptedTables, Limits, ImplicitWeights, LongestFronts, Classes};
 
 /// Lines that can't be read, and which of several faults is told.
 pub fn faults_of_lines()
@@ -25,6 +25,11 @@ pub fn faults_of_tables()
 /// Files with no fault, with the sizes of their longest key and largest row.
 pub fn accepted_tables()
     ensures { AcceptedTables }
+{}
+
+/// The greatest numbers of code points of a key, of elements of a row, of rows and of ranges.
+pub fn limits()
+    ensures { Limits }
 {}
 
 /// Implicit weights of ideographs, of other code points and of ranges (UTS #10, section 10.1.3).
