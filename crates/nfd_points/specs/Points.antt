@@ -6,7 +6,7 @@ use Rattle.unicode_normalization.specs.Forms.{nfd}
 use Rattle.unicode_normalization.specs.Lookups.{canonical_combining_class}
 use Rattle.nfd_points.specs.declared.points.Point.{Point}
 
--- D68: the NFD of the text of one code point alone
+-- a code point's full canonical decomposition (the Unicode Standard, D68): the NFD of the text of it alone
 abbrev pub decomposition : ℕ → List ℕ
 decomposition c = nfd (c ∷ [])
 
@@ -30,7 +30,7 @@ unfoldable pub points_from : ℕ → List ℕ → List Point
 points_from start [] = []
 points_from start (c ∷ cs) = points_of start c ++ points_from (start + len_utf8 c) cs
 
--- D107
+-- a starter (the Unicode Standard, D107)
 abbrev pub is_starter : Point → Bool
 is_starter p = p.ccc == 0
 
@@ -39,7 +39,7 @@ abbrev pub begins_with_starter : List Point → Bool
 begins_with_starter [] = true
 begins_with_starter (p ∷ _) = is_starter p
 
--- D108: p before q is out of order
+-- p before q is out of order (the Unicode Standard, D108)
 unfoldable pub is_reorderable : Point → Point → Bool
 is_reorderable p q = nat_lt 0 q.ccc && nat_lt q.ccc p.ccc
 
@@ -54,7 +54,7 @@ unfoldable pub sink : Point → List Point → List Point
 sink p [] = p ∷ []
 sink p (q ∷ qs) = let past = q ∷ sink p qs in if is_reorderable p q then past else p ∷ q ∷ qs
 
--- D109: each run of non-starters in order of class, equal classes as they came
+-- each run of non-starters in order of class, equal classes as they came (the Unicode Standard, D109)
 unfoldable pub ordered : List Point → List Point
 ordered [] = []
 ordered (p ∷ ps) = sink p (ordered ps)
