@@ -1,5 +1,9 @@
 pub mod Commands
+pub mod Concluding
+pub mod Gathered
 pub mod Pieces
 pub mod Prints
 pub mod Runs
+pub mod Searched
 pub mod Searches
+pub mod Stops

@@ -1,26 +1,18 @@
 -- What is printed, range by range.
-use Rattle.std.proofs.Common.{◌≡◌, ◌<◌, ◌+◌, ℕ, suc, List, [], ◌∷◌, ◌++◌, length, drop, get_or, refl, sym, ap, ◌∙◌, append_assoc, append-nil, add-one, Option}
+use Rattle.std.proofs.Common.{◌≡◌, ◌<◌, ◌+◌, ℕ, suc, List, [], ◌++◌, length, drop, get_or, refl, sym, ap, ◌∙◌, append_assoc, append-nil, add-one, Option}
 use Rattle.std.proofs.Math.Seq.{drop-cons}
-use Rattle.std.specs.List.{flat_map}
 use Rattle.std.proofs.lemmas.List.Concat.{flat_map-cons}
 use Rattle.colfind.specs.Devices.{with_piece}
-use Rattle.colfind.specs.Writing.{WritesFront}
-use Rattle.colfind.proofs.Pieces.{with_piece-nil, write-step, front-of_part}
-use Rattle.colfind.specs.Printing.{output, printed_range, printed_lines, printed_end, range_line, mark_lines, count_line}
+use Rattle.colfind.specs.Writing.{WritesPrefix}
+use Rattle.colfind.proofs.Pieces.{with_piece-nil, write-step, prefix-of_part}
+use Rattle.colfind.specs.Printing.{output, printed_range, printed_lines, printed_end}
 use Rattle.colfind.specs.declared.output.Output.{Output}
-use Rattle.colfind.specs.declared.output.Output.TheVariants.{Ranges, Count, Marks}
-
-printed_lines-none : (ranges : List (ℕ × ℕ)) → printed_lines Count ranges ≡ []
-printed_lines-none [] = refl
-printed_lines-none (range ∷ ranges) = flat_map-cons (printed_range Count) range ranges ∙ printed_lines-none ranges
 
 -- all is printed range by range, and then the end
 pub output-splits : (form : Output) (ranges : List (ℕ × ℕ)) → output form ranges ≡ printed_lines form ranges ++ printed_end form (length ranges)
-output-splits Ranges ranges = sym (append-nil (flat_map range_line ranges))
-output-splits Marks ranges = sym (append-nil (flat_map mark_lines ranges))
-output-splits Count ranges = sym (ap (λ xs. xs ++ count_line (length ranges)) (printed_lines-none ranges))
+output-splits form ranges = refl
 
--- the i-th range is printed first, and then what stands behind it
+-- the i-th range is printed first, and then what stands after it
 printed_lines-next : (form : Output) (ranges : List (ℕ × ℕ)) (i : ℕ) (d : ℕ × ℕ) → i < length ranges
     → printed_lines form (drop i ranges) ≡ printed_range form (get_or ranges i d) ++ printed_lines form (drop (i + 1) ranges)
 printed_lines-next form ranges i d inside =
@@ -55,13 +47,13 @@ printed-next form ranges before during after i d p inside line = record {
   written = write-step before during after p.lines (printed_range form (get_or ranges i d)) p.written line;
 }
 
--- a line of which only a front was written
-pub printed-front : (form : Output) (ranges : List (ℕ × ℕ)) (before during after : Option (List ℕ)) (i : ℕ) (d : ℕ × ℕ)
-    → Printed form ranges before during i → i < length ranges → WritesFront during after (printed_range form (get_or ranges i d))
-    → WritesFront before after (printed_lines form ranges)
-printed-front form ranges before during after i d p inside front =
-    front-of_part before during after p.lines (printed_range form (get_or ranges i d)) (printed_lines form (drop (i + 1) ranges))
-    (printed_lines form ranges) (with_next form ranges before during i d p inside) p.written front
+-- a line of which only a prefix was written
+pub printed-prefix : (form : Output) (ranges : List (ℕ × ℕ)) (before during after : Option (List ℕ)) (i : ℕ) (d : ℕ × ℕ)
+    → Printed form ranges before during i → i < length ranges → WritesPrefix during after (printed_range form (get_or ranges i d))
+    → WritesPrefix before after (printed_lines form ranges)
+printed-prefix form ranges before during after i d p inside prefix =
+    prefix-of_part before during after p.lines (printed_range form (get_or ranges i d)) (printed_lines form (drop (i + 1) ranges))
+    (printed_lines form ranges) (with_next form ranges before during i d p inside) p.written prefix
 
 -- the lines and then the end are all
 pub output-whole : (form : Output) (ranges : List (ℕ × ℕ)) (before during after : Option (List ℕ))
@@ -71,21 +63,21 @@ output-whole form ranges before during after first second =
     write-step before during after (printed_lines form ranges) (printed_end form (length ranges)) first second
     ∙ ap (λ xs. with_piece xs before) (sym (output-splits form ranges))
 
--- a front of the lines is a front of all
-pub output-front_of_lines : (form : Output) (ranges : List (ℕ × ℕ)) (before after : Option (List ℕ))
-    → WritesFront before after (printed_lines form ranges) → WritesFront before after (output form ranges)
-output-front_of_lines form ranges before after front = record {
-  front = front.front;
-  rest = front.rest ++ printed_end form (length ranges);
-  whole = output-splits form ranges ∙ ap (λ xs. xs ++ printed_end form (length ranges)) front.whole
-      ∙ append_assoc front.front front.rest (printed_end form (length ranges));
-  written = front.written;
+-- a prefix of the lines is a prefix of all
+pub output-prefix_of_lines : (form : Output) (ranges : List (ℕ × ℕ)) (before after : Option (List ℕ))
+    → WritesPrefix before after (printed_lines form ranges) → WritesPrefix before after (output form ranges)
+output-prefix_of_lines form ranges before after prefix = record {
+  prefix = prefix.prefix;
+  rest = prefix.rest ++ printed_end form (length ranges);
+  whole = output-splits form ranges ∙ ap (λ xs. xs ++ printed_end form (length ranges)) prefix.whole
+      ∙ append_assoc prefix.prefix prefix.rest (printed_end form (length ranges));
+  written = prefix.written;
 }
 
--- the lines and a front of the end are a front of all
-pub output-front_of_end : (form : Output) (ranges : List (ℕ × ℕ)) (before during after : Option (List ℕ))
-    → during ≡ with_piece (printed_lines form ranges) before → WritesFront during after (printed_end form (length ranges))
-    → WritesFront before after (output form ranges)
-output-front_of_end form ranges before during after first front =
-    front-of_part before during after (printed_lines form ranges) (printed_end form (length ranges)) []
-    (output form ranges) (output-splits form ranges ∙ sym (append-nil (printed_lines form ranges ++ printed_end form (length ranges)))) first front
+-- the lines and a prefix of the end are a prefix of all
+pub output-prefix_of_end : (form : Output) (ranges : List (ℕ × ℕ)) (before during after : Option (List ℕ))
+    → during ≡ with_piece (printed_lines form ranges) before → WritesPrefix during after (printed_end form (length ranges))
+    → WritesPrefix before after (output form ranges)
+output-prefix_of_end form ranges before during after first prefix =
+    prefix-of_part before during after (printed_lines form ranges) (printed_end form (length ranges)) []
+    (output form ranges) (output-splits form ranges ∙ sym (append-nil (printed_lines form ranges ++ printed_end form (length ranges)))) first prefix

@@ -1,4 +1,4 @@
--- The command `colfind --table FILE [--strength 1|2|3] [--variable shifted|non-ignorable] PATTERN`, as its argument parser sees it.
+-- The command `colfind --table FILE [--strength 1|2|3] [--variable shifted|non-ignorable] [--output ranges|count|marks] PATTERN [FILE]`, as its argument parser sees it.
 use Rattle.std.specs.Prelude.{◌≡◌, List, [], ◌∷◌, map, Some, codes, true}
 use Rattle.std.specs.Borrow.{Bor}
 use Rattle.clap.specs.Words.{App, Rule, Text, new_app, new_rule, with_rule}
@@ -14,6 +14,9 @@ strength_names = codes "1" ∷ codes "2" ∷ codes "3" ∷ []
 
 abbrev pub variable_names : List Text
 variable_names = codes "shifted" ∷ codes "non-ignorable" ∷ []
+
+abbrev pub output_names : List Text
+output_names = codes "ranges" ∷ codes "count" ∷ codes "marks" ∷ []
 
 abbrev pub table_rule : Rule
 table_rule = record (new_rule (codes "table")) { long = Some (codes "table"); required = true }
@@ -32,14 +35,29 @@ variable_rule names = record (new_rule (codes "variable")) {
   defaults = codes "non-ignorable" ∷ [];
 }
 
+abbrev pub output_rule : ValueParser → Rule
+output_rule names = record (new_rule (codes "output")) {
+  long = Some (codes "output");
+  parser = Some names;
+  defaults = codes "ranges" ∷ [];
+}
+
 abbrev pub pattern_rule : Rule
 pattern_rule = record (new_rule (codes "pattern")) { required = true }
+
+-- the text file, which may be left out
+abbrev pub text_rule : Rule
+text_rule = new_rule (codes "text")
 
 -- the words come without the program's name, and there is no flag for help
 abbrev pub empty_command : App
 empty_command = record { top = record (new_app (codes "colfind")).top { no_binary_name = true; disable_help_flag = true }; subs = [] }
 
--- the command, by the parsers of the two options that take names
-abbrev pub command : ValueParser → ValueParser → App
-command strengths variables =
-    with_rule (with_rule (with_rule (with_rule empty_command table_rule) (strength_rule strengths)) (variable_rule variables)) pattern_rule
+-- the options of the command, by the parsers of the three that take names
+abbrev pub options : ValueParser → ValueParser → ValueParser → App
+options strengths variables outputs =
+    with_rule (with_rule (with_rule (with_rule empty_command table_rule) (strength_rule strengths)) (variable_rule variables)) (output_rule outputs)
+
+-- the command: its options, the pattern and the text file
+abbrev pub command : ValueParser → ValueParser → ValueParser → App
+command strengths variables outputs = with_rule (with_rule (options strengths variables outputs) pattern_rule) text_rule

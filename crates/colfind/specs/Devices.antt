@@ -4,8 +4,8 @@ use Rattle.std.specs.Option.{option_map}
 use Rattle.colfind.specs.declared.devices.DeviceFault.{DeviceFault}
 
 -- the piece, and then the bytes that are left, where they are told
-abbrev pub behind_piece : List ℕ → Option (List ℕ) → Option (List ℕ)
-behind_piece piece = option_map (λ rest. piece ++ rest)
+abbrev pub after_piece : List ℕ → Option (List ℕ) → Option (List ℕ)
+after_piece piece = option_map (λ rest. piece ++ rest)
 
 -- the bytes that are held, where they are told, and then the piece
 abbrev pub with_piece : List ℕ → Option (List ℕ) → Option (List ℕ)

@@ -3,9 +3,11 @@ pub mod Devices
 pub mod Faults
 pub mod Finding
 pub mod Patterns
+pub mod Gathering
 pub mod Printing
 pub mod Reading
 pub mod Running
 pub mod Searching
 pub mod Settings
+pub mod Stopping
 pub mod Writing

@@ -1,4 +1,4 @@
--- The text that is printed for a list of ranges. A range is the offset of its first byte, and that of the byte behind its last.
+-- The text that is printed for a list of ranges. A range is the offset of its first byte, and that of the byte after its last.
 use Rattle.std.specs.Prelude.{ℕ, List, [], ◌++◌, length, codes}
 use Rattle.std.specs.List.{flat_map}
 use Rattle.std.specs.Fmt.{decimal}
@@ -17,7 +17,7 @@ mark_lines range = codes "[" ++ decimal range.0 ++ codes "\n]" ++ decimal range.
 abbrev pub count_line : ℕ → List ℕ
 count_line count = decimal count ++ codes "\n"
 
--- what is printed of one range
+-- what is printed of one range: a line, or two lines of marks
 abbrev pub printed_range : Output → ℕ × ℕ → List ℕ
 printed_range Ranges range = range_line range
 printed_range Marks range = mark_lines range
@@ -27,14 +27,12 @@ printed_range Count range = []
 abbrev pub printed_lines : Output → List (ℕ × ℕ) → List ℕ
 printed_lines form ranges = flat_map (printed_range form) ranges
 
--- what is printed behind all ranges, of which there are so many
+-- what is printed after all ranges, of which there are so many: their number, or nothing
 abbrev pub printed_end : Output → ℕ → List ℕ
 printed_end Ranges count = []
 printed_end Marks count = []
 printed_end Count count = count_line count
 
--- what is printed of a list of ranges: a line for each, or two lines of marks for each, or one line with their number
+-- what is printed of a list of ranges
 abbrev pub output : Output → List (ℕ × ℕ) → List ℕ
-output Ranges ranges = flat_map range_line ranges
-output Marks ranges = flat_map mark_lines ranges
-output Count ranges = count_line (length ranges)
+output form ranges = printed_lines form ranges ++ printed_end form (length ranges)

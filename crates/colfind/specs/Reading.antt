@@ -2,26 +2,19 @@
 use Rattle.std.specs.Prelude.{◌≡◌, ℕ, List, ◌++◌, Option, Bool, true, false}
 use Rattle.colfind.specs.declared.reading.Reading.{Reading}
 use Rattle.colfind.specs.declared.reading.Reading.TheVariants.{Fault}
-use Rattle.colfind.specs.declared.texts.Ending.{Ending}
-use Rattle.colfind.specs.declared.texts.Ending.TheVariants as ending
-use Rattle.colfind.specs.Devices.{behind_piece}
+use Rattle.colfind.specs.Devices.{after_piece}
 
--- the bytes that were read stood in front of those that are left, and are now at the end of what is kept
+-- the bytes that were read stood before those that are left, and are now at the end of what is kept
 pub record ReadsOn (left_before left_after : Option (List ℕ)) (kept_before kept_after : List ℕ) : Type 0 where
   pub piece : List ℕ
-  pub from : left_before ≡ behind_piece piece left_after
+  pub from : left_before ≡ after_piece piece left_after
   pub to : kept_after ≡ kept_before ++ piece
 
 -- some bytes were read
 abbrev pub ReadsSome : Option (List ℕ) → Option (List ℕ) → Type 0
-ReadsSome before after = (piece : List ℕ) × (before ≡ behind_piece piece after)
+ReadsSome before after = (piece : List ℕ) × (before ≡ after_piece piece after)
 
 -- the reader failed
 abbrev pub is_fault : Reading → Bool
 is_fault Fault = true
 is_fault _ = false
-
--- the reading ended because the reader failed
-abbrev pub is_failed : Ending → Bool
-is_failed ending.Fault = true
-is_failed _ = false

@@ -2,9 +2,9 @@
 use Rattle.std.specs.Prelude.{◌≡◌, ℕ, List, ◌++◌, Option}
 use Rattle.colfind.specs.Devices.{with_piece}
 
--- a front of the bytes was written, and no more
-pub record WritesFront (before after : Option (List ℕ)) (bytes : List ℕ) : Type 0 where
-  pub front : List ℕ
+-- a prefix of the bytes was written, and no more
+pub record WritesPrefix (before after : Option (List ℕ)) (bytes : List ℕ) : Type 0 where
+  pub prefix : List ℕ
   pub rest : List ℕ
-  pub whole : bytes ≡ front ++ rest
-  pub written : after ≡ with_piece front before
+  pub whole : bytes ≡ prefix ++ rest
+  pub written : after ≡ with_piece prefix before

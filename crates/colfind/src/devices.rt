@@ -1,7 +1,7 @@
 //! The reader and the writer that the program asks for bytes: a contract sees the bytes that each
 //! has left or holds, where it tells them, and how often it has failed.
 ghost use Rattle.std.specs.Prelude.{◌≡◌, ◌+◌, ◌^◌, ◌<◌, ◌≤◌, ℕ, List, Option, length, not, is_ok, IfOk};
-ghost use Rattle.colfind.specs.Devices.{behind_piece, with_piece, moved, takes_nothing, one_if, EndsOnlyAtEnd};
+ghost use Rattle.colfind.specs.Devices.{after_piece, with_piece, moved, takes_nothing, one_if, EndsOnlyAtEnd};
 
 /// A reader or a writer has failed.
 #[derive(Clone, Copy, Debug, PartialEq, Eq)]
@@ -15,12 +15,12 @@ pub trait Source {
     /// How often a read has failed.
     ghost failures: { Self → ℕ };
 
-    /// Reads up to `buf.len()` bytes into the front of `buf`, and answers how many. `Ok(0)` for a
-    /// buffer that is not empty tells the end. An `Err` reads nothing.
+    /// Reads up to `buf.len()` bytes into the beginning of `buf`, and answers how many. `Ok(0)` for
+    /// a buffer that is not empty tells the end. An `Err` reads nothing.
     fn read(&mut self, buf: &mut [u8]) -> Result<usize, DeviceFault>
         requires { failures self.old < 2 ^ 63 }
         ensures within { IfOk result (λ k. k ≤ length buf.old) }
-        ensures bytes { left self.old ≡ behind_piece (moved result buf.new) (left self.new) }
+        ensures bytes { left self.old ≡ after_piece (moved result buf.new) (left self.new) }
         ensures end { EndsOnlyAtEnd result buf.new (left self.new) }
         ensures count { failures self.new ≡ failures self.old + one_if (not (is_ok result)) };
 }
@@ -33,10 +33,10 @@ pub trait Target {
     /// How often a write or a flush has failed.
     ghost failures: { Self → ℕ };
 
-    /// Takes bytes from the front of `buf`, and answers how many. An `Err` takes none. That a
+    /// Takes bytes from the beginning of `buf`, and answers how many. An `Err` takes none. That a
     /// buffer which is not empty has no byte taken is a failure too.
     fn write(&mut self, buf: &[u8]) -> Result<usize, DeviceFault>
-        requires { failures self.old < 2 ^ 63 }
+        requires writes { failures self.old < 2 ^ 63 }
         ensures within { IfOk result (λ k. k ≤ length buf.now) }
         ensures bytes { held self.new ≡ with_piece (moved result buf.now) (held self.old) }
         ensures count { failures self.new ≡ failures self.old + one_if (takes_nothing result buf.now) };

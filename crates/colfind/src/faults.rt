@@ -1,8 +1,8 @@
-//! The faults that end the program, and the line on standard error that tells each.
+//! The faults that end the program, and the line on standard error that reports each.
 ghost use Rattle.std.specs.Prelude.{◌≡◌};
-ghost use Rattle.colfind.specs.declared.faults.Fault.TheVariants.{At};
-ghost use Rattle.colfind.specs.Faults.{fault_of_words};
+ghost use Rattle.colfind.specs.declared.faults.Stop.TheVariants.{Words, File, Table, Pattern};
 
+use crate::files::FileFault;
 use crate::output::{Line, push_number};
 use crate::words::SettingsFault;
 use collation_pattern::PatternFault;
@@ -15,7 +15,7 @@ pub const MEMORY: u8 = 36;
 /// Memory was refused while the table file was read.
 pub const TABLE_MEMORY: u8 = 14;
 
-/// The text could not be read further.
+/// The text file could not be opened, or the text not be read further.
 pub const READ: u8 = 41;
 
 /// The ranges could not be written.
@@ -35,45 +35,89 @@ pub enum Fault {
     At(u8, u64),
 }
 
-impl From<SettingsFault> for Fault {
-    ghost from_gives = { λ fault told. told ≡ fault_of_words fault };
+/// Why the program has ended without an answer, by where in the order of its work that was: the
+/// words, the table file, the table, the pattern, the text file, the text.
+#[derive(Clone, Copy, Debug, PartialEq, Eq)]
+pub enum Stop {
+    /// The words of the command line.
+    Words(SettingsFault),
+    /// The table file could not be opened or read, or memory was refused for its bytes.
+    File(FileFault),
+    /// The bytes of the table file.
+    Table(TableFault),
+    /// The pattern.
+    Pattern(PatternFault),
+    /// The text file could not be opened.
+    TextFile,
+    /// The text.
+    Text(TextFault),
+    /// The text could not be read further, after so many bytes.
+    Read(u64),
+    /// The ranges could not be written.
+    Write,
+    /// Memory was refused for the search.
+    Memory,
+}
 
-    fn from(fault: SettingsFault) -> Fault {
-        match fault {
-            SettingsFault::Usage => Fault::Usage,
-            SettingsFault::Memory => Fault::At(MEMORY, 0),
+impl From<SettingsFault> for Stop {
+    ghost from_gives = { λ fault stop. stop ≡ Words fault };
+
+    fn from(fault: SettingsFault) -> Stop {
+        Stop::Words(fault)
+    }
+}
+
+impl From<FileFault> for Stop {
+    ghost from_gives = { λ fault stop. stop ≡ File fault };
+
+    fn from(fault: FileFault) -> Stop {
+        Stop::File(fault)
+    }
+}
+
+impl From<TableFault> for Stop {
+    ghost from_gives = { λ fault stop. stop ≡ Table fault };
+
+    fn from(fault: TableFault) -> Stop {
+        Stop::Table(fault)
+    }
+}
+
+impl From<PatternFault> for Stop {
+    ghost from_gives = { λ fault stop. stop ≡ Pattern fault };
+
+    fn from(fault: PatternFault) -> Stop {
+        Stop::Pattern(fault)
+    }
+}
+
+impl Stop {
+    ghost use Rattle.colfind.specs.Faults.{fault_of};
+
+    /// The fault that is reported for it.
+    pub fn fault(self) -> Fault
+        ensures { result ≡ fault_of self }
+    {
+        match self {
+            Stop::Words(SettingsFault::Usage) => Fault::Usage,
+            Stop::Words(SettingsFault::Memory) => Fault::At(MEMORY, 0),
+            Stop::File(FileFault::Device) => Fault::At(TABLE_FILE, 0),
+            Stop::File(FileFault::Memory) => Fault::At(TABLE_MEMORY, 0),
+            Stop::Table(fault) => Fault::At(fault.kind, fault.line),
+            Stop::Pattern(fault) => Fault::At(fault.kind, 0),
+            Stop::TextFile => Fault::At(READ, 0),
+            Stop::Text(fault) => Fault::At(fault.kind, fault.offset),
+            Stop::Read(count) => Fault::At(READ, count),
+            Stop::Write => Fault::At(WRITE, 0),
+            Stop::Memory => Fault::At(MEMORY, 0),
         }
-    }
-}
-
-impl From<TableFault> for Fault {
-    ghost from_gives = { λ fault told. told ≡ At fault.kind fault.line };
-
-    fn from(fault: TableFault) -> Fault {
-        Fault::At(fault.kind, fault.line)
-    }
-}
-
-impl From<PatternFault> for Fault {
-    ghost from_gives = { λ fault told. told ≡ At fault.kind 0 };
-
-    fn from(fault: PatternFault) -> Fault {
-        Fault::At(fault.kind, 0)
-    }
-}
-
-impl From<TextFault> for Fault {
-    ghost from_gives = { λ fault told. told ≡ At fault.kind fault.offset };
-
-    fn from(fault: TextFault) -> Fault {
-        Fault::At(fault.kind, fault.offset)
     }
 }
 
 impl Fault {
     ghost use Rattle.colfind.specs.Faults.{fault_line};
 
-    /// The line that tells it.
+    /// The line that reports it.
     pub fn line(self) -> Line
         ensures { result.bytes ≡ fault_line self }
     {

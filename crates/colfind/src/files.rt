@@ -1,6 +1,6 @@
 //! Reading all that a reader has, as of a file.
 ghost use Rattle.std.specs.Prelude.{◌≡◌, ◌≢◌, ◌↔◌, ◌+◌, ◌^◌, ◌<◌, OnOk, IfOk, IfSome, []};
-ghost use Rattle.colfind.specs.Devices.{behind_piece};
+ghost use Rattle.colfind.specs.Devices.{after_piece};
 
 use crate::devices::Source;
 use crate::reading::{Reading, read_piece};
@@ -19,7 +19,7 @@ pub enum FileFault {
 pub fn read_all<R: Source>(alloc: Global, reader: &mut R) -> Result<Vec<u8>, FileFault>
     requires { R.failures reader.old < 2 ^ 63 }
     ensures bytes { IfOk result (λ bytes.
-        R.left reader.old ≡ behind_piece bytes.items (R.left reader.new)) }
+        R.left reader.old ≡ after_piece bytes.items (R.left reader.new)) }
     ensures end { OnOk result (IfSome (R.left reader.new) (λ rest. rest ≡ [])) }
     ensures fault { (result ≡ Err FileFault.Device)
         ↔ (R.failures reader.new ≡ R.failures reader.old + 1) }

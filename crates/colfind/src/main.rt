@@ -1,21 +1,22 @@
 //! `colfind` finds a pattern in a text by Unicode collation: it compares sort keys at a chosen
-//! strength (UTS #10) and tells the byte ranges of the matches.
+//! strength (UTS #10) and reports the byte ranges of the matches.
 //!
 //! The text is read from standard input, and the ranges are written to standard output. `run` is
 //! the search over any reader and writer, `program` is the whole program but for the standard
 //! streams, and `settings` reads the words of the command line.
 //!
-//! It stands on `collation_search`, which answers a text, on `collation_pattern` and
+//! It stands on `collation_search`, which searches a text that comes in pieces, on `collation_pattern` and
 //! `collation_table`, which make the pattern and the table, and on the settings of
 //! `collation_elements`; on `clap` for the words, on `itoa` and `arrayvec` for the lines.
 #![tactic(auto)]
 
 ghost use Rattle.std.specs.Prelude.{◌≡◌, ◌^◌, ◌<◌, ◌≤◌};
-ghost use Rattle.colfind.specs.Faults.{TellsSomeFault};
+ghost use Rattle.colfind.specs.Faults.{ReportsSomeFault};
 
 mod devices;
 mod faults;
 mod files;
+mod lines;
 mod memory;
 mod output;
 mod program;
@@ -29,7 +30,7 @@ mod writing;
 
 use crate::devices::Target;
 use crate::faults::{Fault, MEMORY};
-use crate::program::{program, tell};
+use crate::program::{program, report};
 use crate::streams::{FromRead, ToWrite};
 use std::alloc::{AllocError, Global};
 use std::env;
@@ -40,12 +41,12 @@ fn main(rt: HostRuntime) -> ExitCode {
     let mut err = ToWrite::new(rt.stderr());
     let status = match given_words(&rt) {
         Ok(words) => answer(&rt, &words, &mut err),
-        Err(fault) => tell(&mut err, fault),
+        Err(fault) => report(&mut err, fault),
     };
     ExitCode::from(status)
 }
 
-/// The words behind the program's name.
+/// The words after the program's name.
 fn given_words(rt: &HostRuntime) -> Result<Vec<String>, Fault> {
     match env::args(rt) {
         Ok(mut words) => {
@@ -62,11 +63,11 @@ fn answer<E: Target>(rt: &HostRuntime, given: &Vec<String>, err: &mut E) -> u8
     requires { E.failures err.old < 2 ^ 63 }
     ensures status { result ≤ 2 }
     ensures quiet { result < 2 → err.new ≡ err.old }
-    ensures told { result ≡ 2 → TellsSomeFault (E.held err.old) (E.held err.new)
+    ensures reported { result ≡ 2 → ReportsSomeFault (E.held err.old) (E.held err.new)
         (E.failures err.old) (E.failures err.new) }
 {
     let Ok(words) = texts_of(rt.alloc(), given) else {
-        return tell(err, Fault::At(MEMORY, 0));
+        return report(err, Fault::At(MEMORY, 0));
     };
     let mut input = FromRead::new(rt.stdin());
     let mut out = ToWrite::new(rt.stdout());

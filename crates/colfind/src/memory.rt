@@ -13,7 +13,7 @@ pub struct MemorySource<'a> {
 }
 
 impl<'a> MemorySource<'a> {
-    /// Reads `bytes` from their front, at most `most` bytes a read.
+    /// Reads `bytes` from their beginning, at most `most` bytes a read.
     pub fn new(bytes: &'a [u8], most: usize) -> Self
         requires { 0 < most }
         ensures left { ⟦<MemorySource<'a> as Source>⟧.left result ≡ Some bytes.entry.now }

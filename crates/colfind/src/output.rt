@@ -50,7 +50,7 @@ impl Output {
         line
     }
 
-    /// What is printed behind all ranges, of which there are `count`.
+    /// What is printed after all ranges, of which there are `count`.
     pub fn last_line(self, count: u64) -> Line
         ensures { result.bytes ≡ printed_end self count }
     {

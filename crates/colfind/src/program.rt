@@ -1,19 +1,21 @@
-//! The program: its words, its table file, and a run from standard input to standard output.
-ghost use Rattle.std.specs.Prelude.{◌≡◌, ◌<◌, ◌≤◌, ◌^◌, ℕ, map, IfOk, OnOk};
-ghost use Rattle.colfind.specs.Devices.{with_piece};
-ghost use Rattle.colfind.specs.Faults.{fault_line, TellsSomeFault};
-ghost use Rattle.colfind.specs.Searching.{FindsAll, FindsAsked, status_of};
-ghost use Rattle.colfind.specs.Writing.{WritesFront};
+//! The program: its words, its table file, and a run from its text, which is a file or standard
+//! input, to standard output.
+ghost use Rattle.std.specs.Prelude.{◌≡◌, ◌<◌, ◌≤◌, ◌^◌, ℕ, List, map, IfOk, IfErr, OnOk, is_some, true, false};
+ghost use Rattle.colfind.specs.declared.faults.Stop.{Stop};
+ghost use Rattle.colfind.specs.Faults.{fault_of, ReportsLine, ReportsSomeFault};
+ghost use Rattle.colfind.specs.Patterns.{IsCompiledWith};
+ghost use Rattle.colfind.specs.Searching.{FindsAll, FindsAsked, left_of, status_of};
+ghost use Rattle.colfind.specs.Stopping.{IsReason, StopsSearch, StopsAtTable, StopsAtText, is_before_text, seen};
 
 use crate::devices::{Source, Target};
-use crate::faults::{Fault, MEMORY, READ, TABLE_FILE, TABLE_MEMORY, WRITE};
+use crate::faults::{Fault, Stop};
 use crate::files::{FileFault, read_all};
 use crate::output::Output;
 use crate::run::{Outcome, run};
 use crate::settings::settings;
 use crate::streams::FromRead;
+use crate::words::Settings;
 use crate::writing::write_all;
-use collation_elements::{Strength, Variable};
 use collation_pattern::Pattern;
 use collation_table::{Table, Weights};
 use std::alloc::Global;
@@ -33,32 +35,38 @@ pub fn program<'a, F: Files, R: Source, O: Target, E: Target>(
 ) -> u8
     requires reads { R.failures input.old < 2 ^ 63 }
     requires writes { O.failures out.old < 2 ^ 63 }
-    requires tells { E.failures err.old < 2 ^ 63 }
+    requires reports { E.failures err.old < 2 ^ 63 }
     ensures status { result ≤ 2 }
-    // No clause can name the table file, so the table is any that is well formed.
+    // No clause can name the table file or the text file. So the table is any that is well formed,
+    // and where a text file is asked for, its bytes are any; the input is then as it was.
     ensures found { result < 2 → (count : ℕ) × (result ≡ status_of count)
-        × FindsAsked (map (λ word. word.now) words.entry.now) count
+        × FindsAsked (map (λ word. word.now) words.entry.now) (input.new ≡ input.old) count
         (R.left input.old) (R.left input.new) (O.held out.old) (O.held out.new) }
     ensures sound { result < 2 → (R.failures input.new ≡ R.failures input.old)
         × (O.failures out.new ≡ O.failures out.old) }
     ensures quiet { result < 2 → err.new ≡ err.old }
-    ensures told { result ≡ 2 → TellsSomeFault (E.held err.old) (E.held err.new)
+    ensures reported { result ≡ 2 → ReportsSomeFault (E.held err.old) (E.held err.new)
         (E.failures err.old) (E.failures err.new) }
+    // The fault is the first in the order of work, and before the text no device is asked.
+    ensures first { result ≡ 2 → (stop : Stop)
+        × ReportsLine (fault_of stop) (E.held err.old) (E.held err.new) (E.failures err.old) (E.failures err.new)
+        × IsReason (map (λ word. word.now) words.entry.now) (input.new ≡ input.old) stop
+        (seen (R.left input.old) (R.failures input.old) (O.held out.old) (O.failures out.old))
+        (seen (R.left input.new) (R.failures input.new) (O.held out.new) (O.failures out.new))
+        × (is_before_text stop ≡ true → (input.new ≡ input.old) × (out.new ≡ out.old)) }
 {
     match count_matches(runtime, alloc, words, input, out) {
         Ok(0) => 1,
         Ok(_) => 0,
-        Err(fault) => tell(err, fault),
+        Err(stop) => report(err, stop.fault()),
     }
 }
 
 /// Writes the line of a fault, and answers its status.
-pub fn tell<E: Target>(err: &mut E, fault: Fault) -> u8
+pub fn report<E: Target>(err: &mut E, fault: Fault) -> u8
     requires { E.failures err.old < 2 ^ 63 }
     ensures status { result ≡ 2 }
-    ensures front { WritesFront (E.held err.old) (E.held err.new) (fault_line fault) }
-    ensures line { E.failures err.new ≡ E.failures err.old
-        → E.held err.new ≡ with_piece (fault_line fault) (E.held err.old) }
+    ensures line { ReportsLine fault (E.held err.old) (E.held err.new) (E.failures err.old) (E.failures err.new) }
 {
     let _ = write_all(err, fault.line().as_bytes());
     2
@@ -71,62 +79,96 @@ fn count_matches<'a, F: Files, R: Source, O: Target>(
     words: &'a [&'a str],
     input: &mut R,
     out: &mut O,
-) -> Result<u64, Fault>
+) -> Result<u64, Stop>
     requires reads { R.failures input.old < 2 ^ 63 }
     requires writes { O.failures out.old < 2 ^ 63 }
-    ensures found { IfOk result (λ count. FindsAsked (map (λ word. word.now) words.entry.now) count
+    ensures found { IfOk result (λ count. FindsAsked (map (λ word. word.now) words.entry.now) (input.new ≡ input.old) count
         (R.left input.old) (R.left input.new) (O.held out.old) (O.held out.new)) }
     ensures sound { OnOk result ((R.failures input.new ≡ R.failures input.old)
         × (O.failures out.new ≡ O.failures out.old)) }
+    ensures reason { IfErr result (λ stop. IsReason (map (λ word. word.now) words.entry.now) (input.new ≡ input.old) stop
+        (seen (R.left input.old) (R.failures input.old) (O.held out.old) (O.failures out.old))
+        (seen (R.left input.new) (R.failures input.new) (O.held out.new) (O.failures out.new))) }
+    ensures unasked { IfErr result (λ stop. is_before_text stop ≡ true → (input.new ≡ input.old) × (out.new ≡ out.old)) }
 {
     let asked = settings(alloc, words)?;
     let table = read_table(runtime, alloc, asked.table)?;
-    search(
-        alloc,
-        &table,
-        asked.pattern,
-        asked.strength,
-        asked.variable,
-        input,
-        out,
-    )
+    search(runtime, alloc, &table, &asked, input, out)
 }
 
-/// The number of matches of a text in the input, which were written.
-fn search<W: Weights, R: Source, O: Target>(
+/// The number of matches, which were written, in the text file if one is asked for, else in the
+/// input.
+fn search<F: Files, W: Weights, R: Source, O: Target>(
+    runtime: &F,
     alloc: Global,
     table: &W,
-    text: &str,
-    strength: Strength,
-    variable: Variable,
+    asked: &Settings,
     input: &mut R,
     out: &mut O,
-) -> Result<u64, Fault>
+) -> Result<u64, Stop>
     requires reads { R.failures input.old < 2 ^ 63 }
     requires writes { O.failures out.old < 2 ^ 63 }
-    ensures found { IfOk result (λ count. FindsAll (W.table table.now) strength variable text.now count
-        (R.left input.old) (R.left input.new) (O.held out.old) (O.held out.new)) }
+    ensures found { IfOk result (λ count. FindsAll (W.table table.now) asked.now.strength asked.now.variable
+        asked.now.pattern.now asked.now.output count
+        (left_of asked.now (R.left input.old)) (left_of asked.now (R.left input.new)) (O.held out.old) (O.held out.new)) }
     ensures sound { OnOk result ((R.failures input.new ≡ R.failures input.old)
         × (O.failures out.new ≡ O.failures out.old)) }
+    ensures reason { IfErr result (λ stop. StopsSearch (W.table table.now) asked.now stop
+        (seen (R.left input.old) (R.failures input.old) (O.held out.old) (O.failures out.old))
+        (seen (R.left input.new) (R.failures input.new) (O.held out.new) (O.failures out.new))) }
+    ensures unasked { IfErr result (λ stop. is_before_text stop ≡ true → (input.new ≡ input.old) × (out.new ≡ out.old)) }
+    ensures file { is_some asked.now.text ≡ true → input.new ≡ input.old }
 {
-    let pattern = Pattern::compile(alloc, table, text, strength, variable)?;
-    match run(alloc, table, &pattern, Output::Ranges, input, out) {
+    let pattern = Pattern::compile(alloc, table, asked.pattern, asked.strength, asked.variable)?;
+    let Some(path) = asked.text else {
+        return search_in(alloc, table, &pattern, asked.output, input, out);
+    };
+    let Ok(file) = fs::open(runtime, path) else {
+        return Err(Stop::TextFile);
+    };
+    let mut text = FromRead::new(file);
+    search_in(alloc, table, &pattern, asked.output, &mut text, out)
+}
+
+/// The number of matches of the pattern in what `reader` gives, which were written.
+fn search_in<W: Weights, R: Source, O: Target>(
+    alloc: Global,
+    table: &W,
+    pattern: &Pattern,
+    form: Output,
+    reader: &mut R,
+    out: &mut O,
+) -> Result<u64, Stop>
+    requires reads { R.failures reader.old < 2 ^ 63 }
+    requires writes { O.failures out.old < 2 ^ 63 }
+    // For each text `p` of which the pattern was compiled.
+    ensures found { IfOk result (λ count. (p : List ℕ) → IsCompiledWith (W.table table.now) pattern.now p
+        → FindsAll (W.table table.now) pattern.now.strength pattern.now.variable p form count
+        (R.left reader.old) (R.left reader.new) (O.held out.old) (O.held out.new)) }
+    ensures sound { OnOk result ((R.failures reader.new ≡ R.failures reader.old)
+        × (O.failures out.new ≡ O.failures out.old)) }
+    ensures reason { IfErr result (λ stop. (p : List ℕ) → IsCompiledWith (W.table table.now) pattern.now p
+        → StopsAtText (W.table table.now) pattern.now.strength pattern.now.variable p form stop
+        (seen (R.left reader.old) (R.failures reader.old) (O.held out.old) (O.failures out.old))
+        (seen (R.left reader.new) (R.failures reader.new) (O.held out.new) (O.failures out.new))) }
+    ensures inside { IfErr result (λ stop. is_before_text stop ≡ false) }
+{
+    match run(alloc, table, pattern, form, reader, out) {
         Outcome::Done(count) => Ok(count),
-        Outcome::Text(fault) => Err(Fault::from(fault)),
-        Outcome::Read(offset) => Err(Fault::At(READ, offset)),
-        Outcome::Write => Err(Fault::At(WRITE, 0)),
-        Outcome::Memory => Err(Fault::At(MEMORY, 0)),
+        Outcome::Text(fault) => Err(Stop::Text(fault)),
+        Outcome::Read(count) => Err(Stop::Read(count)),
+        Outcome::Write => Err(Stop::Write),
+        Outcome::Memory => Err(Stop::Memory),
     }
 }
 
 /// The table of the file at `path`.
-fn read_table<F: Files>(runtime: &F, alloc: Global, path: &str) -> Result<Table, Fault> {
+fn read_table<F: Files>(runtime: &F, alloc: Global, path: &str) -> Result<Table, Stop>
+    ensures { IfErr result StopsAtTable }
+{
     let Ok(file) = fs::open(runtime, path) else {
-        return Err(Fault::At(TABLE_FILE, 0));
+        return Err(Stop::File(FileFault::Device));
     };
-    match read_all(alloc, &mut FromRead::new(file)) {
-        Ok(bytes) => Ok(Table::read(alloc, &bytes)?),
-        Err(FileFault::Device) => Err(Fault::At(TABLE_FILE, 0)),
-        Err(FileFault::Memory) => Err(Fault::At(TABLE_MEMORY, 0)),
-    }
+    let bytes = read_all(alloc, &mut FromRead::new(file))?;
+    Ok(Table::read(alloc, &bytes)?)
 }

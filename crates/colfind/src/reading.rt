@@ -9,7 +9,7 @@ use std::alloc::AllocError;
 /// The greatest number of bytes that one read asks for.
 pub const PIECE_BYTES: usize = 4096;
 
-/// What one read told.
+/// What one read gave.
 #[derive(Clone, Copy, Debug, PartialEq, Eq)]
 pub enum Reading {
     /// There were bytes.
@@ -28,8 +28,8 @@ pub fn read_piece<R: Source>(reader: &mut R, text: &mut Vec<u8>) -> Result<Readi
         (ReadsOn (R.left reader.old) (R.left reader.new) text.old.items text.new.items) }
     ensures some { result ≡ Ok Reading.Bytes → vec_len text.old < vec_len text.new }
     ensures end { result ≡ Ok Reading.End → IfSome (R.left reader.new) (λ rest. rest ≡ []) }
-    ensures fault { IfOk result (λ told.
-        R.failures reader.new ≡ R.failures reader.old + one_if (is_fault told)) }
+    ensures fault { IfOk result (λ reported.
+        R.failures reader.new ≡ R.failures reader.old + one_if (is_fault reported)) }
     ensures most { vec_len text.new ≤ vec_len text.old + PIECE_BYTES }
     ensures stays { result ≢ Ok Reading.Bytes → text.new.items ≡ text.old.items }
     ensures err { OnErr result (R.failures reader.new ≡ R.failures reader.old) }

@@ -1,20 +1,22 @@
 //! A run of the search over a reader and a writer.
-ghost use Rattle.std.specs.Prelude.{ℕ, List, ◌≡◌, ◌<◌, ◌^◌, ◌+◌, ◌≤◌, ◌↔◌, ◌≢◌, nat_lt, IfOk, OnErr};
-ghost use Rattle.colfind.specs.Patterns.{IsCompiledFrom, answer_to, settled_in};
-ghost use Rattle.colfind.specs.Reading.{ReadsSome};
-ghost use Rattle.colfind.specs.Finding.{Finds, failures_of};
-ghost use Rattle.colfind.specs.Running.{Runs, FailsAs, IsRead};
+ghost use Rattle.std.specs.Prelude.{ℕ, List, Option, ◌≡◌, ◌<◌, ◌^◌, ◌++◌, nat_lt};
+ghost use Rattle.colfind.specs.Patterns.{IsCompiledWith, answer_to, settled_in};
+ghost use Rattle.colfind.specs.Finding.{IsFoundIn, EndsBy, failures_of, failures_at};
+ghost use Rattle.collation_search.specs.GoodPrefix.{whole};
+ghost use Rattle.collation_search.specs.Search.{IsCompiledFrom, sought, answer_to as search_answer, settled_in as search_settled};
+ghost use Rattle.colfind.specs.Running.{IfDone, IfText, IfRead};
+ghost use Rattle.colfind.specs.Running.{PrintsAll, PrintsToFault, PrintsSettled, PrintsPrefix, reported_ranges, FailsAs};
 
 use crate::devices::{Source, Target};
+use crate::lines::Lines;
 use crate::output::Output;
-use crate::texts::{Ending, read_text};
-use crate::writing::write_ranges;
+use crate::texts::{Ending, search_text};
 use collation_pattern::Pattern;
-use collation_search::{TextFault, answer_of, settled_of};
+use collation_search::{Found as Ranges, Search, TextFault, one_range_begins_at_an_offset};
 use collation_table::Weights;
-use std::alloc::{AllocError, Global};
+use std::alloc::Global;
 
-/// What a run tells.
+/// What a run reports.
 #[derive(Clone, Copy, Debug, PartialEq, Eq)]
 pub enum Outcome {
     /// The number of matches in a text without a fault.
@@ -40,49 +42,35 @@ enum TextEnd {
     Unread(u64),
 }
 
-/// The matches that are printed, and how the text ended.
-#[derive(Drop)]
-struct Found {
-    ranges: Vec<(u64, u64)>,
-    end: TextEnd,
-}
-
-/// Reads the text and finds the matches in it.
-fn find<W: Weights, R: Source>(
-    alloc: Global,
-    table: &W,
-    pattern: &Pattern,
-    reader: &mut R,
-) -> Result<Found, AllocError>
-    requires { R.failures reader.old < 2 ^ 63 }
-    ensures finds { IfOk result (λ found. (p : List ℕ) → IsCompiledFrom (W.table table.now) p pattern.now
-        → Finds (answer_to (W.table table.now) p pattern.now) (settled_in (W.table table.now) p pattern.now)
-        found.end found.ranges.items (R.left reader.old) (R.left reader.new)) }
-    ensures count { IfOk result (λ found.
-        R.failures reader.new ≡ R.failures reader.old + failures_of found.end) }
-    ensures err { OnErr result ((R.failures reader.old ≤ R.failures reader.new)
-        × (R.failures reader.new ≤ R.failures reader.old + 1)) }
-    ensures lost { OnErr result (ReadsSome (R.left reader.old) (R.left reader.new)) }
+/// Ends the search of a text whose reading has ended: `rest` is emptied, and then holds the ranges that were not handed out yet.
+fn close<'a, W: Weights>(search: Search<'a, W>, ending: Ending, rest: &mut Ranges) -> TextEnd
+    ensures found { (p bytes : List ℕ) (handed : List (ℕ × ℕ)) (left : Option (List ℕ)) → IsCompiledFrom (sought search.entry) p
+        → EndsBy search.entry ending bytes handed left
+        → IsFoundIn (λ b. search_answer (sought search.entry) p b) (λ b. search_settled (sought search.entry) p (whole b)) result (handed ++ rest.new.items) bytes left }
+    ensures count { failures_of result ≡ failures_at ending }
 {
-    let mut text = Vec::new(alloc);
-    if let Ending::Fault = read_text(alloc, reader, &mut text)? {
-        return Ok(Found {
-            ranges: settled_of(alloc, table, pattern, &text)?,
-            end: TextEnd::Unread(text.len() as u64),
-        });
+    match ending {
+        Ending::Unread(count) => {
+            search.stop(rest);
+            TextEnd::Unread(count)
+        }
+        Ending::Closed(fault) => {
+            rest.clear();
+            TextEnd::Fault(fault)
+        }
+        Ending::End => match search.finish(rest) {
+            Ok(()) => TextEnd::Good,
+            Err(fault) => TextEnd::Fault(fault),
+        },
     }
-    let answer = answer_of(alloc, table, pattern, &text)?;
-    Ok(Found {
-        ranges: answer.ranges,
-        end: answer.fault.map_or(TextEnd::Good, TextEnd::Fault),
-    })
 }
 
 /// Finds the pattern in the text that `reader` gives, and writes the matches to `out`, which it
 /// then flushes; no clause can say the latter. The text is read to its end or to its first fault.
-/// A failure of the reader ends the text too, and then the matches that end before the end of its
-/// last whole character are written. After a failure of `out` nothing more is written, and that
-/// is told in place of anything else. Where memory is refused, `out` is asked for nothing.
+/// Neither the text nor the matches are kept: the lines of a match are written as soon as it is known, and at the latest
+/// before the next bytes are read. A failure of the reader ends the text too, and then the matches that end before the end of
+/// its last whole character are written. After a failure of `out` nothing more is written or read, and that is reported in
+/// place of anything else. Where memory is refused, neither device was asked.
 pub fn run<W: Weights, R: Source, O: Target>(
     alloc: Global,
     table: &W,
@@ -93,26 +81,40 @@ pub fn run<W: Weights, R: Source, O: Target>(
 ) -> Outcome
     requires reads { R.failures reader.old < 2 ^ 63 }
     requires writes { O.failures out.old < 2 ^ 63 }
-    // The bytes written are a function of the bytes read.
-    ensures bytes { (p : List ℕ) → IsCompiledFrom (W.table table.now) p pattern.now
-        → Runs (answer_to (W.table table.now) p pattern.now) (settled_in (W.table table.now) p pattern.now)
-        form result (nat_lt (R.failures reader.old) (R.failures reader.new))
+    // What was read and printed, for each text `p` of which the pattern was compiled.
+    ensures done { IfDone result (λ count. (p : List ℕ) → IsCompiledWith (W.table table.now) pattern.now p
+        → PrintsAll (answer_to (W.table table.now) p pattern.now) form count
+        (R.left reader.old) (R.left reader.new) (O.held out.old) (O.held out.new)) }
+    ensures text_fault { IfText result (λ fault. (p : List ℕ) → IsCompiledWith (W.table table.now) pattern.now p
+        → PrintsToFault (answer_to (W.table table.now) p pattern.now) form fault
+        (R.left reader.old) (R.left reader.new) (O.held out.old) (O.held out.new)) }
+    ensures read_failure { IfRead result (λ count. (p : List ℕ) → IsCompiledWith (W.table table.now) pattern.now p
+        → PrintsSettled (settled_in (W.table table.now) p pattern.now) form count
+        (R.left reader.old) (R.left reader.new) (O.held out.old) (O.held out.new)) }
+    ensures write_failure { result ≡ Outcome.Write → (p : List ℕ) → IsCompiledWith (W.table table.now) pattern.now p
+        → PrintsPrefix (reported_ranges (answer_to (W.table table.now) p pattern.now) (settled_in (W.table table.now) p pattern.now)
+        (nat_lt (R.failures reader.old) (R.failures reader.new))) form
         (R.left reader.old) (R.left reader.new) (O.held out.old) (O.held out.new) }
-    ensures write_failed { (result ≡ Outcome.Write) ↔ (O.failures out.old < O.failures out.new) }
-    ensures read_failed { result ≢ Outcome.Memory → IsRead result
-        ↔ ((R.failures reader.old < R.failures reader.new) × (O.failures out.new ≡ O.failures out.old)) }
+    ensures memory { result ≡ Outcome.Memory → (out.new ≡ out.old) × (reader.new ≡ reader.old) }
     ensures failures { FailsAs result (R.failures reader.old) (R.failures reader.new)
         (O.failures out.old) (O.failures out.new) }
-    ensures memory { result ≡ Outcome.Memory → out.new ≡ out.old }
 {
-    let Ok(found) = find(alloc, table, pattern, reader) else {
+    let Ok(mut search) = Search::new(alloc, table, pattern) else {
         return Outcome::Memory;
     };
-    if write_ranges(out, form, &found.ranges).is_err() {
+    one_range_begins_at_an_offset();
+    let mut lines = Lines::new(form);
+    let Ok(ending) = search_text(&mut search, reader, &mut lines, out) else {
+        return Outcome::Write;
+    };
+    let mut rest = Ranges::new();
+    let end = close(search, ending, &mut rest);
+    lines.put_all(out, rest.as_slice());
+    if lines.finish(out).is_err() {
         return Outcome::Write;
     }
-    match found.end {
-        TextEnd::Good => Outcome::Done(found.ranges.len() as u64),
+    match end {
+        TextEnd::Good => Outcome::Done(lines.count()),
         TextEnd::Fault(fault) => Outcome::Text(fault),
         TextEnd::Unread(count) => Outcome::Read(count),
     }

@@ -1,10 +1,11 @@
 //! The reading of the words of the command line.
-ghost use Rattle.std.specs.Prelude.{◌≡◌, map, IfOk, false};
-ghost use Rattle.clap.specs.Words.{app_of, found_of, rows_of, rule_of};
-ghost use Rattle.colfind.specs.Command.{command, TakesNames, strength_names, variable_names};
-ghost use Rattle.colfind.specs.Command.{table_rule, strength_rule, variable_rule, pattern_rule};
-ghost use Rattle.colfind.specs.Settings.{IsReadFrom, IsTakenAs, IsRefused, entry, strength_of, variable_of};
+ghost use Rattle.std.specs.Prelude.{◌≡◌, map, option_map, IfOk, false};
+ghost use Rattle.clap.specs.Words.{app_of, first_of, found_of, rows_of, rule_of};
+ghost use Rattle.colfind.specs.Command.{command, TakesNames, strength_names, variable_names, output_names};
+ghost use Rattle.colfind.specs.Command.{table_rule, strength_rule, variable_rule, output_rule, pattern_rule, text_rule};
+ghost use Rattle.colfind.specs.Settings.{IsReadFrom, IsTakenAs, IsRefused, entry, strength_of, variable_of, output_of};
 
+use crate::output::Output;
 use crate::words::{Settings, SettingsFault};
 use clap::error::ErrorKind;
 use clap::{Arg, ArgMatches, Command};
@@ -14,6 +15,8 @@ use std::alloc::{AllocError, Global};
 static STRENGTHS: [&str; 3] = ["1", "2", "3"];
 
 static VARIABLES: [&str; 2] = ["shifted", "non-ignorable"];
+
+static OUTPUTS: [&str; 3] = ["ranges", "count", "marks"];
 
 fn table_option<'a>(alloc: Global) -> Arg<'a>
     ensures rule { rule_of result ≡ table_rule }
@@ -44,6 +47,17 @@ fn variable_option<'a>(alloc: Global) -> Arg<'a>
         .default_value("non-ignorable")
 }
 
+fn output_option<'a>(alloc: Global) -> Arg<'a>
+    ensures rule { (names : _) × (rule_of result ≡ output_rule names)
+        × TakesNames names output_names }
+    ensures local { result.global ≡ false }
+{
+    Arg::new(alloc, "output")
+        .long("output")
+        .value_parser(OUTPUTS.as_slice())
+        .default_value("ranges")
+}
+
 fn pattern_argument<'a>(alloc: Global) -> Arg<'a>
     ensures rule { rule_of result ≡ pattern_rule }
     ensures local { result.global ≡ false }
@@ -51,10 +65,18 @@ fn pattern_argument<'a>(alloc: Global) -> Arg<'a>
     Arg::new(alloc, "pattern").required(true)
 }
 
+fn text_argument<'a>(alloc: Global) -> Arg<'a>
+    ensures rule { rule_of result ≡ text_rule }
+    ensures local { result.global ≡ false }
+{
+    Arg::new(alloc, "text")
+}
+
 /// The command as its argument parser sees it. Its words come without the program's name.
 fn command_line<'a>(alloc: Global) -> Result<Command<'a>, AllocError>
-    ensures { IfOk result (λ c. (strengths : _) × (variables : _) × TakesNames strengths strength_names
-        × TakesNames variables variable_names × (app_of c ≡ command strengths variables)) }
+    ensures { IfOk result (λ c. (strengths : _) × (variables : _) × (outputs : _) × TakesNames strengths strength_names
+        × TakesNames variables variable_names × TakesNames outputs output_names
+        × (app_of c ≡ command strengths variables outputs)) }
 {
     Command::new(alloc, "colfind")
         .no_binary_name(true)
@@ -62,7 +84,9 @@ fn command_line<'a>(alloc: Global) -> Result<Command<'a>, AllocError>
         .arg(table_option(alloc))?
         .arg(strength_option(alloc))?
         .arg(variable_option(alloc))?
-        .arg(pattern_argument(alloc))
+        .arg(output_option(alloc))?
+        .arg(pattern_argument(alloc))?
+        .arg(text_argument(alloc))
 }
 
 /// The text of an entry that a parse has made, empty where there is none.
@@ -97,6 +121,25 @@ fn variable_named(word: &str) -> Variable
     }
 }
 
+fn output_named(word: &str) -> Output
+    ensures { result ≡ output_of word.now }
+{
+    if word == "count" {
+        Output::Count
+    } else if word == "marks" {
+        Output::Marks
+    } else {
+        Output::Ranges
+    }
+}
+
+/// The text of an entry that a parse has made, if there is one.
+fn given_text<'a>(matches: &ArgMatches<'a>, id: &str) -> Option<&'a str>
+    ensures { option_map (λ text. text.now) result ≡ first_of id.now (rows_of (found_of matches.now)) }
+{
+    matches.get_str(id)
+}
+
 /// The settings of the entries that a parse has made. Its command lets no other names through.
 fn read_from<'a>(matches: &ArgMatches<'a>) -> Settings<'a>
     ensures { IsReadFrom (rows_of (found_of matches.now)) result }
@@ -106,12 +149,16 @@ fn read_from<'a>(matches: &ArgMatches<'a>) -> Settings<'a>
         pattern: text_of(matches, "pattern"),
         strength: strength_named(text_of(matches, "strength")),
         variable: variable_named(text_of(matches, "variable")),
+        output: output_named(text_of(matches, "output")),
+        text: given_text(matches, "text"),
     }
 }
 
 /// Reads the words of the command line, which come without the program's name, by the command
-/// `colfind --table FILE [--strength 1|2|3] [--variable shifted|non-ignorable] PATTERN`. Where an
-/// option is left out, the strength is 3 and the weighting non-ignorable.
+/// `colfind --table FILE [--strength 1|2|3] [--variable shifted|non-ignorable]
+/// [--output ranges|count|marks] PATTERN [FILE]`. Where an option is left out, the strength is 3,
+/// the weighting non-ignorable and the output ranges. A pattern that begins with `-` stands after
+/// the word `--`.
 pub fn settings<'a>(alloc: Global, words: &'a [&'a str]) -> Result<Settings<'a>, SettingsFault>
     ensures taken { IfOk result (IsTakenAs (map (λ word. word.now) words.entry.now)) }
     ensures usage { result ≡ Err SettingsFault.Usage

@@ -3,15 +3,15 @@ ghost use Rattle.std.specs.Prelude.{◌<◌, ◌^◌};
 
 use crate::devices::{Source, Target};
 use crate::files::{FileFault, read_all};
+use crate::lines::Lines;
 use crate::memory::{MemorySource, MemoryTarget};
 use crate::output::Output;
 use crate::program::program;
 use crate::run::{Outcome, run};
 use crate::settings::settings;
-use crate::streams::{FromRead, ToWrite};
 use crate::tests::devices::{FailingSource, FailingTarget};
 use crate::words::{Settings, SettingsFault};
-use crate::writing::{write_all, write_ranges};
+use crate::writing::write_all;
 use collation_elements::{Strength, Variable};
 use collation_pattern::Pattern;
 use collation_search::TextFault;
@@ -19,12 +19,15 @@ use collation_table::Table;
 use std::alloc::Global;
 use std::process::Abort;
 use std::test::Fail;
-use std::{env, fs};
+use std::{env, fs, process};
 
 mod devices;
 mod pieces;
 mod refusals;
 mod rows;
+mod sizes;
+mod streams;
+mod words;
 
 const TABLE: &str = "@version 0.0.0
 0020 ; [*0201.0020.0002]
@@ -49,7 +52,7 @@ const TABLE: &str = "@version 0.0.0
 2F00 ; [.FB40.0020.0004][.CE00.0000.0000]
 ";
 
-/// What a run tells of a pattern, over any two devices whose counts of failures are small.
+/// What a run reports of a pattern, over any two devices whose counts of failures are small.
 fn outcome_of<R: Source, O: Target>(
     rt: &impl Abort,
     alloc: Global,
@@ -73,21 +76,21 @@ fn outcome_of<R: Source, O: Target>(
     run(alloc, &table, &pattern, form, reader, out)
 }
 
-/// A pattern, a text, a form of output, what is printed, and what is told.
+/// A pattern, a text, a form of output, what is printed, and what is reported.
 type FormRow<'a> = (&'a str, &'a [u8], Output, &'a str, Outcome);
 
-/// Compares what a run tells and prints of each row, over devices that move a byte at a time.
+/// Compares what a run reports and prints of each row, over devices that move a byte at a time.
 fn compare_by_bytes(rt: &impl Abort, alloc: Global, rows: &[FormRow]) {
     for (pattern, text, form, printed, outcome) in rows {
         let mut reader = MemorySource::new(*text, 1);
         let mut out = FailingTarget::new(alloc, 1, u64::MAX);
-        let told = outcome_of(rt, alloc, *pattern, *form, &mut reader, &mut out);
-        assert_eq!(rt; told, *outcome);
+        let reported = outcome_of(rt, alloc, *pattern, *form, &mut reader, &mut out);
+        assert_eq!(rt; reported, *outcome);
         assert_eq!(rt; out.bytes(), printed.as_bytes());
     }
 }
 
-/// What a run tells of an ill-formed sequence at a byte offset.
+/// What a run reports of an ill-formed sequence at a byte offset.
 fn ill_formed_at(offset: u64) -> Outcome {
     Outcome::Text(TextFault { kind: 31, offset })
 }
@@ -129,6 +132,36 @@ fn a_text_longer_than_one_read(rt: HostRuntime) -> Result<(), Fail> {
     assert_eq!(rt; outcome, Outcome::Done(99_999));
     assert_eq!(rt; out.bytes(), b"99999\n".as_slice());
     Ok(())
+}
+
+/// More lines than are gathered at once.
+#[test]
+fn many_lines(rt: HostRuntime) -> Result<(), Fail> {
+    let alloc = rt.alloc();
+    let text = vec![in alloc; b'a'; 5_000]?;
+    let mut reader = MemorySource::new(&text, usize::MAX);
+    let mut out = MemoryTarget::new(alloc);
+    let outcome = outcome_of(&rt, alloc, "a", Output::Marks, &mut reader, &mut out);
+    assert_eq!(rt; outcome, Outcome::Done(5_000));
+    let mut printed = Vec::new(alloc);
+    for start in 0..5_000u64 {
+        let lines = format!(in alloc; "[{}\n]{}\n", start, start + 1)?;
+        printed.extend_from_slice(lines.as_bytes())?;
+    }
+    assert_eq!(rt; out.bytes(), printed.as_slice());
+    Ok(())
+}
+
+/// The first range is known with the fourth byte: the cluster after it then has its first unit.
+#[test]
+fn nothing_is_read_after_a_failed_write(rt: HostRuntime) {
+    let alloc = rt.alloc();
+    let mut reader = FailingSource::new(b"aaaaaaaa", 1, u64::MAX);
+    let mut out = FailingTarget::new(alloc, 5, 0);
+    let outcome = outcome_of(&rt, alloc, "aa", Output::Ranges, &mut reader, &mut out);
+    assert_eq!(rt; outcome, Outcome::Write);
+    assert_eq!(rt; reader.asked(), 4);
+    assert_eq!(rt; out.bytes(), b"".as_slice());
 }
 
 #[test]
@@ -189,7 +222,7 @@ fn a_read_fails(rt: HostRuntime) {
 }
 
 #[test]
-fn a_failed_write_is_told_in_place_of_anything_else(rt: HostRuntime) {
+fn a_failed_write_is_reported_in_place_of_anything_else(rt: HostRuntime) {
     let alloc = rt.alloc();
     let mut reader = FailingSource::new(b"aaaa", 1, 3);
     let mut out = FailingTarget::new(alloc, 5, 0);
@@ -204,7 +237,7 @@ fn a_failed_write_is_told_in_place_of_anything_else(rt: HostRuntime) {
 }
 
 #[test]
-fn nothing_is_read_behind_a_fault_of_the_text(rt: HostRuntime) {
+fn nothing_is_read_after_a_fault_of_the_text(rt: HostRuntime) {
     let alloc = rt.alloc();
     let mut reader = FailingSource::new(b"ab \xffab", 1, 4);
     let mut out = FailingTarget::new(alloc, 5, u64::MAX);
@@ -224,19 +257,10 @@ fn reads_and_writes_whole_lists(rt: HostRuntime) -> Result<(), Fail> {
     assert!(rt; failed.err() == Some(FileFault::Device));
     let mut out = MemoryTarget::new(alloc);
     assert!(rt; write_all(&mut out, b"ab").is_ok());
-    assert!(rt; write_ranges(&mut out, Output::Ranges, &[(0, u64::MAX)]).is_ok());
+    let mut lines = Lines::new(Output::Ranges);
+    lines.put_all(&mut out, &[(0, u64::MAX)]);
+    assert!(rt; lines.finish(&mut out).is_ok());
     assert_eq!(rt; out.bytes(), b"ab0:18446744073709551615\n".as_slice());
-    let mut written = Vec::new(alloc);
-    {
-        let mut out = ToWrite::new(&mut written);
-        assert!(rt; write_all(&mut out, b"abc").is_ok());
-        assert!(rt; out.flush().is_ok());
-    }
-    assert_eq!(rt; written.as_slice(), b"abc".as_slice());
-    let bytes = read_all(alloc, &mut FromRead::new(b"abc".as_slice()))
-        .ok()
-        .ok_or("the bytes")?;
-    assert_eq!(rt; bytes.as_slice(), b"abc".as_slice());
     Ok(())
 }
 
@@ -248,6 +272,8 @@ fn reads_the_words(rt: HostRuntime) {
         pattern: "p",
         strength: Strength::Three,
         variable: Variable::NonIgnorable,
+        output: Output::Ranges,
+        text: None,
     };
     assert!(rt; settings(alloc, &["--table", "t", "p"]) == Ok(plain));
     assert!(rt; settings(alloc, &["p", "--table=t"]) == Ok(plain));
@@ -297,6 +323,8 @@ fn refuses_other_words(rt: HostRuntime) {
     assert!(rt; settings(alloc, &["--table", "t", "--strength", "4", "p"]) == usage);
     assert!(rt; settings(alloc, &["--table", "t", "--strength", "01", "p"]) == usage);
     assert!(rt; settings(alloc, &["--table", "t", "--variable", "Shifted", "p"]) == usage);
+    assert!(rt; settings(alloc, &["--table", "t", "--output", "lines", "p"]) == usage);
+    assert!(rt; settings(alloc, &["--table", "t", "--output", "p"]) == usage);
     assert!(rt; settings(alloc, &["--help"]) == usage);
     assert!(rt; settings(alloc, &["--version"]) == usage);
 }
@@ -316,10 +344,12 @@ fn answered<'a, R: Source>(
     (status, out, err)
 }
 
-/// The path of a file with this name and contents, in the folder for files of tests.
+/// The path of a file with this name and contents, in the folder for files of tests. No other
+/// process that runs now gives a file this path.
 fn file_with(host: &HostRuntime, name: &str, contents: &str) -> Result<String, Fail> {
     let folder = env::temp_dir(host)?;
-    let path = format!(in host.alloc(); "{}/colfind-{name}.table", folder.as_path().as_str())?;
+    let id = process::id(host.process());
+    let path = format!(in host.alloc(); "{}/colfind-{id}-{name}.table", folder.as_path().as_str())?;
     fs::write(host, path.as_str(), contents)?;
     Ok(path)
 }
@@ -329,12 +359,12 @@ type StatusRow<'a> = (&'a str, &'a [u8], u8, &'a str, &'a str);
 
 /// Compares what the program answers of each row, with a table in the file at `path`.
 fn compare_status(rt: &impl Abort, host: &HostRuntime, path: &str, rows: &[StatusRow]) {
-    for (pattern, text, status, printed, told) in rows {
+    for (pattern, text, status, printed, reported) in rows {
         let words = ["--table", path, "--", *pattern];
         let (answer, out, err) = answered(host, &words, &mut MemorySource::new(*text, 2));
         assert_eq!(rt; answer, *status);
         assert_eq!(rt; out.bytes(), printed.as_bytes());
-        assert_eq!(rt; err.bytes(), told.as_bytes());
+        assert_eq!(rt; err.bytes(), reported.as_bytes());
     }
 }
 
@@ -353,7 +383,7 @@ fn answers_a_status(rt: HostRuntime) -> Result<(), Fail> {
 }
 
 #[test]
-fn tells_a_bad_table_file(rt: HostRuntime) -> Result<(), Fail> {
+fn reports_a_bad_table_file(rt: HostRuntime) -> Result<(), Fail> {
     let unopened: [StatusRow; 1] = [("a", b"a", 2, "", "colfind: fault 43 at 0\n")];
     compare_status(&rt, &rt, "no such file", &unopened);
     let folder = env::temp_dir(&rt)?;
@@ -365,17 +395,37 @@ fn tells_a_bad_table_file(rt: HostRuntime) -> Result<(), Fail> {
     Ok(())
 }
 
-#[test]
-fn tells_words_of_another_command(rt: HostRuntime) {
-    let words = ["--tables", "table", "--", "a"];
-    let (answer, out, err) = answered(&rt, &words, &mut MemorySource::new(b"a", 2));
+/// Compares what the program writes to standard error for words, a table or a pattern at fault,
+/// and that it then asks its input for nothing and writes nothing to its output.
+fn compare_unasked(rt: &impl Abort, host: &HostRuntime, words: &[&str], reported: &str) {
+    let mut input = FailingSource::new(b"ab", 2, u64::MAX);
+    let (answer, out, err) = answered(host, words, &mut input);
     assert_eq!(rt; answer, 2);
+    assert_eq!(rt; err.bytes(), reported.as_bytes());
     assert_eq!(rt; out.bytes(), b"".as_slice());
-    assert_eq!(rt; err.bytes(), b"colfind: usage\n".as_slice());
+    assert_eq!(rt; input.asked(), 0);
 }
 
 #[test]
-fn tells_devices_that_fail(rt: HostRuntime) -> Result<(), Fail> {
+fn the_first_fault_in_the_order_of_work_is_reported(rt: HostRuntime) -> Result<(), Fail> {
+    let good = file_with(&rt, "good", TABLE)?;
+    let bad = file_with(&rt, "bad", "0061 ; [.1C00.0020.0002]\n61\n")?;
+    let long = "a".repeat(rt.alloc(), 65_537)?;
+    let words = ["--tables", "no such file", "--", ""];
+    compare_unasked(&rt, &rt, &words, "colfind: usage\n");
+    let words = ["--table", "no such file", long.as_str()];
+    compare_unasked(&rt, &rt, &words, "colfind: fault 43 at 0\n");
+    let words = ["--table", bad.as_str(), long.as_str()];
+    compare_unasked(&rt, &rt, &words, "colfind: fault 1 at 2\n");
+    let words = ["--table", good.as_str(), long.as_str()];
+    compare_unasked(&rt, &rt, &words, "colfind: fault 21 at 0\n");
+    fs::remove_file(&rt, good.as_str())?;
+    fs::remove_file(&rt, bad.as_str())?;
+    Ok(())
+}
+
+#[test]
+fn reports_devices_that_fail(rt: HostRuntime) -> Result<(), Fail> {
     let alloc = rt.alloc();
     let path = file_with(&rt, "devices", TABLE)?;
     let words = ["--table", path.as_str(), "a"];

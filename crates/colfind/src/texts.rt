@@ -1,54 +1,82 @@
-//! Reading a text, to its end or to its first fault.
-ghost use Rattle.std.specs.Prelude.{◌≡◌, ◌+◌, ◌^◌, ◌<◌, [], OnOk, OnErr, IfOk, IfSome, true, false};
-ghost use Rattle.colfind.specs.Devices.{behind_piece, one_if};
-ghost use Rattle.colfind.specs.Reading.{ReadsSome, is_failed};
-ghost use Rattle.collation_search.specs.GoodFront.{is_open};
+//! Reading a text piece by piece, and searching each piece.
+ghost use Rattle.std.specs.Prelude.{◌≡◌, ℕ, ◌+◌, ◌^◌, ◌<◌, [], ◌++◌, List, Option, OnOk, OnErr, IfOk, false};
+ghost use Rattle.colfind.specs.Gathering.{Prints};
+ghost use Rattle.colfind.specs.declared.output.Output.{Output};
+ghost use Rattle.colfind.specs.Finding.{Searches, failures_at};
+ghost use Rattle.collation_search.specs.Search.{HasSearched, sought};
+ghost use Rattle.collation_search.specs.Feeding.{Feeds};
 
-use crate::devices::Source;
-use crate::reading::{Reading, read_piece};
-use collation_search::FrontCheck;
-use std::alloc::{AllocError, Global};
+use crate::devices::{DeviceFault, Source, Target};
+use crate::lines::Lines;
+use crate::reading::PIECE_BYTES;
+use collation_search::{Search, TextFault};
+use collation_table::Weights;
 
 /// How the reading of a text has ended.
 #[derive(Clone, Copy, Debug, PartialEq, Eq)]
 pub enum Ending {
     /// The reader told its end.
     End,
-    /// The reader has failed.
-    Fault,
     /// The text so far has a fault, whatever follows.
-    Closed,
+    Closed(TextFault),
+    /// The reader has failed, after so many bytes.
+    Unread(u64),
 }
 
-/// Reads the text into `text`, to its end or to a fault of the text or of the reader, whichever
-/// is met first. Where memory is refused, nothing is said of what `text` then holds.
-pub fn read_text<R: Source>(
-    alloc: Global,
-    reader: &mut R,
-    text: &mut Vec<u8>,
-) -> Result<Ending, AllocError>
-    requires sound { R.failures reader.old < 2 ^ 63 }
-    requires empty { text.old.items ≡ [] }
-    ensures bytes { OnOk result
-        (R.left reader.old ≡ behind_piece text.new.items (R.left reader.new)) }
-    ensures end { result ≡ Ok Ending.End → IfSome (R.left reader.new) (λ rest. rest ≡ []) }
-    ensures open { result ≡ Ok Ending.Fault → is_open text.new.items ≡ true }
-    ensures closed { result ≡ Ok Ending.Closed → is_open text.new.items ≡ false }
-    ensures fault { IfOk result (λ ending.
-        R.failures reader.new ≡ R.failures reader.old + one_if (is_failed ending)) }
-    ensures err { OnErr result (R.failures reader.new ≡ R.failures reader.old) }
-    ensures lost { OnErr result (ReadsSome (R.left reader.old) (R.left reader.new)) }
+/// Searches one piece, and writes the lines of the ranges that became known.
+fn search_piece<'a, W: Weights, O: Target>(
+    search: &mut Search<'a, W>,
+    piece: &[u8],
+    lines: &mut Lines,
+    out: &mut O,
+) -> Result<(), TextFault>
+    requires { lines.old.failed ≡ false → O.failures out.old < 2 ^ 63 }
+    ensures fed { (found : List (ℕ × ℕ)) × Feeds search.old piece.now result found search.new
+        × ((form : Output) (ranges : List (ℕ × ℕ)) (before : Option (List ℕ)) (failures : ℕ)
+        → Prints form lines.old ranges before (O.held out.old) failures (O.failures out.old)
+        → Prints form lines.new (ranges ++ found) before (O.held out.new) failures (O.failures out.new)) }
+    ensures ready { lines.new.failed ≡ false → O.failures out.new < 2 ^ 63 }
 {
-    let mut front = FrontCheck::new(alloc);
+    let answer = search.feed(piece, &mut |start, end| lines.put(out, start, end));
+    lines.send(out);
+    answer
+}
+
+/// Reads the text piece by piece to its end, to its first fault or to a failure of the reader, and writes the lines of the
+/// ranges as they become known. After a failed write no more is read.
+pub fn search_text<'a, W: Weights, R: Source, O: Target>(
+    search: &mut Search<'a, W>,
+    reader: &mut R,
+    lines: &mut Lines,
+    out: &mut O,
+) -> Result<Ending, DeviceFault>
+    requires begins { HasSearched search.old [] [] }
+    requires prints { Prints lines.old.form lines.old [] (O.held out.old) (O.held out.old) (O.failures out.old) (O.failures out.old) }
+    requires good { lines.old.failed ≡ false }
+    requires reads { R.failures reader.old < 2 ^ 63 }
+    requires writes { O.failures out.old < 2 ^ 63 }
+    ensures searched { Searches search.new lines.old.form result lines.new (R.left reader.old) (R.left reader.new)
+        (O.held out.old) (O.held out.new) (O.failures out.old) (O.failures out.new) }
+    ensures sought { sought search.new ≡ sought search.old }
+    ensures count { IfOk result (λ ending. R.failures reader.new ≡ R.failures reader.old + failures_at ending) }
+    ensures err { OnErr result (R.failures reader.new ≡ R.failures reader.old) }
+{
+    let mut piece = [0u8; PIECE_BYTES];
+    let mut taken = 0u64;
     loop {
-        let before = text.len();
-        match read_piece(reader, text)? {
-            Reading::End => return Ok(Ending::End),
-            Reading::Fault => return Ok(Ending::Fault),
-            Reading::Bytes => {
-                if front.take(&text[before..]).is_err() {
-                    return Ok(Ending::Closed);
+        match reader.read(&mut piece) {
+            Err(_) => return Ok(Ending::Unread(taken)),
+            Ok(0) => return Ok(Ending::End),
+            Ok(count) => {
+                let answer = search_piece(search, &piece[..count], lines, out);
+                if lines.has_failed() {
+                    search.has_handed_out();
+                    return Err(DeviceFault);
                 }
+                if let Err(fault) = answer {
+                    return Ok(Ending::Closed(fault));
+                }
+                taken += count as u64;
             }
         }
     }

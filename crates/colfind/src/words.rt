@@ -1,4 +1,5 @@
 //! What the words of the command line ask for.
+use crate::output::Output;
 use collation_elements::{Strength, Variable};
 use thiserror::Error;
 
@@ -13,6 +14,10 @@ pub struct Settings<'a> {
     pub strength: Strength,
     /// How variable elements are weighted (UTS #10, section 4).
     pub variable: Variable,
+    /// How the ranges are printed.
+    pub output: Output,
+    /// The path of the text file, where there is one. Else the text is standard input.
+    pub text: Option<&'a str>,
 }
 
 /// Why there are no settings.

@@ -1,8 +1,8 @@
 //! Writing all, to a writer that takes a part at a time and may fail.
 ghost use Rattle.std.specs.Prelude.{◌≡◌, ◌+◌, ◌^◌, ◌<◌, not, is_ok, OnOk, OnErr};
 ghost use Rattle.colfind.specs.Devices.{with_piece, one_if};
-ghost use Rattle.colfind.specs.Writing.{WritesFront};
-ghost use Rattle.colfind.specs.Printing.{output, printed_lines, printed_end};
+ghost use Rattle.colfind.specs.Writing.{WritesPrefix};
+ghost use Rattle.colfind.specs.Printing.{printed_end};
 
 use crate::devices::{DeviceFault, Target};
 use crate::output::Output;
@@ -12,7 +12,7 @@ use crate::output::Output;
 pub fn write_all<O: Target>(out: &mut O, bytes: &[u8]) -> Result<(), DeviceFault>
     requires { O.failures out.old < 2 ^ 63 }
     ensures ok { OnOk result (O.held out.new ≡ with_piece bytes.now (O.held out.old)) }
-    ensures err { OnErr result (WritesFront (O.held out.old) (O.held out.new) bytes.now) }
+    ensures err { OnErr result (WritesPrefix (O.held out.old) (O.held out.new) bytes.now) }
     ensures count { O.failures out.new ≡ O.failures out.old + one_if (not (is_ok result)) }
 {
     let mut rest = bytes;
@@ -25,51 +25,15 @@ pub fn write_all<O: Target>(out: &mut O, bytes: &[u8]) -> Result<(), DeviceFault
     Ok(())
 }
 
-/// Writes what is printed of each of the ranges. After an error nothing more is written.
-pub fn write_lines<O: Target>(
-    out: &mut O,
-    form: Output,
-    ranges: &[(u64, u64)],
-) -> Result<(), DeviceFault>
-    requires { O.failures out.old < 2 ^ 63 }
-    ensures ok { OnOk result
-        (O.held out.new ≡ with_piece (printed_lines form ranges.now) (O.held out.old)) }
-    ensures err { OnErr result
-        (WritesFront (O.held out.old) (O.held out.new) (printed_lines form ranges.now)) }
-    ensures count { O.failures out.new ≡ O.failures out.old + one_if (not (is_ok result)) }
-{
-    for (start, end) in ranges {
-        write_all(out, form.line(*start, *end).as_bytes())?;
-    }
-    Ok(())
-}
-
-/// Writes what is printed behind all ranges, of which there are `count`, and then flushes. After
+/// Writes what is printed after all ranges, of which there are `count`, and then flushes. After
 /// an error nothing more is written.
 pub fn write_end<O: Target>(out: &mut O, form: Output, count: u64) -> Result<(), DeviceFault>
     requires { O.failures out.old < 2 ^ 63 }
     ensures ok { OnOk result (O.held out.new ≡ with_piece (printed_end form count) (O.held out.old)) }
     ensures err { OnErr result
-        (WritesFront (O.held out.old) (O.held out.new) (printed_end form count)) }
+        (WritesPrefix (O.held out.old) (O.held out.new) (printed_end form count)) }
     ensures count { O.failures out.new ≡ O.failures out.old + one_if (not (is_ok result)) }
 {
     write_all(out, form.last_line(count).as_bytes())?;
     out.flush()
-}
-
-/// Writes what is printed of the ranges, and then flushes. After an error nothing more is written.
-pub fn write_ranges<O: Target>(
-    out: &mut O,
-    form: Output,
-    ranges: &[(u64, u64)],
-) -> Result<(), DeviceFault>
-    requires { O.failures out.old < 2 ^ 63 }
-    ensures ok { OnOk result
-        (O.held out.new ≡ with_piece (output form ranges.now) (O.held out.old)) }
-    ensures err { OnErr result
-        (WritesFront (O.held out.old) (O.held out.new) (output form ranges.now)) }
-    ensures count { O.failures out.new ≡ O.failures out.old + one_if (not (is_ok result)) }
-{
-    write_lines(out, form, ranges)?;
-    write_end(out, form, ranges.len() as u64)
 }

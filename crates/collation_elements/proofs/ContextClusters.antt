@@ -1,5 +1,5 @@
 -- The clusters of a text as its units make them: each goes from a unit that begins one up to the next.
-use Rattle.std.proofs.Common.{◌≡◌, ℕ, ◌==◌, Bool, true, false, List, [], ◌∷◌, ◌++◌, map, flat_map, refl, sym, ap, ap₂, ◌∙◌, inl, inr, append_assoc, append-nil, length, length-append, arith}
+use Rattle.std.proofs.Common.{◌≡◌, ℕ, ◌==◌, Bool, true, false, List, [], ◌∷◌, ◌++◌, map, flat_map, refl, sym, ap, ap₂, ◌∙◌, inl, inr, append_assoc, append-nil, length, length-append, arith, Some, slice_get}
 use Rattle.std.proofs.lemmas.Bool.{cases_Bool, cond-true, cond-false}
 use Rattle.nfd_points.specs.declared.points.Point.{Point}
 use Rattle.collation_table.specs.Table.{TableMap}
@@ -32,11 +32,11 @@ clusters_on table strength variable after begun us = clusters_from begun (items 
 abbrev pub unit_keys : TableMap → Strength → Variable → Bool → List Point → List Key
 unit_keys table strength variable after u = row_keys strength (weighted_row variable after (unit_row table u))
 
-start_items-more : (table : TableMap) (u : List Point) → begins_cluster table u ≡ false → start_items table u ≡ []
+start_items-more : (table : TableMap) (u : List Point) → begins_cluster table u ≡ false → start_items (slice_get u 0) (unit_row table u) ≡ []
 start_items-more table [] h = refl
 start_items-more table (p ∷ ps) h = cond-false _ _ _ h
 
-start_items-next : (table : TableMap) (p : Point) (ps : List Point) → begins_cluster table (p ∷ ps) ≡ true → start_items table (p ∷ ps) ≡ ClusterStart p.offset ∷ []
+start_items-next : (table : TableMap) (p : Point) (ps : List Point) → begins_cluster table (p ∷ ps) ≡ true → start_items (Some p) (unit_row table (p ∷ ps)) ≡ ClusterStart p.offset ∷ []
 start_items-next table p ps h = cond-true _ _ _ h
 
 pub unit_starts-more : (table : TableMap) (u : List Point) → begins_cluster table u ≡ false → unit_starts table u ≡ []
@@ -57,7 +57,7 @@ from_start begun first start ks rest h e =
 
 pub clusters_on-more : (table : TableMap) (strength : Strength) (variable : Variable) (after : Bool) (begun : Cluster) (u : List Point) (us : List (List Point)) → begins_cluster table u ≡ false → clusters_on table strength variable after begun (u ∷ us) ≡ clusters_on table strength variable (after_unit table variable after u) (grown begun (unit_keys table strength variable after u)) us
 clusters_on-more table strength variable after begun u us h =
-    from_items begun (start_items table u) (unit_keys table strength variable after u) (items table strength variable (after_unit table variable after u) us) (start_items-more table u h)
+    from_items begun (start_items (slice_get u 0) (unit_row table u)) (unit_keys table strength variable after u) (items table strength variable (after_unit table variable after u) us) (start_items-more table u h)
 
 -- the text's first unit goes on with the cluster that has begun at 0
 from_zero : (begun : Cluster) (first : List Item) (start : ℕ) (ks : List Key) (rest : List Item) → (start == 0) ≡ true → first ≡ ClusterStart start ∷ [] → clusters_from begun ((first ++ map (λ key. Element key) ks) ++ rest) ≡ clusters_from (grown begun ks) rest
@@ -68,7 +68,7 @@ from_zero begun first start ks rest h e =
 
 pub clusters_on-first : (table : TableMap) (strength : Strength) (variable : Variable) (after : Bool) (begun : Cluster) (p : Point) (ps : List Point) (us : List (List Point)) → begins_cluster table (p ∷ ps) ≡ true → (p.offset == 0) ≡ true → clusters_on table strength variable after begun ((p ∷ ps) ∷ us) ≡ clusters_on table strength variable (after_unit table variable after (p ∷ ps)) (grown begun (unit_keys table strength variable after (p ∷ ps))) us
 clusters_on-first table strength variable after begun p ps us h at =
-    from_zero begun (start_items table (p ∷ ps)) p.offset (unit_keys table strength variable after (p ∷ ps)) (items table strength variable (after_unit table variable after (p ∷ ps)) us) at (start_items-next table p ps h)
+    from_zero begun (start_items (Some p) (unit_row table (p ∷ ps))) p.offset (unit_keys table strength variable after (p ∷ ps)) (items table strength variable (after_unit table variable after (p ∷ ps)) us) at (start_items-next table p ps h)
 
 -- no unit of these begins a cluster at 0
 abbrev pub BeginLater : TableMap → List (List Point) → Type 0
@@ -79,7 +79,7 @@ BeginLater-tail table u us h earlier p ps later e = h (u ∷ earlier) p ps later
 
 pub clusters_on-next : (table : TableMap) (strength : Strength) (variable : Variable) (after : Bool) (begun : Cluster) (p : Point) (ps : List Point) (us : List (List Point)) → begins_cluster table (p ∷ ps) ≡ true → (p.offset == 0) ≡ false → clusters_on table strength variable after begun ((p ∷ ps) ∷ us) ≡ begun ∷ clusters_on table strength variable (after_unit table variable after (p ∷ ps)) (record { start = p.offset; keys = unit_keys table strength variable after (p ∷ ps) }) us
 clusters_on-next table strength variable after begun p ps us h at =
-    from_start begun (start_items table (p ∷ ps)) p.offset (unit_keys table strength variable after (p ∷ ps)) (items table strength variable (after_unit table variable after (p ∷ ps)) us) at (start_items-next table p ps h)
+    from_start begun (start_items (Some p) (unit_row table (p ∷ ps))) p.offset (unit_keys table strength variable after (p ∷ ps)) (items table strength variable (after_unit table variable after (p ∷ ps)) us) at (start_items-next table p ps h)
 
 -- ---- starts
 

@@ -36,7 +36,7 @@ elements_of table variable after us = flat_map (λ row. row) (weighted_rows vari
 elements_of-shift : (table : TableMap) (variable : Variable) (after : Bool) (by : ℕ) (us : List (List Point)) → elements_of table variable after (map (map (shifted by)) us) ≡ elements_of table variable after us
 elements_of-shift table variable after by us = ap (λ rs. flat_map (λ row. row) (weighted_rows variable after rs)) (rows-shift table by us)
 
--- where a unit has a primary weight in front, the elements are those of the units before it and those from it on
+-- where a unit has a primary weight at its start, the elements are those of the units before it and those from it on
 elements_of-primary : (table : TableMap) (variable : Variable) (us : List (List Point)) (v : List Point) (vs : List (List Point)) → begins_primary (unit_row table v) ≡ true → elements_of table variable false (us ++ v ∷ vs) ≡ elements_of table variable false us ++ elements_of table variable false (v ∷ vs)
 elements_of-primary table variable us v vs h =
     let first = map (unit_row table) us in
@@ -62,25 +62,25 @@ halves_at laws table variable cs start end us (q ∷ qs) vs p ps place e at h =
     let cut = units-split laws table place.middle us q qs vs begins e in
     let same : shifted start q ≡ p = cc in
     let first_end : start + byte_len cut.before ≡ p.offset = ap (λ n. start + n) cut.start_is ∙ ap (λ (r : Point). r.offset) same in
-    let second_start : byte_len (place.front ++ cut.before) ≡ p.offset = byte_len-append place.front cut.before ∙ ap (λ n. n + byte_len cut.before) place.start_is ∙ first_end in
-    let sizes : byte_len place.middle ≡ byte_len cut.before + byte_len cut.behind = ap byte_len cut.cs_are ∙ byte_len-append cut.before cut.behind in
-    let second_end : p.offset + byte_len cut.behind ≡ end = omega (arith, place.end_is) in
-    let all : cs ≡ place.front ++ ((cut.before ++ cut.behind) ++ place.back) = place.cs_are ∙ ap (λ l. place.front ++ (l ++ place.back)) cut.cs_are in
-    let second_units : elements_of table variable false ((q ∷ qs) ∷ vs) ≡ elements table variable (points cut.behind) =
-    ap (elements_of table variable false) (sym cut.behind_units) ∙ elements_of-shift table variable false (byte_len cut.before) (units table (points cut.behind)) in
+    let second_start : byte_len (place.prefix ++ cut.before) ≡ p.offset = byte_len-append place.prefix cut.before ∙ ap (λ n. n + byte_len cut.before) place.start_is ∙ first_end in
+    let sizes : byte_len place.middle ≡ byte_len cut.before + byte_len cut.following = ap byte_len cut.cs_are ∙ byte_len-append cut.before cut.following in
+    let second_end : p.offset + byte_len cut.following ≡ end = omega (arith, place.end_is) in
+    let all : cs ≡ place.prefix ++ ((cut.before ++ cut.following) ++ place.back) = place.cs_are ∙ ap (λ l. place.prefix ++ (l ++ place.back)) cut.cs_are in
+    let second_units : elements_of table variable false ((q ∷ qs) ∷ vs) ≡ elements table variable (points cut.following) =
+    ap (elements_of table variable false) (sym cut.following_units) ∙ elements_of-shift table variable false (byte_len cut.before) (units table (points cut.following)) in
     record {
       whole = place;
       first = record {
-        front = place.front;
+        prefix = place.prefix;
         middle = cut.before;
-        back = cut.behind ++ place.back;
-        cs_are = all ∙ ap (λ l. place.front ++ l) (append_assoc cut.before cut.behind place.back);
+        back = cut.following ++ place.back;
+        cs_are = all ∙ ap (λ l. place.prefix ++ l) (append_assoc cut.before cut.following place.back);
         start_is = place.start_is;
         end_is = first_end;
       };
       second = record {
-        front = place.front ++ cut.before;
-        middle = cut.behind;
+        prefix = place.prefix ++ cut.before;
+        middle = cut.following;
         back = place.back;
         cs_are = all ∙ simp append_assoc;
         start_is = second_start;
@@ -95,9 +95,9 @@ halves_at laws table variable cs start end us (q ∷ qs) vs p ps place e at h =
 pub halves : PointLaws → (table : TableMap) (variable : Variable) (cs : List ℕ) (start end : ℕ) (us : List (List Point)) (p : Point) (ps : List Point) (vs : List (List Point)) → Part table cs start end (us ++ (p ∷ ps) ∷ vs) → begins_cluster table (p ∷ ps) ≡ true → Halves table variable cs start p.offset end
 halves laws table variable cs start end us p ps vs part h =
     let s = map_split (map (shifted start)) (units table (points part.place.middle)) us (p ∷ ps) vs part.units_are in
-    halves_at laws table variable cs start end s.before s.at s.behind p ps part.place s.us_are s.at_is h
+    halves_at laws table variable cs start end s.before s.at s.following p ps part.place s.us_are s.at_is h
 
--- ---- clusters in a row, and others behind them
+-- ---- clusters in a row, and others after them
 
 two_parts : PointLaws → (table : TableMap) (strength : Strength) (variable : Variable) (cs : List ℕ) (earlier : List (List Point)) (flag : Bool) (v : List Point) (vs : List (List Point)) (start : ℕ) (d : Cluster) (one : List Cluster) (e : Cluster) (two after : List Cluster) → BeginLater table vs → UnitsCut table cs earlier (v ∷ vs) start → clusters_on table strength variable (after_unit table variable flag v) (record { start = start; keys = unit_keys table strength variable flag v }) vs ≡ (d ∷ one) ++ ((e ∷ two) ++ after) → Halves table variable cs d.start e.start (start_or (byte_len cs) after)
 two_parts laws table strength variable cs earlier flag v vs start d one e two [] low cut is =
@@ -199,7 +199,7 @@ start_or-rises : (end : ℕ) (before after : List Cluster) → Rise end (before 
 start_or-rises end [] after h = omega arith
 start_or-rises end (c ∷ before) after h = omega (arith, start_or-rises end before after h.1, h.0)
 
--- a place at or behind the start of some clusters is not before them
+-- a place at or after the start of some clusters is not before them
 in_rest : (end : ℕ) (before after : List Cluster) (n : ℕ) → Rise end (before ++ after) → start_or end after ≤ n → is_in (starts (before ++ after) ++ end ∷ []) n ≡ true → is_in (starts after ++ end ∷ []) n ≡ true
 in_rest end [] after n h le found = found
 in_rest end (c ∷ before) after n h le found =

@@ -99,11 +99,11 @@ part_of laws table strength variable cs earlier flag v vs start d inside (c ∷ 
 pub whole_cut : (table : TableMap) (cs : List ℕ) (us : List (List Point)) → units table (points cs) ≡ us → UnitsCut table cs [] us 0
 whole_cut table cs us e = record {
   before = [];
-  behind = cs;
+  following = cs;
   cs_are = refl;
   start_is = byte_len-nil;
   before_units = ap (units table) points-nil;
-  behind_units = ap (λ n. map (map (shifted n)) (units table (points cs))) byte_len-nil ∙ shift_none (units table (points cs)) ∙ e;
+  following_units = ap (λ n. map (map (shifted n)) (units table (points cs))) byte_len-nil ∙ shift_none (units table (points cs)) ∙ e;
 }
   where
     shift_points : (ps : List Point) → map (shifted 0) ps ≡ ps

@@ -5,15 +5,14 @@ use Rattle.std.proofs.lemmas.List.{map-append, take-map, drop-map}
 use Rattle.std.specs.List.{list_any}
 use Rattle.nfd_points.specs.declared.points.Point.{Point}
 use Rattle.nfd_points.specs.Points.{is_starter, shifted}
-use Rattle.collation_table.specs.Table.{TableMap, is_key, longest_front, row_of, implicit_pair}
-use Rattle.collation_elements.specs.Units.{codes, blocks, joins, Cut, extended, first_unit, units_within, units}
-use Rattle.collation_elements.specs.Windows.{front_length}
+use Rattle.collation_table.specs.Table.{TableMap, is_mapped, longest_prefix, row_of, implicit_pair}
+use Rattle.collation_elements.specs.Units.{code_points, blocks, joins, Cut, extended, first_unit, units_within, units, prefix_length}
 use Rattle.collation_elements.specs.Elements.{unit_row, begins_cluster, begins_primary}
 use Rattle.collation_elements.proofs.ContextUnits.{extended-stop, extended-taken, extended-left, cut_at}
 
-pub codes-shift : (by : ℕ) (ps : List Point) → codes (map (shifted by) ps) ≡ codes ps
-codes-shift by [] = refl
-codes-shift by (p ∷ ps) = ap (λ l. p.cp ∷ l) (codes-shift by ps)
+pub code_points-shift : (by : ℕ) (ps : List Point) → code_points (map (shifted by) ps) ≡ code_points ps
+code_points-shift by [] = refl
+code_points-shift by (p ∷ ps) = ap (λ l. p.cp ∷ l) (code_points-shift by ps)
 
 list_any-shift : (by : ℕ) (c : Point) (between : List Point) → list_any (blocks (shifted by c)) (map (shifted by) between) ≡ list_any (blocks c) between
 list_any-shift by c [] = refl
@@ -21,8 +20,8 @@ list_any-shift by c (b ∷ between) = ap (λ t. blocks c b || t) (list_any-shift
 
 joins-shift : (table : TableMap) (by : ℕ) (unit between : List Point) (c : Point) → joins table (map (shifted by) unit) (map (shifted by) between) (shifted by c) ≡ joins table unit between c
 joins-shift table by unit between c =
-    ap₂ (λ t key. not t && is_key table key) (list_any-shift by c between)
-    (ap codes (sym (map-append (shifted by) unit (c ∷ []))) ∙ codes-shift by (unit ++ c ∷ []))
+    ap₂ (λ t string. not t && is_mapped table string) (list_any-shift by c between)
+    (ap code_points (sym (map-append (shifted by) unit (c ∷ []))) ∙ code_points-shift by (unit ++ c ∷ []))
 
 abbrev pub shifted_cut : ℕ → Cut → Cut
 shifted_cut by cut = record { unit = map (shifted by) cut.unit; rest = map (shifted by) cut.rest }
@@ -52,13 +51,13 @@ extended-shift table by unit between (c ∷ cs) =
 
 cut_at-shift : (table : TableMap) (by n : ℕ) (ps : List Point) → cut_at table n (map (shifted by) ps) ≡ shifted_cut by (cut_at table n ps)
 cut_at-shift table by n ps =
-    ap₂ (λ front rest. extended table front [] rest) (take-map (shifted by) n ps) (drop-map (shifted by) n ps)
+    ap₂ (λ prefix rest. extended table prefix [] rest) (take-map (shifted by) n ps) (drop-map (shifted by) n ps)
     ∙ extended-shift table by (take n ps) [] (drop n ps)
 
 pub first_unit-shift : (table : TableMap) (by : ℕ) (p : Point) (ps : List Point) → first_unit table (shifted by p) (map (shifted by) ps) ≡ shifted_cut by (first_unit table p ps)
 first_unit-shift table by p ps =
-    ap (λ l. cut_at table (max 1 (longest_front table (p.cp ∷ l))) (map (shifted by) (p ∷ ps))) (codes-shift by ps)
-    ∙ cut_at-shift table by (front_length table (p ∷ ps)) (p ∷ ps)
+    ap (λ l. cut_at table (max 1 (longest_prefix table (p.cp ∷ l))) (map (shifted by) (p ∷ ps))) (code_points-shift by ps)
+    ∙ cut_at-shift table by (prefix_length table (p ∷ ps)) (p ∷ ps)
 
 units_within-shift : (fuel : List Point) (table : TableMap) (by : ℕ) (ps : List Point) → units_within (map (shifted by) fuel) table (map (shifted by) ps) ≡ map (map (shifted by)) (units_within fuel table ps)
 units_within-shift [] table by ps = refl
@@ -72,7 +71,7 @@ units-shift table by ps = units_within-shift ps table by ps
 
 pub unit_row-shift : (table : TableMap) (by : ℕ) (unit : List Point) → unit_row table (map (shifted by) unit) ≡ unit_row table unit
 unit_row-shift table by [] = refl
-unit_row-shift table by (p ∷ ps) = ap (λ l. unwrap_or (row_of table (p.cp ∷ l)) (implicit_pair table p.cp)) (codes-shift by ps)
+unit_row-shift table by (p ∷ ps) = ap (λ l. unwrap_or (row_of table (p.cp ∷ l)) (implicit_pair table p.cp)) (code_points-shift by ps)
 
 pub rows-shift : (table : TableMap) (by : ℕ) (us : List (List Point)) → map (unit_row table) (map (map (shifted by)) us) ≡ map (unit_row table) us
 rows-shift table by [] = refl

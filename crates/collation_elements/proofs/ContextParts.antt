@@ -70,8 +70,8 @@ starts_later laws table cs u us p ps vs h e =
 pub record Split (f : List Point → List Point) (us vs : List (List Point)) (w : List Point) (ws : List (List Point)) : Type 0 where
   pub before : List (List Point)
   pub at : List Point
-  pub behind : List (List Point)
-  pub us_are : us ≡ before ++ at ∷ behind
+  pub following : List (List Point)
+  pub us_are : us ≡ before ++ at ∷ following
   pub before_is : map f before ≡ vs
   pub at_is : f at ≡ w
 
@@ -80,20 +80,20 @@ map_split f [] vs w ws e =
     let counts : 0 ≡ length (vs ++ w ∷ ws) = ap length e in absurd (omega (arith, length-append vs (w ∷ ws)))
 map_split f (u ∷ us) [] w ws e =
     let first : f u ≡ w = cc in
-    record { before = []; at = u; behind = us; us_are = refl; before_is = refl; at_is = first }
+    record { before = []; at = u; following = us; us_are = refl; before_is = refl; at_is = first }
 map_split f (u ∷ us) (v ∷ vs) w ws e =
     let first : f u ≡ v = cc in
     let rest : map f us ≡ vs ++ w ∷ ws = cc in
     let more = map_split f us vs w ws rest in
-    record { before = u ∷ more.before; at = more.at; behind = more.behind; us_are = ap (λ l. u ∷ l) more.us_are; before_is = ap₂ (λ x xs. x ∷ xs) first more.before_is; at_is = more.at_is }
+    record { before = u ∷ more.before; at = more.at; following = more.following; us_are = ap (λ l. u ∷ l) more.us_are; before_is = ap₂ (λ x xs. x ∷ xs) first more.before_is; at_is = more.at_is }
 
--- A part of a text: the code points before it, in it and behind it, and where it stands in bytes.
+-- A part of a text: the code points before it, in it and after it, and where it stands in bytes.
 pub record Place (cs : List ℕ) (start end : ℕ) : Type 0 where
-  pub front : List ℕ
+  pub prefix : List ℕ
   pub middle : List ℕ
   pub back : List ℕ
-  pub cs_are : cs ≡ front ++ (middle ++ back)
-  pub start_is : byte_len front ≡ start
+  pub cs_are : cs ≡ prefix ++ (middle ++ back)
+  pub start_is : byte_len prefix ≡ start
   pub end_is : start + byte_len middle ≡ end
 
 -- A part that has the units by itself that the whole has there.
@@ -125,35 +125,35 @@ some_bytes table by cs (u ∷ us) v vs e m = units-bytes table cs u us e
 pub part_to_end : (table : TableMap) (cs : List ℕ) (us : List (List Point)) (v : List Point) (vs : List (List Point)) (start : ℕ) → UnitsCut table cs us (v ∷ vs) start → Part table cs start (byte_len cs) (v ∷ vs)
 part_to_end table cs us v vs start cut =
     let by = byte_len cut.before in
-    let all : byte_len cs ≡ by + byte_len cut.behind = ap byte_len cut.cs_are ∙ byte_len-append cut.before cut.behind in
+    let all : byte_len cs ≡ by + byte_len cut.following = ap byte_len cut.cs_are ∙ byte_len-append cut.before cut.following in
     record {
       place = record {
-        front = cut.before;
-        middle = cut.behind;
+        prefix = cut.before;
+        middle = cut.following;
         back = [];
-        cs_are = cut.cs_are ∙ ap (λ l. cut.before ++ l) (sym (append-nil cut.behind));
+        cs_are = cut.cs_are ∙ ap (λ l. cut.before ++ l) (sym (append-nil cut.following));
         start_is = cut.start_is;
-        end_is = ap (λ n. n + byte_len cut.behind) (sym cut.start_is) ∙ sym all;
+        end_is = ap (λ n. n + byte_len cut.following) (sym cut.start_is) ∙ sym all;
       };
-      units_are = ap (λ n. map (map (shifted n)) (units table (points cut.behind))) (sym cut.start_is) ∙ cut.behind_units;
-      longer = omega (arith, some_bytes table by cut.behind (units table (points cut.behind)) v vs refl cut.behind_units, all, cut.start_is);
+      units_are = ap (λ n. map (map (shifted n)) (units table (points cut.following))) (sym cut.start_is) ∙ cut.following_units;
+      longer = omega (arith, some_bytes table by cut.following (units table (points cut.following)) v vs refl cut.following_units, all, cut.start_is);
     }
 
 -- the text from one place on up to the start of a cluster
-part_between_cuts : PointLaws → (table : TableMap) (cs front behind : List ℕ) (us : List (List Point)) (at : List Point) (vs : List (List Point)) (w : List Point) (ws : List (List Point)) (q : Point) (qs : List Point) → cs ≡ front ++ behind → units table (points behind) ≡ us ++ at ∷ vs → map (map (shifted (byte_len front))) us ≡ w ∷ ws → map (shifted (byte_len front)) at ≡ q ∷ qs → begins_cluster table (q ∷ qs) ≡ true → Part table cs (byte_len front) q.offset (w ∷ ws)
-part_between_cuts laws table cs front behind us [] vs w ws q qs cs_are e before at h = absurd cc
-part_between_cuts laws table cs front behind us (p ∷ ps) vs w ws q qs cs_are e before at h =
-    let by = byte_len front in
+part_between_cuts : PointLaws → (table : TableMap) (cs prefix following : List ℕ) (us : List (List Point)) (at : List Point) (vs : List (List Point)) (w : List Point) (ws : List (List Point)) (q : Point) (qs : List Point) → cs ≡ prefix ++ following → units table (points following) ≡ us ++ at ∷ vs → map (map (shifted (byte_len prefix))) us ≡ w ∷ ws → map (shifted (byte_len prefix)) at ≡ q ∷ qs → begins_cluster table (q ∷ qs) ≡ true → Part table cs (byte_len prefix) q.offset (w ∷ ws)
+part_between_cuts laws table cs prefix following us [] vs w ws q qs cs_are e before at h = absurd cc
+part_between_cuts laws table cs prefix following us (p ∷ ps) vs w ws q qs cs_are e before at h =
+    let by = byte_len prefix in
     let begins : begins_cluster table (p ∷ ps) ≡ true = sym (begins_cluster-shift table by (p ∷ ps)) ∙ ap (begins_cluster table) at ∙ h in
-    let cut = units-split laws table behind us p ps vs begins e in
+    let cut = units-split laws table following us p ps vs begins e in
     let same : shifted by p ≡ q = cc in
     let place : by + byte_len cut.before ≡ q.offset = ap (λ n. by + n) cut.start_is ∙ ap (λ (r : Point). r.offset) same in
     record {
       place = record {
-        front = front;
+        prefix = prefix;
         middle = cut.before;
-        back = cut.behind;
-        cs_are = cs_are ∙ ap (λ l. front ++ l) cut.cs_are;
+        back = cut.following;
+        cs_are = cs_are ∙ ap (λ l. prefix ++ l) cut.cs_are;
         start_is = refl;
         end_is = place;
       };
@@ -163,9 +163,9 @@ part_between_cuts laws table cs front behind us (p ∷ ps) vs w ws q qs cs_are e
 
 pub part_to_start : PointLaws → (table : TableMap) (cs : List ℕ) (us : List (List Point)) (v : List Point) (vs : List (List Point)) (q : Point) (qs : List Point) (ws : List (List Point)) (start : ℕ) → begins_cluster table (q ∷ qs) ≡ true → UnitsCut table cs us ((v ∷ vs) ++ (q ∷ qs) ∷ ws) start → Part table cs start q.offset (v ∷ vs)
 part_to_start laws table cs us v vs q qs ws start h cut =
-    let s = map_split (map (shifted (byte_len cut.before))) (units table (points cut.behind)) (v ∷ vs) (q ∷ qs) ws cut.behind_units in
+    let s = map_split (map (shifted (byte_len cut.before))) (units table (points cut.following)) (v ∷ vs) (q ∷ qs) ws cut.following_units in
     subst (λ n. Part table cs n q.offset (v ∷ vs)) cut.start_is
-    (part_between_cuts laws table cs cut.before cut.behind s.before s.at s.behind v vs q qs cut.cs_are s.us_are s.before_is s.at_is h)
+    (part_between_cuts laws table cs cut.before cut.following s.before s.at s.following v vs q qs cut.cs_are s.us_are s.before_is s.at_is h)
 
 -- ---- what a part is as bytes
 
@@ -178,15 +178,15 @@ scalars-parts (x ∷ xs) ys h =
 
 pub place-bytes : PointLaws → (text cs : List ℕ) (start end : ℕ) → scalars cs ≡ true → encode_utf8_all cs ≡ text → (p : Place cs start end) → (part_between text start end ≡ encode_utf8_all p.middle) × (scalars p.middle ≡ true)
 place-bytes laws text cs start end h e p =
-    let ms = scalars-parts p.middle p.back (scalars-parts p.front (p.middle ++ p.back) (sym (ap scalars p.cs_are) ∙ h)).1 in
-    let front = encode_utf8_all p.front in
+    let ms = scalars-parts p.middle p.back (scalars-parts p.prefix (p.middle ++ p.back) (sym (ap scalars p.cs_are) ∙ h)).1 in
+    let prefix = encode_utf8_all p.prefix in
     let middle = encode_utf8_all p.middle in
     let back = encode_utf8_all p.back in
-    let bytes : text ≡ front ++ (middle ++ back) =
-    sym e ∙ ap encode_utf8_all p.cs_are ∙ encodes-append p.front (p.middle ++ p.back) ∙ ap (λ l. front ++ l) (encodes-append p.middle p.back) in
-    let from : length front ≡ start = sym (laws.bytes p.front) ∙ p.start_is in
+    let bytes : text ≡ prefix ++ (middle ++ back) =
+    sym e ∙ ap encode_utf8_all p.cs_are ∙ encodes-append p.prefix (p.middle ++ p.back) ∙ ap (λ l. prefix ++ l) (encodes-append p.middle p.back) in
+    let from : length prefix ≡ start = sym (laws.bytes p.prefix) ∙ p.start_is in
     let size : length middle ≡ end - start = sym (laws.bytes p.middle) ∙ (omega (arith, p.end_is)) in
-    (ap (λ l. take (end - start) (drop start l)) bytes ∙ ap (take (end - start)) (drop_at front (middle ++ back) start from) ∙ take_at middle back (end - start) size, ms.0)
+    (ap (λ l. take (end - start) (drop start l)) bytes ∙ ap (take (end - start)) (drop_at prefix (middle ++ back) start from) ∙ take_at middle back (end - start) size, ms.0)
 
 -- the characters of a part
 pub place-chars : PointLaws → (text cs : List ℕ) (start end : ℕ) → scalars cs ≡ true → encode_utf8_all cs ≡ text → (p : Place cs start end) → chars (part_between text start end) ≡ p.middle

@@ -7,7 +7,7 @@ use Rattle.collation_table.specs.Table.{TableMap}
 use Rattle.collation_elements.specs.Units.{first_unit, units}
 use Rattle.collation_elements.specs.Context.{UnitsPartWhereClustersBegin}
 use Rattle.collation_elements.specs.Elements.{unit_row, begins_primary, begins_cluster}
-use Rattle.collation_elements.proofs.ContextUnits.{CutsOff, CutsOff-from, CutsOff-suffix, CutsOff-front, first_unit-head, units-cons}
+use Rattle.collation_elements.proofs.ContextUnits.{CutsOff, CutsOff-from, CutsOff-suffix, CutsOff-prefix, first_unit-head, units-cons}
 use Rattle.collation_elements.proofs.ContextOffsets.{units-shift}
 use Rattle.collation_elements.proofs.ContextPoints.{points-split}
 use Rattle.collation_elements.proofs.PointLaws.{PointLaws}
@@ -39,9 +39,9 @@ units-split laws table cs us p ps vs h e =
     let text = points-split laws cs s.0 p f.0 b.1 b.0 s.1 in
     record {
       before = text.before;
-      behind = text.c ∷ text.behind;
+      following = text.c ∷ text.following;
       cs_are = text.cs_are;
       start_is = sym text.offset_is;
-      before_units = ap (units table) text.front_is ∙ CutsOff-front table s.0 us p f.0 b.1 (subst (λ l. CutsOff table l us (p ∷ f.0)) s.1 off);
-      behind_units = sym (units-shift table (byte_len text.before) (points (text.c ∷ text.behind))) ∙ ap (units table) (text.later_is ∙ sym f.1) ∙ cut.2;
+      before_units = ap (units table) text.prefix_is ∙ CutsOff-prefix table s.0 us p f.0 b.1 (subst (λ l. CutsOff table l us (p ∷ f.0)) s.1 off);
+      following_units = sym (units-shift table (byte_len text.before) (points (text.c ∷ text.following))) ∙ ap (units table) (text.later_is ∙ sym f.1) ∙ cut.2;
     }

@@ -1,4 +1,4 @@
--- Units do not reach across a starter at which one of them begins: the units before it are those of the front by itself,
+-- Units do not reach across a starter at which one of them begins: the units before it are those of the prefix by itself,
 -- and the units from it on are those of the rest by itself.
 use Rattle.std.proofs.Common.{◌≡◌, ℕ, zero, suc, ◌+◌, ◌-◌, ◌≤◌, max, Bool, true, false, List, [], ◌∷◌, ◌++◌, length, take, drop, refl, sym, ap, ap₂, ◌∙◌, subst, arith, inl, inr, length-append, append_assoc, append-nil, eq-or-lt_of_le, if◌then◌else◌, true≢false}
 use Rattle.std.proofs.lemmas.Bool.{cond-true, cond-false, cases_Bool, and_parts, and_from, not_from_false, not_from_true}
@@ -7,9 +7,8 @@ use Rattle.std.specs.List.{list_all}
 use Rattle.nfd_points.specs.declared.points.Point.{Point}
 use Rattle.nfd_points.specs.Points.{is_starter}
 use Rattle.nfd_points.specs.Reordering.{is_non_starter}
-use Rattle.collation_table.specs.Table.{TableMap, is_key, longest_front, longest_front_within}
-use Rattle.collation_elements.specs.Units.{codes, joins, Cut, extended, first_unit, units_within, units}
-use Rattle.collation_elements.specs.Windows.{front_length}
+use Rattle.collation_table.specs.Table.{TableMap, is_mapped, longest_prefix, longest_prefix_within}
+use Rattle.collation_elements.specs.Units.{code_points, joins, Cut, extended, first_unit, units_within, units, prefix_length}
 
 -- ---- the steps of the look at non-starters
 
@@ -22,29 +21,29 @@ extended-taken table unit between c cs h j = cond-false _ _ _ h ∙ cond-true _ 
 pub extended-left : (table : TableMap) (unit between : List Point) (c : Point) (cs : List Point) → is_starter c ≡ false → joins table unit between c ≡ false → extended table unit between (c ∷ cs) ≡ extended table unit (between ++ c ∷ []) cs
 extended-left table unit between c cs h j = cond-false _ _ _ h ∙ cond-false _ _ _ j
 
--- what follows is put behind what a cut leaves
-abbrev pub behind : List Point → Cut → Cut
-behind later cut = record { unit = cut.unit; rest = cut.rest ++ later }
+-- what follows is put after what a cut leaves
+abbrev pub following : List Point → Cut → Cut
+following later cut = record { unit = cut.unit; rest = cut.rest ++ later }
 
 -- the look stops at a starter
-pub extended-at_starter : (table : TableMap) (unit between cs : List Point) (s : Point) (later : List Point) → is_starter s ≡ true → extended table unit between (cs ++ s ∷ later) ≡ behind (s ∷ later) (extended table unit between cs)
+pub extended-at_starter : (table : TableMap) (unit between cs : List Point) (s : Point) (later : List Point) → is_starter s ≡ true → extended table unit between (cs ++ s ∷ later) ≡ following (s ∷ later) (extended table unit between cs)
 extended-at_starter table unit between [] s later h = extended-stop table unit between s later h
 extended-at_starter table unit between (c ∷ cs) s later h =
     elim (cases_Bool (is_starter c)) [
       | inl starter ↦
           extended-stop table unit between c (cs ++ s ∷ later) starter
           ∙ ap (λ l. record { unit = unit; rest = l }) (sym (append_assoc between (c ∷ cs) (s ∷ later)))
-          ∙ ap (behind (s ∷ later)) (sym (extended-stop table unit between c cs starter))
+          ∙ ap (following (s ∷ later)) (sym (extended-stop table unit between c cs starter))
       | inr mark ↦
           elim (cases_Bool (joins table unit between c)) [
             | inl joined ↦
                 extended-taken table unit between c (cs ++ s ∷ later) mark joined
                 ∙ extended-at_starter table (unit ++ c ∷ []) between cs s later h
-                ∙ ap (behind (s ∷ later)) (sym (extended-taken table unit between c cs mark joined))
+                ∙ ap (following (s ∷ later)) (sym (extended-taken table unit between c cs mark joined))
             | inr stays ↦
                 extended-left table unit between c (cs ++ s ∷ later) mark stays
                 ∙ extended-at_starter table unit (between ++ c ∷ []) cs s later h
-                ∙ ap (behind (s ∷ later)) (sym (extended-left table unit between c cs mark stays))
+                ∙ ap (following (s ∷ later)) (sym (extended-left table unit between c cs mark stays))
           ]
     ]
 
@@ -88,55 +87,55 @@ extended-leaves table unit between (c ∷ cs) h =
           ]
     ]
 
--- ---- the longest front
+-- ---- the longest prefix
 
-within-le : (table : TableMap) (points : List ℕ) (n : ℕ) → longest_front_within table points n ≤ n
+within-le : (table : TableMap) (points : List ℕ) (n : ℕ) → longest_prefix_within table points n ≤ n
 within-le table points zero = omega arith
 within-le table points (suc n) =
-    elim (cases_Bool (is_key table (take (suc n) points))) [
-      | inl found ↦ let e : longest_front_within table points (suc n) ≡ suc n = cond-true _ _ _ found in omega arith
+    elim (cases_Bool (is_mapped table (take (suc n) points))) [
+      | inl found ↦ let e : longest_prefix_within table points (suc n) ≡ suc n = cond-true _ _ _ found in omega arith
       | inr none ↦
-          let e : longest_front_within table points (suc n) ≡ longest_front_within table points n = cond-false _ _ _ none in
+          let e : longest_prefix_within table points (suc n) ≡ longest_prefix_within table points n = cond-false _ _ _ none in
           omega (arith, within-le table points n)
     ]
 
 -- the search up to n looks at no more than n points
-within-front : (table : TableMap) (xs ys : List ℕ) (n : ℕ) → n ≤ length xs → longest_front_within table (xs ++ ys) n ≡ longest_front_within table xs n
-within-front table xs ys zero h = refl
-within-front table xs ys (suc n) h =
+within-prefix : (table : TableMap) (xs ys : List ℕ) (n : ℕ) → n ≤ length xs → longest_prefix_within table (xs ++ ys) n ≡ longest_prefix_within table xs n
+within-prefix table xs ys zero h = refl
+within-prefix table xs ys (suc n) h =
     let same : take (suc n) (xs ++ ys) ≡ take (suc n) xs = take-append-le (suc n) xs ys h in
-    ap₂ (λ front shorter. if is_key table front then suc n else shorter) same (within-front table xs ys n (omega arith))
+    ap₂ (λ prefix shorter. if is_mapped table prefix then suc n else shorter) same (within-prefix table xs ys n (omega arith))
 
 -- a search that starts higher and finds nothing there
-within-higher : (table : TableMap) (points : List ℕ) (low n : ℕ) → low ≤ n → longest_front_within table points n ≤ low → longest_front_within table points n ≡ longest_front_within table points low
-within-higher table points low zero le h = let e : 0 ≡ low = omega arith in ap (longest_front_within table points) e
+within-higher : (table : TableMap) (points : List ℕ) (low n : ℕ) → low ≤ n → longest_prefix_within table points n ≤ low → longest_prefix_within table points n ≡ longest_prefix_within table points low
+within-higher table points low zero le h = let e : 0 ≡ low = omega arith in ap (longest_prefix_within table points) e
 within-higher table points low (suc n) le h =
     elim (eq-or-lt_of_le le) [
-      | inl here ↦ ap (longest_front_within table points) (sym here)
+      | inl here ↦ ap (longest_prefix_within table points) (sym here)
       | inr above ↦
-          elim (cases_Bool (is_key table (take (suc n) points))) [
-            | inl found ↦ let e : longest_front_within table points (suc n) ≡ suc n = cond-true _ _ _ found in absurd (omega arith)
+          elim (cases_Bool (is_mapped table (take (suc n) points))) [
+            | inl found ↦ let e : longest_prefix_within table points (suc n) ≡ suc n = cond-true _ _ _ found in absurd (omega arith)
             | inr none ↦
-                let e : longest_front_within table points (suc n) ≡ longest_front_within table points n = cond-false _ _ _ none in
+                let e : longest_prefix_within table points (suc n) ≡ longest_prefix_within table points n = cond-false _ _ _ none in
                 e ∙ within-higher table points low n (omega arith) (subst (λ m. m ≤ low) e h)
           ]
     ]
 
-pub longest_front-front : (table : TableMap) (xs ys : List ℕ) → longest_front table (xs ++ ys) ≤ length xs → longest_front table (xs ++ ys) ≡ longest_front table xs
-longest_front-front table xs ys h =
+pub longest_prefix-prefix : (table : TableMap) (xs ys : List ℕ) → longest_prefix table (xs ++ ys) ≤ length xs → longest_prefix table (xs ++ ys) ≡ longest_prefix table xs
+longest_prefix-prefix table xs ys h =
     within-higher table (xs ++ ys) (length xs) (length (xs ++ ys)) (omega (arith, length-append xs ys)) h
-    ∙ within-front table xs ys (length xs) (omega arith)
+    ∙ within-prefix table xs ys (length xs) (omega arith)
 
-pub longest_front-le : (table : TableMap) (points : List ℕ) → longest_front table points ≤ length points
-longest_front-le table points = within-le table points (length points)
+pub longest_prefix-le : (table : TableMap) (points : List ℕ) → longest_prefix table points ≤ length points
+longest_prefix-le table points = within-le table points (length points)
 
 -- ---- one unit
 
-length-codes : (ps : List Point) → length (codes ps) ≡ length ps
-length-codes ps = length-map ps (λ (p : Point). p.cp)
+length-code_points : (ps : List Point) → length (code_points ps) ≡ length ps
+length-code_points ps = length-map ps (λ (p : Point). p.cp)
 
-front_length-le : (table : TableMap) (p : Point) (ps : List Point) → front_length table (p ∷ ps) ≤ length (p ∷ ps)
-front_length-le table p ps = omega (arith, longest_front-le table (codes (p ∷ ps)), length-codes (p ∷ ps))
+prefix_length-le : (table : TableMap) (p : Point) (ps : List Point) → prefix_length table (p ∷ ps) ≤ length (p ∷ ps)
+prefix_length-le table p ps = omega (arith, longest_prefix-le table (code_points (p ∷ ps)), length-code_points (p ∷ ps))
 
 -- a unit whose first n points are cut off together
 abbrev pub cut_at : TableMap → ℕ → List Point → Cut
@@ -156,38 +155,38 @@ cut_at-head table zero p ps h = absurd (omega arith)
 cut_at-head table (suc n) p ps h =
     let l = extended-leaves table (take (suc n) (p ∷ ps)) [] (drop (suc n) (p ∷ ps)) refl in (take n ps ++ l.taken, l.unit_is)
 
-cut_at-front : (table : TableMap) (n : ℕ) (ps : List Point) (s : Point) (later : List Point) → is_starter s ≡ true → n ≤ length ps → cut_at table n (ps ++ s ∷ later) ≡ behind (s ∷ later) (cut_at table n ps)
-cut_at-front table n ps s later h le =
-    ap₂ (λ front rest. extended table front [] rest) (take-append-le n ps (s ∷ later) le) (drop-append-le n ps (s ∷ later) le)
+cut_at-prefix : (table : TableMap) (n : ℕ) (ps : List Point) (s : Point) (later : List Point) → is_starter s ≡ true → n ≤ length ps → cut_at table n (ps ++ s ∷ later) ≡ following (s ∷ later) (cut_at table n ps)
+cut_at-prefix table n ps s later h le =
+    ap₂ (λ prefix rest. extended table prefix [] rest) (take-append-le n ps (s ∷ later) le) (drop-append-le n ps (s ∷ later) le)
     ∙ extended-at_starter table (take n ps) [] (drop n ps) s later h
 
-pub first_unit-leaves : (table : TableMap) (p : Point) (ps : List Point) → Leaves (take (front_length table (p ∷ ps)) (p ∷ ps)) [] (drop (front_length table (p ∷ ps)) (p ∷ ps)) (first_unit table p ps)
-first_unit-leaves table p ps = extended-leaves table (take (front_length table (p ∷ ps)) (p ∷ ps)) [] (drop (front_length table (p ∷ ps)) (p ∷ ps)) refl
+pub first_unit-leaves : (table : TableMap) (p : Point) (ps : List Point) → Leaves (take (prefix_length table (p ∷ ps)) (p ∷ ps)) [] (drop (prefix_length table (p ∷ ps)) (p ∷ ps)) (first_unit table p ps)
+first_unit-leaves table p ps = extended-leaves table (take (prefix_length table (p ∷ ps)) (p ∷ ps)) [] (drop (prefix_length table (p ∷ ps)) (p ∷ ps)) refl
 
 -- no point is lost
-pub first_unit-length : (table : TableMap) (p : Point) (ps : List Point) → (length (first_unit table p ps).unit + length (first_unit table p ps).rest ≡ length (p ∷ ps)) × (front_length table (p ∷ ps) ≤ length (first_unit table p ps).unit)
-first_unit-length table p ps = cut_at-length table (front_length table (p ∷ ps)) (p ∷ ps) (front_length-le table p ps)
+pub first_unit-length : (table : TableMap) (p : Point) (ps : List Point) → (length (first_unit table p ps).unit + length (first_unit table p ps).rest ≡ length (p ∷ ps)) × (prefix_length table (p ∷ ps) ≤ length (first_unit table p ps).unit)
+first_unit-length table p ps = cut_at-length table (prefix_length table (p ∷ ps)) (p ∷ ps) (prefix_length-le table p ps)
 
 one_at_least : (n : ℕ) → 1 ≤ max 1 n
 one_at_least n = omega arith
 
 pub first_unit-shorter : (table : TableMap) (p : Point) (ps : List Point) → length (first_unit table p ps).rest ≤ length ps
-first_unit-shorter table p ps = let l = first_unit-length table p ps in let one = one_at_least (longest_front table (codes (p ∷ ps))) in omega arith
+first_unit-shorter table p ps = let l = first_unit-length table p ps in let one = one_at_least (longest_prefix table (code_points (p ∷ ps))) in omega arith
 
 -- a unit begins with the first point
 pub first_unit-head : (table : TableMap) (p : Point) (ps : List Point) → (taken : List Point) × ((first_unit table p ps).unit ≡ p ∷ taken)
-first_unit-head table p ps = cut_at-head table (front_length table (p ∷ ps)) p ps (one_at_least (longest_front table (codes (p ∷ ps))))
+first_unit-head table p ps = cut_at-head table (prefix_length table (p ∷ ps)) p ps (one_at_least (longest_prefix table (code_points (p ∷ ps))))
 
--- Where the first cut stays within a front, what follows it from a starter on is left behind.
-pub first_unit-front : (table : TableMap) (p : Point) (ps : List Point) (s : Point) (later : List Point) → is_starter s ≡ true → front_length table (p ∷ (ps ++ s ∷ later)) ≤ length (p ∷ ps) → first_unit table p (ps ++ s ∷ later) ≡ behind (s ∷ later) (first_unit table p ps)
-first_unit-front table p ps s later h le =
-    let parts : codes (p ∷ (ps ++ s ∷ later)) ≡ codes (p ∷ ps) ++ codes (s ∷ later) = map-append (λ (q : Point). q.cp) (p ∷ ps) (s ∷ later) in
-    let low : longest_front table (codes (p ∷ ps) ++ codes (s ∷ later)) ≤ length (codes (p ∷ ps)) =
-    subst (λ l. longest_front table l ≤ length (codes (p ∷ ps))) parts (omega (arith, length-codes (p ∷ ps))) in
-    let same : front_length table (p ∷ (ps ++ s ∷ later)) ≡ front_length table (p ∷ ps) =
-    ap (λ l. max 1 (longest_front table l)) parts ∙ ap (max 1) (longest_front-front table (codes (p ∷ ps)) (codes (s ∷ later)) low) in
+-- Where the first cut stays within a prefix, what follows it from a starter on is left over.
+pub first_unit-prefix : (table : TableMap) (p : Point) (ps : List Point) (s : Point) (later : List Point) → is_starter s ≡ true → prefix_length table (p ∷ (ps ++ s ∷ later)) ≤ length (p ∷ ps) → first_unit table p (ps ++ s ∷ later) ≡ following (s ∷ later) (first_unit table p ps)
+first_unit-prefix table p ps s later h le =
+    let parts : code_points (p ∷ (ps ++ s ∷ later)) ≡ code_points (p ∷ ps) ++ code_points (s ∷ later) = map-append (λ (q : Point). q.cp) (p ∷ ps) (s ∷ later) in
+    let low : longest_prefix table (code_points (p ∷ ps) ++ code_points (s ∷ later)) ≤ length (code_points (p ∷ ps)) =
+    subst (λ l. longest_prefix table l ≤ length (code_points (p ∷ ps))) parts (omega (arith, length-code_points (p ∷ ps))) in
+    let same : prefix_length table (p ∷ (ps ++ s ∷ later)) ≡ prefix_length table (p ∷ ps) =
+    ap (λ l. max 1 (longest_prefix table l)) parts ∙ ap (max 1) (longest_prefix-prefix table (code_points (p ∷ ps)) (code_points (s ∷ later)) low) in
     ap (λ n. cut_at table n ((p ∷ ps) ++ s ∷ later)) same
-    ∙ cut_at-front table (front_length table (p ∷ ps)) (p ∷ ps) s later h (front_length-le table p ps)
+    ∙ cut_at-prefix table (prefix_length table (p ∷ ps)) (p ∷ ps) s later h (prefix_length-le table p ps)
 
 -- ---- all units
 
@@ -233,58 +232,58 @@ CutsOff-units table (p ∷ ps) (u ∷ us) rest h =
 
 -- ---- a point that fails a test is not in a list that passes it
 
-pub record Behind (front left later : List Point) (s : Point) (rest : List Point) : Type 0 where
+pub record After (prefix left later : List Point) (s : Point) (rest : List Point) : Type 0 where
   pub gap : List Point
-  pub front_is : front ≡ left ++ gap
+  pub prefix_is : prefix ≡ left ++ gap
   pub later_is : later ≡ gap ++ s ∷ rest
 
-pub behind_passed : (test : Point → Bool) (front left later : List Point) (s : Point) (rest : List Point) → list_all test left ≡ true → test s ≡ false → front ++ s ∷ rest ≡ left ++ later → Behind front left later s rest
-behind_passed test front [] later s rest h fails e = record { gap = front; front_is = refl; later_is = sym e }
-behind_passed test [] (l ∷ left) later s rest h fails e =
+pub after_passed : (test : Point → Bool) (prefix left later : List Point) (s : Point) (rest : List Point) → list_all test left ≡ true → test s ≡ false → prefix ++ s ∷ rest ≡ left ++ later → After prefix left later s rest
+after_passed test prefix [] later s rest h fails e = record { gap = prefix; prefix_is = refl; later_is = sym e }
+after_passed test [] (l ∷ left) later s rest h fails e =
     let parts = and_parts (test l) (list_all test left) h in
     let same : s ≡ l = cc in
     let clash : true ≡ false = sym parts.0 ∙ ap test (sym same) ∙ fails in
     absurd (true≢false clash)
-behind_passed test (f ∷ front) (l ∷ left) later s rest h fails e =
+after_passed test (f ∷ prefix) (l ∷ left) later s rest h fails e =
     let parts = and_parts (test l) (list_all test left) h in
     let same : f ≡ l = cc in
-    let tail : front ++ s ∷ rest ≡ left ++ later = cc in
-    let more = behind_passed test front left later s rest parts.1 fails tail in
-    record { gap = more.gap; front_is = ap₂ (λ x xs. x ∷ xs) same more.front_is; later_is = more.later_is }
+    let tail : prefix ++ s ∷ rest ≡ left ++ later = cc in
+    let more = after_passed test prefix left later s rest parts.1 fails tail in
+    record { gap = more.gap; prefix_is = ap₂ (λ x xs. x ∷ xs) same more.prefix_is; later_is = more.later_is }
 
 -- ---- a starter that is left ends the points as it began
 
-pub CutsOff-suffix : (table : TableMap) (ps : List Point) (us : List (List Point)) (s : Point) (later : List Point) → is_starter s ≡ true → CutsOff table ps us (s ∷ later) → (front : List Point) × (ps ≡ front ++ s ∷ later)
+pub CutsOff-suffix : (table : TableMap) (ps : List Point) (us : List (List Point)) (s : Point) (later : List Point) → is_starter s ≡ true → CutsOff table ps us (s ∷ later) → (prefix : List Point) × (ps ≡ prefix ++ s ∷ later)
 CutsOff-suffix table ps [] s later h e = ([], e)
 CutsOff-suffix table [] (u ∷ us) s later h e = absurd e
 CutsOff-suffix table (p ∷ ps) (u ∷ us) s later h e =
     let more = CutsOff-suffix table (first_unit table p ps).rest us s later h e.1 in
-    let n = front_length table (p ∷ ps) in
+    let n = prefix_length table (p ∷ ps) in
     let l = first_unit-leaves table p ps in
-    let b = behind_passed is_non_starter more.0 l.left l.later s later l.marks (not_from_true _ h) (sym more.1 ∙ l.rest_is) in
+    let b = after_passed is_non_starter more.0 l.left l.later s later l.marks (not_from_true _ h) (sym more.1 ∙ l.rest_is) in
     let dropped : drop n (p ∷ ps) ≡ l.passed ++ (b.gap ++ s ∷ later) = l.was ∙ ap (λ x. l.passed ++ x) b.later_is in
     let all : p ∷ ps ≡ take n (p ∷ ps) ++ (l.passed ++ (b.gap ++ s ∷ later)) = sym (take-append-drop n (p ∷ ps)) ∙ ap (λ x. take n (p ∷ ps) ++ x) dropped in
     let grouped : take n (p ∷ ps) ++ (l.passed ++ (b.gap ++ s ∷ later)) ≡ (take n (p ∷ ps) ++ (l.passed ++ b.gap)) ++ s ∷ later = simp append_assoc in
     (take n (p ∷ ps) ++ (l.passed ++ b.gap), all ∙ grouped)
 
--- The units before a starter at which one begins are those of the front by itself.
-pub CutsOff-front : (table : TableMap) (front : List Point) (us : List (List Point)) (s : Point) (later : List Point) → is_starter s ≡ true → CutsOff table (front ++ s ∷ later) us (s ∷ later) → units table front ≡ us
-CutsOff-front table [] [] s later h e = refl
-CutsOff-front table (p ∷ ps) [] s later h e =
+-- The units before a starter at which one begins are those of the prefix by itself.
+pub CutsOff-prefix : (table : TableMap) (prefix : List Point) (us : List (List Point)) (s : Point) (later : List Point) → is_starter s ≡ true → CutsOff table (prefix ++ s ∷ later) us (s ∷ later) → units table prefix ≡ us
+CutsOff-prefix table [] [] s later h e = refl
+CutsOff-prefix table (p ∷ ps) [] s later h e =
     let counts : length (p ∷ (ps ++ s ∷ later)) ≡ length (s ∷ later) = ap length e in absurd (omega (arith, length-append ps (s ∷ later)))
-CutsOff-front table [] (u ∷ us) s later h e =
+CutsOff-prefix table [] (u ∷ us) s later h e =
     let more = CutsOff-suffix table (first_unit table s later).rest us s later h e.1 in
     let long : length (first_unit table s later).rest ≡ length more.0 + length (s ∷ later) = ap length more.1 ∙ length-append more.0 (s ∷ later) in
     absurd (omega (arith, first_unit-shorter table s later))
-CutsOff-front table (p ∷ ps) (u ∷ us) s later h e =
+CutsOff-prefix table (p ∷ ps) (u ∷ us) s later h e =
     let whole : Cut = first_unit table p (ps ++ s ∷ later) in
-    let front : Cut = first_unit table p ps in
+    let prefix : Cut = first_unit table p ps in
     let more = CutsOff-suffix table whole.rest us s later h e.1 in
     let long : length whole.rest ≡ length more.0 + length (s ∷ later) = ap length more.1 ∙ length-append more.0 (s ∷ later) in
     let counts = first_unit-length table p (ps ++ s ∷ later) in
-    let fits : front_length table (p ∷ (ps ++ s ∷ later)) ≤ length (p ∷ ps) = omega (arith, length-append ps (s ∷ later)) in
-    let same : whole ≡ behind (s ∷ later) front = first_unit-front table p ps s later h fits in
-    let rest : whole.rest ≡ front.rest ++ s ∷ later = ap (λ (c : Cut). c.rest) same in
-    let unit : front.unit ≡ u = sym (ap (λ (c : Cut). c.unit) same) ∙ e.0 in
-    let others : units table front.rest ≡ us = CutsOff-front table front.rest us s later h (subst (λ l. CutsOff table l us (s ∷ later)) rest e.1) in
+    let fits : prefix_length table (p ∷ (ps ++ s ∷ later)) ≤ length (p ∷ ps) = omega (arith, length-append ps (s ∷ later)) in
+    let same : whole ≡ following (s ∷ later) prefix = first_unit-prefix table p ps s later h fits in
+    let rest : whole.rest ≡ prefix.rest ++ s ∷ later = ap (λ (c : Cut). c.rest) same in
+    let unit : prefix.unit ≡ u = sym (ap (λ (c : Cut). c.unit) same) ∙ e.0 in
+    let others : units table prefix.rest ≡ us = CutsOff-prefix table prefix.rest us s later h (subst (λ l. CutsOff table l us (s ∷ later)) rest e.1) in
     units-cons table p ps ∙ ap₂ (λ x xs. x ∷ xs) unit others

@@ -1,4 +1,4 @@
--- The first unit of a list of points: what follows a starter behind it changes nothing, and the other units are those of the
+-- The first unit of a list of points: what follows a starter after it changes nothing, and the other units are those of the
 -- points that it leaves.
 use Rattle.std.proofs.Common.{◌≡◌, ℕ, zero, suc, ◌+◌, ◌<◌, ◌≤◌, max, nat_lt, nat_le, Bool, true, false, cond, ◌||◌, ◌&&◌, List, [], ◌∷◌, ◌++◌, length, take, drop, refl, sym, ◌∙◌, ap, ⊎_elim, arith, append_assoc, length-append, length-drop}
 use Rattle.std.specs.List.{list_any}
@@ -7,10 +7,10 @@ use Rattle.std.proofs.lemmas.Bool.{false≢true, cases_lt, or_cases, or_parts, a
 use Rattle.nfd_points.specs.declared.points.Point.{Point}
 use Rattle.nfd_points.specs.Points.{is_starter}
 use Rattle.nfd_points.specs.Reordering.{is_closed}
-use Rattle.collation_table.specs.Table.{TableMap, longest_front, longest_key}
-use Rattle.collation_elements.specs.Units.{codes, Cut, joins, extended, first_unit, units_within, units}
-use Rattle.collation_elements.specs.Windows.{Held, front_length, is_decided, next_cut}
-use Rattle.collation_elements.proofs.Longest.{longest_front-append, longest_front-le_length, longest_front-le_longest}
+use Rattle.collation_table.specs.Table.{TableMap, longest_prefix, longest_mapped}
+use Rattle.collation_elements.specs.Units.{code_points, Cut, joins, extended, first_unit, units_within, units, prefix_length}
+use Rattle.collation_elements.specs.Windows.{Held, is_decided, next_cut}
+use Rattle.collation_elements.proofs.Longest.{longest_prefix-append, longest_prefix-le_length, longest_prefix-le_longest}
 
 -- ---- a unit with what joins it
 
@@ -106,16 +106,16 @@ is_closed-extended T unit between (c ∷ following) h =
 
 -- ---- the first unit, and the others
 
-pub next_cut-of : (T : TableMap) (ps : List Point) → 0 < length ps → next_cut T ps ≡ extended T (take (front_length T ps) ps) [] (drop (front_length T ps) ps)
+pub next_cut-of : (T : TableMap) (ps : List Point) → 0 < length ps → next_cut T ps ≡ extended T (take (prefix_length T ps) ps) [] (drop (prefix_length T ps) ps)
 next_cut-of T [] h = absurd (omega arith)
 next_cut-of T (p ∷ ps) h = refl
 
-pub front_length-le : (T : TableMap) (ps : List Point) → 0 < length ps → front_length T ps ≤ length ps
-front_length-le T ps h = omega (arith, longest_front-le_length T (codes ps), length-map ps (λ p. p.cp))
+pub prefix_length-le : (T : TableMap) (ps : List Point) → 0 < length ps → prefix_length T ps ≤ length ps
+prefix_length-le T ps h = omega (arith, longest_prefix-le_length T (code_points ps), length-map ps (λ p. p.cp))
 
 pub length-next_cut : (T : TableMap) (ps : List Point) → 0 < length ps → length (next_cut T ps).rest < length ps
 length-next_cut T ps h =
-    let n : ℕ = front_length T ps in
+    let n : ℕ = prefix_length T ps in
     let few : length (extended T (take n ps) [] (drop n ps)).rest ≤ 0 + length (drop n ps) = length-extended T (take n ps) [] (drop n ps) in
     let same : length (next_cut T ps).rest ≡ length (extended T (take n ps) [] (drop n ps)).rest = ap (λ (cut : Cut). length cut.rest) (next_cut-of T ps h) in
     omega (arith, length-drop n ps)
@@ -141,18 +141,18 @@ units-next_cut T (p ∷ ps) h =
 
 -- ---- what follows changes nothing
 
-pub next_cut-append : (T : TableMap) (ps more : List Point) → longest_key T ≤ length ps → list_any is_starter (drop (front_length T ps) ps) ≡ true → next_cut T (ps ++ more) ≡ record { unit = (next_cut T ps).unit; rest = (next_cut T ps).rest ++ more }
+pub next_cut-append : (T : TableMap) (ps more : List Point) → longest_mapped T ≤ length ps → list_any is_starter (drop (prefix_length T ps) ps) ≡ true → next_cut T (ps ++ more) ≡ record { unit = (next_cut T ps).unit; rest = (next_cut T ps).rest ++ more }
 next_cut-append T ps more long starter =
-    let n : ℕ = front_length T ps in
-    let behind : 0 < length (drop n ps) = some_there (drop n ps) starter in
+    let n : ℕ = prefix_length T ps in
+    let further : 0 < length (drop n ps) = some_there (drop n ps) starter in
     let some : 0 < length ps = omega (arith, length-drop n ps) in
-    let inside : n ≤ length ps = front_length-le T ps some in
-    let long_codes : longest_key T ≤ length (codes ps) = omega (arith, length-map ps (λ p. p.cp)) in
-    let same_front : longest_front T (codes (ps ++ more)) ≡ longest_front T (codes ps) = ap (longest_front T) (map-append (λ p. p.cp) ps more) ∙ longest_front-append T (codes ps) (codes more) long_codes in
-    let same : front_length T (ps ++ more) ≡ n = ap (max 1) same_front in
+    let inside : n ≤ length ps = prefix_length-le T ps some in
+    let long_codes : longest_mapped T ≤ length (code_points ps) = omega (arith, length-map ps (λ p. p.cp)) in
+    let same_prefix : longest_prefix T (code_points (ps ++ more)) ≡ longest_prefix T (code_points ps) = ap (longest_prefix T) (map-append (λ p. p.cp) ps more) ∙ longest_prefix-append T (code_points ps) (code_points more) long_codes in
+    let same : prefix_length T (ps ++ more) ≡ n = ap (max 1) same_prefix in
     next_cut-of T (ps ++ more) (omega (arith, length-append ps more))
     ∙ ap (λ k. extended T (take k (ps ++ more)) [] (drop k (ps ++ more))) same
-    ∙ ap (λ front. extended T front [] (drop n (ps ++ more))) (take-append-le n ps more inside)
+    ∙ ap (λ prefix. extended T prefix [] (drop n (ps ++ more))) (take-append-le n ps more inside)
     ∙ ap (extended T (take n ps) []) (drop-append-le n ps more inside)
     ∙ extended-append T (take n ps) [] (drop n ps) more starter
     ∙ ap (with_more more) (sym (next_cut-of T ps some))
@@ -171,44 +171,44 @@ units-decided T held more decided last = ⊎_elim
     ∙ units-next_cut T held.points some
     ∙ ap (λ rest. (next_cut T held.points).unit ∷ units T rest) (sym (append-nil (next_cut T held.points).rest))
     ∙ ap (λ rest. (next_cut T held.points).unit ∷ units T ((next_cut T held.points).rest ++ rest)) (sym none))
-    (λ (settled : (nat_le (longest_key T) (length held.points) && list_any is_starter (drop (front_length T held.points) held.points)) ≡ true).
-    let parts : (nat_le (longest_key T) (length held.points) ≡ true) × (list_any is_starter (drop (front_length T held.points) held.points) ≡ true) = and_parts (nat_le (longest_key T) (length held.points)) (list_any is_starter (drop (front_length T held.points) held.points)) settled in
-    let behind : 0 < length (drop (front_length T held.points) held.points) = some_there (drop (front_length T held.points) held.points) parts.1 in
-    let some : 0 < length held.points = omega (arith, length-drop (front_length T held.points) held.points) in
-    let cut : next_cut T (held.points ++ more) ≡ record { unit = (next_cut T held.points).unit; rest = (next_cut T held.points).rest ++ more } = next_cut-append T held.points more (leb-true (longest_key T) (length held.points) parts.0) parts.1 in
+    (λ (settled : (nat_le (longest_mapped T) (length held.points) && list_any is_starter (drop (prefix_length T held.points) held.points)) ≡ true).
+    let parts : (nat_le (longest_mapped T) (length held.points) ≡ true) × (list_any is_starter (drop (prefix_length T held.points) held.points) ≡ true) = and_parts (nat_le (longest_mapped T) (length held.points)) (list_any is_starter (drop (prefix_length T held.points) held.points)) settled in
+    let further : 0 < length (drop (prefix_length T held.points) held.points) = some_there (drop (prefix_length T held.points) held.points) parts.1 in
+    let some : 0 < length held.points = omega (arith, length-drop (prefix_length T held.points) held.points) in
+    let cut : next_cut T (held.points ++ more) ≡ record { unit = (next_cut T held.points).unit; rest = (next_cut T held.points).rest ++ more } = next_cut-append T held.points more (leb-true (longest_mapped T) (length held.points) parts.0) parts.1 in
     units-next_cut T (held.points ++ more) (omega (arith, length-append held.points more))
     ∙ ap (λ (c : Cut). c.unit ∷ units T c.rest) cut)
-    (or_cases (held.has_ended && nat_lt 0 (length held.points)) (nat_le (longest_key T) (length held.points) && list_any is_starter (drop (front_length T held.points) held.points)) decided)
+    (or_cases (held.has_ended && nat_lt 0 (length held.points)) (nat_le (longest_mapped T) (length held.points) && list_any is_starter (drop (prefix_length T held.points) held.points)) decided)
 
 pub decided-some : (T : TableMap) (held : Held) → is_decided T held ≡ true → 0 < length held.points
 decided-some T held decided = ⊎_elim
     (λ (ended : (held.has_ended && nat_lt 0 (length held.points)) ≡ true). ltb-true 0 (length held.points) (and_parts held.has_ended (nat_lt 0 (length held.points)) ended).1)
-    (λ (settled : (nat_le (longest_key T) (length held.points) && list_any is_starter (drop (front_length T held.points) held.points)) ≡ true).
-    let behind : 0 < length (drop (front_length T held.points) held.points) = some_there (drop (front_length T held.points) held.points) (and_parts (nat_le (longest_key T) (length held.points)) (list_any is_starter (drop (front_length T held.points) held.points)) settled).1 in
-    omega (arith, length-drop (front_length T held.points) held.points))
-    (or_cases (held.has_ended && nat_lt 0 (length held.points)) (nat_le (longest_key T) (length held.points) && list_any is_starter (drop (front_length T held.points) held.points)) decided)
+    (λ (settled : (nat_le (longest_mapped T) (length held.points) && list_any is_starter (drop (prefix_length T held.points) held.points)) ≡ true).
+    let further : 0 < length (drop (prefix_length T held.points) held.points) = some_there (drop (prefix_length T held.points) held.points) (and_parts (nat_le (longest_mapped T) (length held.points)) (list_any is_starter (drop (prefix_length T held.points) held.points)) settled).1 in
+    omega (arith, length-drop (prefix_length T held.points) held.points))
+    (or_cases (held.has_ended && nat_lt 0 (length held.points)) (nat_le (longest_mapped T) (length held.points) && list_any is_starter (drop (prefix_length T held.points) held.points)) decided)
 
 -- ---- how many points stay
 
-pub length-undecided : (T : TableMap) (held : Held) → 1 ≤ longest_key T → is_decided T held ≡ false → is_closed held.points ≡ true → length held.points ≤ longest_key T
-length-undecided T held some_key undecided ends = ⊎_elim
-    (λ (many : longest_key T < length held.points).
-    let n : ℕ = front_length T held.points in
-    let short : n ≤ longest_key T = omega (arith, longest_front-le_longest T (codes held.points)) in
+pub length-undecided : (T : TableMap) (held : Held) → 1 ≤ longest_mapped T → is_decided T held ≡ false → is_closed held.points ≡ true → length held.points ≤ longest_mapped T
+length-undecided T held some_mapped undecided ends = ⊎_elim
+    (λ (many : longest_mapped T < length held.points).
+    let n : ℕ = prefix_length T held.points in
+    let short : n ≤ longest_mapped T = omega (arith, longest_prefix-le_longest T (code_points held.points)) in
     let starter : list_any is_starter (drop n held.points) ≡ true = starter_there (drop n held.points) (omega (arith, length-drop n held.points)) (is_closed-drop n held.points ends) in
-    let there : (nat_le (longest_key T) (length held.points) && list_any is_starter (drop n held.points)) ≡ true = and_from (nat_le (longest_key T) (length held.points)) (list_any is_starter (drop n held.points)) (le-leb (longest_key T) (length held.points) (omega arith)) starter in
-    let no : (nat_le (longest_key T) (length held.points) && list_any is_starter (drop n held.points)) ≡ false = (or_parts (held.has_ended && nat_lt 0 (length held.points)) (nat_le (longest_key T) (length held.points) && list_any is_starter (drop n held.points)) undecided).1 in
+    let there : (nat_le (longest_mapped T) (length held.points) && list_any is_starter (drop n held.points)) ≡ true = and_from (nat_le (longest_mapped T) (length held.points)) (list_any is_starter (drop n held.points)) (le-leb (longest_mapped T) (length held.points) (omega arith)) starter in
+    let no : (nat_le (longest_mapped T) (length held.points) && list_any is_starter (drop n held.points)) ≡ false = (or_parts (held.has_ended && nat_lt 0 (length held.points)) (nat_le (longest_mapped T) (length held.points) && list_any is_starter (drop n held.points)) undecided).1 in
     absurd (false≢true (sym no ∙ there)))
-    (λ (few : length held.points ≤ longest_key T). few)
-    (cases_lt (longest_key T) (length held.points))
+    (λ (few : length held.points ≤ longest_mapped T). few)
+    (cases_lt (longest_mapped T) (length held.points))
 
 pub is_closed-decided : (T : TableMap) (held : Held) → is_decided T held ≡ true → held.has_ended ≡ false → is_closed held.points ≡ true → is_closed (next_cut T held.points).rest ≡ true
 is_closed-decided T held decided unended ends = ⊎_elim
     (λ (ended : (held.has_ended && nat_lt 0 (length held.points)) ≡ true). absurd (false≢true (sym unended ∙ (and_parts held.has_ended (nat_lt 0 (length held.points)) ended).0)))
-    (λ (settled : (nat_le (longest_key T) (length held.points) && list_any is_starter (drop (front_length T held.points) held.points)) ≡ true).
-    let n : ℕ = front_length T held.points in
-    let starter : list_any is_starter (drop n held.points) ≡ true = (and_parts (nat_le (longest_key T) (length held.points)) (list_any is_starter (drop n held.points)) settled).1 in
+    (λ (settled : (nat_le (longest_mapped T) (length held.points) && list_any is_starter (drop (prefix_length T held.points) held.points)) ≡ true).
+    let n : ℕ = prefix_length T held.points in
+    let starter : list_any is_starter (drop n held.points) ≡ true = (and_parts (nat_le (longest_mapped T) (length held.points)) (list_any is_starter (drop n held.points)) settled).1 in
     ap (λ (cut : Cut). is_closed cut.rest) (next_cut-of T held.points (decided-some T held decided))
     ∙ is_closed-extended T (take n held.points) [] (drop n held.points) starter
     ∙ is_closed-drop n held.points ends)
-    (or_cases (held.has_ended && nat_lt 0 (length held.points)) (nat_le (longest_key T) (length held.points) && list_any is_starter (drop (front_length T held.points) held.points)) decided)
+    (or_cases (held.has_ended && nat_lt 0 (length held.points)) (nat_le (longest_mapped T) (length held.points) && list_any is_starter (drop (prefix_length T held.points) held.points)) decided)

@@ -1,11 +1,10 @@
 -- The items of units in turn: the keys and the cluster starts among them, and one unit more.
-use Rattle.std.proofs.Common.{◌≡◌, ℕ, ◌+◌, ◌<◌, ◌≤◌, drop, get_or, subst, Bool, true, false, cond, ◌&&◌, List, [], ◌∷◌, ◌++◌, map, length, Option, Some, None, refl, sym, ◌∙◌, ap, append_assoc}
+use Rattle.std.proofs.Common.{◌≡◌, ℕ, ◌+◌, ◌<◌, ◌≤◌, drop, get_or, subst, Bool, true, false, cond, List, [], ◌∷◌, ◌++◌, map, length, Option, Some, None, slice_get, refl, sym, ◌∙◌, ap, append_assoc}
 use Rattle.std.specs.List.{flat_map}
 use Rattle.std.specs.Option.{option_to_list}
 use Rattle.std.proofs.lemmas.List.{append-nil, drop_more, drop_all}
-use Rattle.std.proofs.lemmas.Option.{none-some}
+use Rattle.std.proofs.lemmas.Grind.{flat_map-append}
 use Rattle.nfd_points.specs.declared.points.Point.{Point}
-use Rattle.nfd_points.specs.Points.{is_starter}
 use Rattle.collation_table.specs.declared.elements.Element.{Element as CollationElement}
 use Rattle.collation_table.specs.Table.{TableMap}
 use Rattle.collation_elements.specs.declared.settings.Strength.{Strength}
@@ -16,25 +15,15 @@ use Rattle.collation_elements.specs.declared.keys.Item.{Item}
 use Rattle.collation_elements.specs.declared.keys.Item.TheVariants.{ClusterStart, Element}
 use Rattle.collation_elements.specs.declared.weigher.Weigher.{Weigher}
 use Rattle.collation_elements.specs.Units.{units}
-use Rattle.collation_elements.specs.Elements.{unit_row, weighted_row, after_row, weighted_rows, begins_primary, begins_cluster}
+use Rattle.collation_elements.specs.Elements.{unit_row, weighted_row, after_row, weighted_rows, begins_cluster}
 use Rattle.collation_elements.specs.Keys.{row_keys, keys}
 use Rattle.collation_elements.specs.Boundaries.{unit_starts, cluster_starts}
-use Rattle.collation_elements.specs.Items.{start_items, unit_items, after_unit, items}
-use Rattle.collation_elements.specs.ItemParts.{item_keys, item_starts}
+use Rattle.collation_elements.specs.Items.{row_items, start_items, unit_items, after_unit, items, key_items}
+use Rattle.collation_elements.specs.ItemParts.{keys_in, starts_in, item_keys, item_starts}
 use Rattle.collation_elements.specs.UnitValues.{UnitValue, IsUnitOf}
-use Rattle.collation_elements.specs.Weighing.{weigher, weigher_after, value_items, key_items, after_units, weighted_element, after_element, WeigherStandsFor}
+use Rattle.collation_elements.specs.Weighing.{weigher, weigher_after, value_items, after_units, weighted_element, after_element, WeigherStandsFor}
 
 -- ---- the keys and the cluster starts among items
-
-item_keys-append : (xs ys : List Item) → item_keys (xs ++ ys) ≡ item_keys xs ++ item_keys ys
-item_keys-append [] ys = refl
-item_keys-append (ClusterStart start ∷ xs) ys = item_keys-append xs ys
-item_keys-append (Element key ∷ xs) ys = ap (λ keys. key ∷ keys) (item_keys-append xs ys)
-
-item_starts-append : (xs ys : List Item) → item_starts (xs ++ ys) ≡ item_starts xs ++ item_starts ys
-item_starts-append [] ys = refl
-item_starts-append (ClusterStart start ∷ xs) ys = ap (λ starts. start ∷ starts) (item_starts-append xs ys)
-item_starts-append (Element key ∷ xs) ys = item_starts-append xs ys
 
 item_keys-map : (ks : List Key) → item_keys (map (λ key. Element key) ks) ≡ ks
 item_keys-map [] = refl
@@ -52,11 +41,11 @@ item_starts-start : (b : Bool) (start : ℕ) → item_starts (cond b (ClusterSta
 item_starts-start true start = refl
 item_starts-start false start = refl
 
-item_keys-start_items : (T : TableMap) (unit : List Point) → item_keys (start_items T unit) ≡ []
+item_keys-start_items : (T : TableMap) (unit : List Point) → item_keys (start_items (slice_get unit 0) (unit_row T unit)) ≡ []
 item_keys-start_items T [] = refl
 item_keys-start_items T (p ∷ ps) = item_keys-start (begins_cluster T (p ∷ ps)) p.offset
 
-item_starts-start_items : (T : TableMap) (unit : List Point) → item_starts (start_items T unit) ≡ unit_starts T unit
+item_starts-start_items : (T : TableMap) (unit : List Point) → item_starts (start_items (slice_get unit 0) (unit_row T unit)) ≡ unit_starts T unit
 item_starts-start_items T [] = refl
 item_starts-start_items T (p ∷ ps) = item_starts-start (begins_cluster T (p ∷ ps)) p.offset
 
@@ -65,8 +54,8 @@ item_keys-items T s v after [] = refl
 item_keys-items T s v after (unit ∷ us) =
     let ks : List Key = row_keys s (weighted_row v after (unit_row T unit)) in
     let rest : List Item = items T s v (after_unit T v after unit) us in
-    let first : item_keys (unit_items T s v after unit) ≡ ks = item_keys-append (start_items T unit) (map (λ key. Element key) ks) ∙ ap (λ xs. xs ++ item_keys (map (λ key. Element key) ks)) (item_keys-start_items T unit) ∙ item_keys-map ks in
-    item_keys-append (unit_items T s v after unit) rest
+    let first : item_keys (unit_items T s v after unit) ≡ ks = flat_map-append keys_in (start_items (slice_get unit 0) (unit_row T unit)) (map (λ key. Element key) ks) ∙ ap (λ xs. xs ++ item_keys (map (λ key. Element key) ks)) (item_keys-start_items T unit) ∙ item_keys-map ks in
+    flat_map-append keys_in (unit_items T s v after unit) rest
     ∙ ap (λ xs. xs ++ item_keys rest) first
     ∙ ap (λ xs. ks ++ xs) (item_keys-items T s v (after_unit T v after unit) us)
 
@@ -75,8 +64,8 @@ item_starts-items T s v after [] = refl
 item_starts-items T s v after (unit ∷ us) =
     let ks : List Key = row_keys s (weighted_row v after (unit_row T unit)) in
     let rest : List Item = items T s v (after_unit T v after unit) us in
-    let first : item_starts (unit_items T s v after unit) ≡ unit_starts T unit = item_starts-append (start_items T unit) (map (λ key. Element key) ks) ∙ ap (λ xs. item_starts (start_items T unit) ++ xs) (item_starts-map ks) ∙ append-nil (item_starts (start_items T unit)) ∙ item_starts-start_items T unit in
-    item_starts-append (unit_items T s v after unit) rest
+    let first : item_starts (unit_items T s v after unit) ≡ unit_starts T unit = flat_map-append starts_in (start_items (slice_get unit 0) (unit_row T unit)) (map (λ key. Element key) ks) ∙ ap (λ xs. item_starts (start_items (slice_get unit 0) (unit_row T unit)) ++ xs) (item_starts-map ks) ∙ append-nil (item_starts (start_items (slice_get unit 0) (unit_row T unit))) ∙ item_starts-start_items T unit in
+    flat_map-append starts_in (unit_items T s v after unit) rest
     ∙ ap (λ xs. xs ++ item_starts rest) first
     ∙ ap (λ xs. unit_starts T unit ++ xs) (item_starts-items T s v (after_unit T v after unit) us)
 
@@ -100,13 +89,9 @@ after_units-push T v after (u ∷ us) unit = after_units-push T v (after_unit T 
 
 -- the items of a unit, from its value alone
 pub unit_items-value : (T : TableMap) (w : Weigher) (points : List Point) (unit : UnitValue) → IsUnitOf T points unit → unit_items T w.strength w.variable w.after_variable points ≡ value_items w unit
-unit_items-value T w [] unit is = absurd (none-some unit.first_point is.first_point)
-unit_items-value T w (p ∷ ps) unit is =
-    let there : Some p ≡ Some unit.first_point = is.first_point in
-    let first : p ≡ unit.first_point = cc in
-    let row : unit_row T (p ∷ ps) ≡ unit.elements = sym is.elements in
-    ap (λ (q : Point). cond (q.first && is_starter q && begins_primary (unit_row T (p ∷ ps))) (ClusterStart q.offset ∷ []) [] ++ key_items w.strength (weighted_row w.variable w.after_variable (unit_row T (p ∷ ps)))) first
-    ∙ ap (λ (es : List CollationElement). cond (unit.first_point.first && is_starter unit.first_point && begins_primary es) (ClusterStart unit.first_point.offset ∷ []) [] ++ key_items w.strength (weighted_row w.variable w.after_variable es)) row
+unit_items-value T w points unit is =
+    ap (λ (first : Option Point). row_items w.strength w.variable w.after_variable first (unit_row T points)) is.first_point
+    ∙ ap (row_items w.strength w.variable w.after_variable (Some unit.first_point)) (sym is.elements)
 
 pub weigher_stands : (T : TableMap) (w : Weigher) (points : List Point) (unit : UnitValue) (us : List (List Point)) (given : List Item) → IsUnitOf T points unit → WeigherStandsFor T w us given → WeigherStandsFor T (weigher_after w unit) (us ++ points ∷ []) (given ++ value_items w unit)
 weigher_stands T w points unit us given is stands = record {

@@ -1,10 +1,11 @@
 pub mod Longest
 pub mod PointLaws
 pub mod Cutting
+pub mod Alone
 pub mod Deciding
 pub mod Joining
 pub mod Cuts
-pub mod Fronts
+pub mod Queues
 pub mod ItemLaws
 pub mod ContextBoundaries
 pub mod ContextClusters

@@ -21,20 +21,20 @@ pub byte_len-one : (c : ℕ) → byte_len (c ∷ []) ≡ len_utf8 c
 unfolding byte_len
 byte_len-one c = omega arith
 
-pub next_front : (cs : List ℕ) (i c : ℕ) → i < length cs → c ≡ get_or cs i c → take (i + 1) cs ≡ take i cs ++ c ∷ []
-next_front cs i c below is = take_more cs i c below ∙ ap (λ x. take i cs ++ x ∷ []) (sym is)
+pub next_prefix : (cs : List ℕ) (i c : ℕ) → i < length cs → c ≡ get_or cs i c → take (i + 1) cs ≡ take i cs ++ c ∷ []
+next_prefix cs i c below is = take_more cs i c below ∙ ap (λ x. take i cs ++ x ∷ []) (sym is)
 
 pub next_bytes : (cs : List ℕ) (i c : ℕ) → i < length cs → c ≡ get_or cs i c → byte_len (take (i + 1) cs) ≡ byte_len (take i cs) + len_utf8 c
 next_bytes cs i c below is =
-    let parts = ap byte_len (next_front cs i c below is) in
+    let parts = ap byte_len (next_prefix cs i c below is) in
     let sum = byte_len-append (take i cs) (c ∷ []) in
     let one = byte_len-one c in omega arith
 
 pub around : (cs : List ℕ) (i c : ℕ) → i < length cs → c ≡ get_or cs i c → cs ≡ take i cs ++ c ∷ drop (suc i) cs
 around cs i c below is = split_at cs i c below ∙ ap (λ x. take i cs ++ x ∷ drop (suc i) cs) (sym is)
 
-pub front_bytes : (cs : List ℕ) (i c : ℕ) → i < length cs → c ≡ get_or cs i c → byte_len (take i cs) + len_utf8 c ≤ byte_len cs
-front_bytes cs i c below is =
+pub prefix_bytes : (cs : List ℕ) (i c : ℕ) → i < length cs → c ≡ get_or cs i c → byte_len (take i cs) + len_utf8 c ≤ byte_len cs
+prefix_bytes cs i c below is =
     let parts = ap byte_len (around cs i c below is) in
     let sum = byte_len-append (take i cs) (c ∷ drop (suc i) cs) in
     let rest = byte_len-append (c ∷ []) (drop (suc i) cs) in
@@ -48,7 +48,7 @@ pub gives_all : (table : TableMap) (window : Held) (weigher : Weigher) (given : 
     given ≡ items table strength variable false (units table taken)
 gives_all table window weigher given taken strength variable gives none same_strength same_variable =
     let all = gives.cut.continues [] (λ e. refl) in
-    let behind : units table (window.points ++ []) ≡ [] = ap (λ ps. units table (ps ++ [])) none in
-    let cut : units table taken ≡ gives.units = ap (units table) (sym (append-nil taken)) ∙ all ∙ ap (λ us. gives.units ++ us) behind ∙ append-nil gives.units in
+    let following : units table (window.points ++ []) ≡ [] = ap (λ ps. units table (ps ++ [])) none in
+    let cut : units table taken ≡ gives.units = ap (units table) (sym (append-nil taken)) ∙ all ∙ ap (λ us. gives.units ++ us) following ∙ append-nil gives.units in
     gives.weighed.items ∙ ap (λ s. items table s weigher.variable false gives.units) same_strength ∙ ap (λ v. items table strength v false gives.units) same_variable
     ∙ ap (λ us. items table strength variable false us) (sym cut)

@@ -1,4 +1,5 @@
--- The clusters of a text: what stands between two neighboring boundaries, with its keys.
+-- The clusters of a text: what stands between two neighboring boundaries, with its keys. They are not the grapheme clusters of
+-- UAX #29.
 use Rattle.std.specs.Prelude.{ℕ, ◌==◌, false, List, [], ◌∷◌, ◌++◌, map, flat_map, if◌then◌else◌}
 use Rattle.std.specs.Str.{chars}
 use Rattle.nfd_points.specs.Points.{points}

@@ -1,6 +1,6 @@
 -- The context law: between two boundaries of a text, the part of it taken as a text by itself has the keys that the whole
 -- text has there.
-use Rattle.std.specs.Prelude.{◌≡◌, ℕ, ◌-◌, ◌≤◌, Bool, true, false, Contains, List, [], ◌∷◌, ◌++◌, length, map, take, drop}
+use Rattle.std.specs.Prelude.{◌≡◌, ℕ, ◌≤◌, Bool, true, false, Contains, List, [], ◌∷◌, ◌++◌, length, map}
 use Rattle.std.specs.Str.{chars, IsUtf8}
 use Rattle.nfd_points.specs.declared.points.Point.{Point}
 use Rattle.nfd_points.specs.Points.{byte_len, points, shifted}
@@ -11,6 +11,7 @@ use Rattle.collation_table.specs.Table.{TableMap}
 use Rattle.collation_elements.specs.Units.{units}
 use Rattle.collation_elements.specs.Elements.{begins_primary, begins_cluster, weighted_rows, elements}
 use Rattle.collation_elements.specs.Keys.{keys}
+pub use Rattle.collation_elements.specs.Parts.{part_between}
 use Rattle.collation_elements.specs.Boundaries.{boundaries}
 use Rattle.collation_elements.specs.Clusters.{Cluster, clusters, starts, start_or, joined}
 
@@ -19,11 +20,11 @@ use Rattle.collation_elements.specs.Clusters.{Cluster, clusters, starts, start_o
 -- The units of a text, cut before one of them: the text before it and the text from it on, each with its own units.
 pub record UnitsCut (table : TableMap) (cs : List ℕ) (us vs : List (List Point)) (start : ℕ) : Type 0 where
   pub before : List ℕ
-  pub behind : List ℕ
-  pub cs_are : cs ≡ before ++ behind
+  pub following : List ℕ
+  pub cs_are : cs ≡ before ++ following
   pub start_is : byte_len before ≡ start
   pub before_units : units table (points before) ≡ us
-  pub behind_units : map (map (shifted (byte_len before))) (units table (points behind)) ≡ vs
+  pub following_units : map (map (shifted (byte_len before))) (units table (points following)) ≡ vs
 
 -- Where a unit begins a cluster, the code points before it have by themselves the units before it, and those from there on
 -- the units from it on.
@@ -42,10 +43,6 @@ PrimariesSettleWeighting =
     weighted_rows variable after (row ∷ rows) ≡ weighted_rows variable false (row ∷ rows)
 
 -- ---- texts
-
--- the part of a text from one byte offset to another
-abbrev pub part_between : List ℕ → ℕ → ℕ → List ℕ
-part_between text start end = take (end - start) (drop start text)
 
 -- The boundaries of a text are the places where its clusters start, and its end.
 abbrev pub BoundariesAreStarts : Type 0

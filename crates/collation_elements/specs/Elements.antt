@@ -6,12 +6,12 @@ use Rattle.collation_elements.specs.declared.settings.Variable.{Variable}
 use Rattle.collation_elements.specs.declared.settings.Variable.TheVariants.{NonIgnorable, Shifted}
 use Rattle.collation_table.specs.Table.{TableMap, row_of, implicit_pair}
 use Rattle.nfd_points.specs.Points.{is_starter}
-use Rattle.collation_elements.specs.Units.{units, codes}
+use Rattle.collation_elements.specs.Units.{units, code_points}
 
 -- S2.2: the row of a unit or, where it has none, the implicit pair of its one point
 abbrev pub unit_row : TableMap → List Point → List Element
 unit_row table [] = []
-unit_row table (p ∷ ps) = unwrap_or (row_of table (codes (p ∷ ps))) (implicit_pair table p.cp)
+unit_row table (p ∷ ps) = unwrap_or (row_of table (code_points (p ∷ ps))) (implicit_pair table p.cp)
 
 -- the rows of a list of points, unit by unit
 abbrev pub rows : TableMap → List Point → List (List Element)
@@ -58,8 +58,11 @@ abbrev pub begins_primary : List Element → Bool
 begins_primary [] = false
 begins_primary (e ∷ es) = nat_lt 0 e.w1
 
--- A unit begins a cluster where its first point is the first of its code point's decomposition and a starter, and its
--- first element has a primary weight before variable weighting.
+-- A unit of this first point and row begins a cluster where the point is the first of its code point's decomposition and a
+-- starter, and the row's first element has a primary weight before variable weighting.
+abbrev pub begins_cluster_with : Point → List Element → Bool
+begins_cluster_with p row = p.first && is_starter p && begins_primary row
+
 abbrev pub begins_cluster : TableMap → List Point → Bool
 begins_cluster table [] = false
-begins_cluster table (p ∷ ps) = p.first && is_starter p && begins_primary (unit_row table (p ∷ ps))
+begins_cluster table (p ∷ ps) = begins_cluster_with p (unit_row table (p ∷ ps))

@@ -9,6 +9,8 @@ pub mod ItemParts
 pub mod Weighing
 pub mod Boundaries
 pub mod Clusters
+pub mod Parts
 pub mod Context
 pub mod Texts
+pub mod WorkedTable
 pub mod WorkedClusters

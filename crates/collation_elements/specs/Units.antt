@@ -1,18 +1,18 @@
 -- The units of a text: which points one collation element mapping takes (UTS #10, S2.1 to S2.1.3).
-use Rattle.std.specs.Prelude.{Bool, ◌||◌, ◌&&◌, not, nat_le, List, [], ◌∷◌, ◌++◌, take, drop, max, if◌then◌else◌}
+use Rattle.std.specs.Prelude.{ℕ, Bool, ◌||◌, ◌&&◌, not, nat_le, List, [], ◌∷◌, ◌++◌, take, drop, max, if◌then◌else◌}
 use Rattle.std.specs.List.{list_any}
 use Rattle.nfd_points.specs.declared.points.Point.{Point}
 use Rattle.nfd_points.specs.Points.{is_starter}
-pub use Rattle.nfd_points.specs.Reordering.{codes}
-use Rattle.collation_table.specs.Table.{TableMap, is_key, longest_front}
+pub use Rattle.nfd_points.specs.Reordering.{code_points}
+use Rattle.collation_table.specs.Table.{TableMap, is_mapped, longest_prefix}
 
 -- b, which stands between a unit and the later point c, blocks c from it
 abbrev pub blocks : Point → Point → Bool
 blocks c b = is_starter b || nat_le c.ccc b.ccc
 
--- c is not blocked by the points `between` it and the unit, and together with it the unit is a key
+-- c is not blocked by the points `between` it and the unit, and together with it the unit is mapped
 abbrev pub joins : TableMap → List Point → List Point → Point → Bool
-joins table unit between c = not (list_any (blocks c) between) && is_key table (codes (unit ++ c ∷ []))
+joins table unit between c = not (list_any (blocks c) between) && is_mapped table (code_points (unit ++ c ∷ []))
 
 -- a unit, and the points that it leaves
 pub record Cut : Type 0 where
@@ -29,10 +29,14 @@ extended table unit between (c ∷ following) =
     let left = extended table unit (between ++ c ∷ []) following in
     if is_starter c then stop else (if joins table unit between c then taken else left)
 
--- S2.1: the longest front that is a key or, where none is, the first point; then what joins it
+-- S2.1: how long the longest prefix is that is mapped; the first point counts where no prefix is one
+abbrev pub prefix_length : TableMap → List Point → ℕ
+prefix_length table ps = max 1 (longest_prefix table (code_points ps))
+
+-- S2.1: the longest prefix that is mapped or, where none is, the first point; then what joins it
 abbrev pub first_unit : TableMap → Point → List Point → Cut
 first_unit table p ps =
-    let n = max 1 (longest_front table (codes (p ∷ ps))) in extended table (take n (p ∷ ps)) [] (drop n (p ∷ ps))
+    let n = prefix_length table (p ∷ ps) in extended table (take n (p ∷ ps)) [] (drop n (p ∷ ps))
 
 -- the units of at most as many points as `fuel` has
 abbrev pub units_within : List Point → TableMap → List Point → List (List Point)

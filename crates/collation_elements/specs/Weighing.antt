@@ -1,18 +1,15 @@
--- The items of one unit, by themselves, and what a weigher stands for.
-use Rattle.std.specs.Prelude.{◌≡◌, Bool, false, ◌&&◌, List, [], ◌∷◌, ◌++◌, map, if◌then◌else◌}
+-- What a weigher gives for one unit, and what it stands for.
+use Rattle.std.specs.Prelude.{◌≡◌, Bool, false, List, [], ◌∷◌, Some}
 use Rattle.nfd_points.specs.declared.points.Point.{Point}
-use Rattle.nfd_points.specs.Points.{is_starter}
 use Rattle.collation_table.specs.declared.elements.Element.{Element as CollationElement}
 use Rattle.collation_table.specs.Table.{TableMap}
 use Rattle.collation_elements.specs.declared.settings.Strength.{Strength}
 use Rattle.collation_elements.specs.declared.settings.Variable.{Variable}
 use Rattle.collation_elements.specs.declared.settings.Variable.TheVariants.{NonIgnorable, Shifted}
 use Rattle.collation_elements.specs.declared.keys.Item.{Item}
-use Rattle.collation_elements.specs.declared.keys.Item.TheVariants.{ClusterStart, Element}
 use Rattle.collation_elements.specs.declared.weigher.Weigher.{Weigher}
-use Rattle.collation_elements.specs.Elements.{shifted_element, after_variable, weighted_row, after_row, begins_primary}
-use Rattle.collation_elements.specs.Keys.{row_keys}
-use Rattle.collation_elements.specs.Items.{items, after_unit}
+use Rattle.collation_elements.specs.Elements.{shifted_element, after_variable, after_row}
+use Rattle.collation_elements.specs.Items.{row_items, items, after_unit}
 use Rattle.collation_elements.specs.UnitValues.{UnitValue}
 
 -- a weigher of these settings; `after` says whether the last element that was variable or primary was variable
@@ -22,7 +19,7 @@ weigher strength variable after = record { strength = strength; variable = varia
 abbrev pub is_after_variable : Weigher → Bool
 is_after_variable w = w.after_variable
 
--- an element under variable weighting, and the flag behind it
+-- an element under variable weighting, and the flag after it
 abbrev pub weighted_element : Variable → Bool → CollationElement → CollationElement
 weighted_element NonIgnorable after e = e
 weighted_element Shifted after e = shifted_element after e
@@ -31,27 +28,15 @@ abbrev pub after_element : Variable → Bool → CollationElement → Bool
 after_element NonIgnorable after e = after
 after_element Shifted after e = after_variable after e
 
--- where the unit begins a cluster
-abbrev pub value_starts : UnitValue → List Item
-value_starts unit =
-    let p = unit.first_point in
-    let start = ClusterStart p.offset ∷ [] in
-    if p.first && is_starter p && begins_primary unit.elements then start else []
-
--- the keys of a row, as items
-abbrev pub key_items : Strength → List CollationElement → List Item
-key_items strength es = map (λ key. Element key) (row_keys strength es)
-
 -- the items of a unit
 abbrev pub value_items : Weigher → UnitValue → List Item
-value_items w unit =
-    value_starts unit ++ key_items w.strength (weighted_row w.variable w.after_variable unit.elements)
+value_items w unit = row_items w.strength w.variable w.after_variable (Some unit.first_point) unit.elements
 
--- the weigher behind a unit
+-- the weigher after a unit
 abbrev pub weigher_after : Weigher → UnitValue → Weigher
 weigher_after w unit = weigher w.strength w.variable (after_row w.variable w.after_variable unit.elements)
 
--- the flag behind some units in turn
+-- the flag after some units in turn
 abbrev pub after_units : TableMap → Variable → Bool → List (List Point) → Bool
 after_units table variable after [] = after
 after_units table variable after (unit ∷ rest) = after_units table variable (after_unit table variable after unit) rest

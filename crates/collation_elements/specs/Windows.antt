@@ -1,10 +1,10 @@
 -- What a window of points holds, and what it stands for.
-use Rattle.std.specs.Prelude.{◌≡◌, ℕ, Bool, true, ◌||◌, ◌&&◌, nat_lt, nat_le, max, List, [], ◌∷◌, ◌++◌, drop, length}
+use Rattle.std.specs.Prelude.{◌≡◌, ℕ, Bool, true, ◌||◌, ◌&&◌, nat_lt, nat_le, List, [], ◌∷◌, ◌++◌, drop, length}
 use Rattle.std.specs.List.{list_any}
 use Rattle.nfd_points.specs.declared.points.Point.{Point}
 use Rattle.nfd_points.specs.Points.{is_starter}
-use Rattle.collation_table.specs.Table.{TableMap, longest_front, longest_key}
-use Rattle.collation_elements.specs.Units.{codes, Cut, first_unit, units}
+use Rattle.collation_table.specs.Table.{TableMap, longest_mapped}
+use Rattle.collation_elements.specs.Units.{Cut, prefix_length, first_unit, units}
 
 -- the points of a window, how many it may hold, and whether it was told that none follows
 pub record Held : Type 0 where
@@ -12,18 +12,15 @@ pub record Held : Type 0 where
   pub capacity : ℕ
   pub has_ended : Bool
 
--- S2.1: how long the longest front is that is a key; the first point counts where no front is one
-abbrev pub front_length : TableMap → List Point → ℕ
-front_length table ps = max 1 (longest_front table (codes ps))
-
 -- The unit at the front of a window is decided where the end was told and the window is not empty, or where the window
--- holds at least as many points as the longest key and a starter stands in it behind the longest front that is a key.
+-- holds at least as many points as the longest mapped string and a starter stands in it after the longest prefix that is
+-- mapped.
 abbrev pub is_decided : TableMap → Held → Bool
 is_decided table held =
-    let behind = drop (front_length table held.points) held.points in
+    let following = drop (prefix_length table held.points) held.points in
     let holds_any = nat_lt 0 (length held.points) in
-    let holds_longest = nat_le (longest_key table) (length held.points) in
-    (held.has_ended && holds_any) || (holds_longest && list_any is_starter behind)
+    let holds_longest = nat_le (longest_mapped table) (length held.points) in
+    (held.has_ended && holds_any) || (holds_longest && list_any is_starter following)
 
 -- the first unit of a list of points, and the points that it leaves
 abbrev pub next_cut : TableMap → List Point → Cut

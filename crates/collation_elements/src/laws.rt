@@ -19,7 +19,7 @@ pub fn items_are_keys_and_starts()
         → item_starts (items table strength variable false (units table ps)) ≡ cluster_starts table ps }
 {}
 
-/// Points behind whose last starter no point stands, put behind others of the kind, are of the kind too.
+/// Points after whose last starter no point stands, put after others of the kind, are of the kind too.
 pub fn closed_points_append()
     ensures { (xs ys : List Point) → is_closed xs ≡ true → is_closed ys ≡ true
         → is_closed (xs ++ ys) ≡ true }

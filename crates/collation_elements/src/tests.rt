@@ -5,7 +5,8 @@ ghost use Rattle.collation_elements.specs.declared.settings.Variable.TheVariants
 ghost use Rattle.collation_elements.specs.declared.keys.Key.TheVariants.{Primary, Secondary};
 ghost use Rattle.collation_elements.specs.Boundaries.{boundaries};
 ghost use Rattle.collation_elements.specs.Clusters.{clusters};
-ghost use Rattle.collation_elements.specs.WorkedClusters.{worked_table, worked_cluster};
+ghost use Rattle.collation_elements.specs.WorkedTable.{worked_table};
+ghost use Rattle.collation_elements.specs.WorkedClusters.{worked_cluster};
 
 use crate::{Item, ItemsFault, Key, MOST_ITEMS, Strength, Variable, Weigher, Window};
 use arrayvec::ArrayVec;
@@ -206,6 +207,8 @@ fn answers_each_call(rt: HostRuntime) -> Result<(), Fail> {
     let marks = "\u{301}".repeat(rt.alloc(), 31)?;
     let fault = crate::items_of_text(rt.alloc(), &table, &marks, Strength::Two, Variable::Shifted);
     assert_eq!(rt; fault.err(), Some(ItemsFault::Points));
+    assert_eq!(rt; crate::worked::unused_item(), Item::ClusterStart(0));
+    crate::worked::limits();
     crate::items_are_keys_and_starts();
     crate::closed_points_append();
     crate::clusters_are_parts();

@@ -4,8 +4,8 @@ ghost use Rattle.std.specs.Prelude.{◌≡◌, ◌+◌, ◌≤◌, ◌<◌, ℕ,
 ghost use Rattle.nfd_points.specs.declared.points.Point.{Point};
 ghost use Rattle.nfd_points.specs.Points.{points, byte_len};
 ghost use Rattle.nfd_points.specs.PointFaults.{point_fault};
-ghost use Rattle.nfd_points.specs.Reordering.{IsSound, is_closed};
-ghost use Rattle.collation_table.specs.Table.{longest_key};
+ghost use Rattle.nfd_points.specs.Reordering.{IsSoundPoint, is_closed};
+ghost use Rattle.collation_table.specs.Table.{longest_mapped};
 ghost use Rattle.collation_elements.specs.Units.{units};
 ghost use Rattle.collation_elements.specs.Items.{items};
 ghost use Rattle.collation_elements.specs.Windows.{WindowStandsFor};
@@ -98,6 +98,7 @@ fn items_of_characters<W: Weights>(
     // Most texts have about one item a byte.
     let mut items = Vec::with_capacity(alloc, bytes)?;
     let mut given = ArrayVec::new();
+    let mut unit_items = ArrayVec::new();
     let mut offset = 0u64;
     for c in characters {
         if let Err(_fault) = reorder.push(*c, offset, &mut given) {
@@ -105,12 +106,24 @@ fn items_of_characters<W: Weights>(
         }
         offset += c.len_utf8() as u64;
         push_points(&mut window, given.as_slice());
-        cut_units(table, &mut window, &mut weigher, &mut items)?;
+        cut_units(
+            table,
+            &mut window,
+            &mut weigher,
+            &mut unit_items,
+            &mut items,
+        )?;
     }
     reorder.finish(&mut given);
     push_points(&mut window, given.as_slice());
     window.end();
-    cut_units(table, &mut window, &mut weigher, &mut items)?;
+    cut_units(
+        table,
+        &mut window,
+        &mut weigher,
+        &mut unit_items,
+        &mut items,
+    )?;
     Ok(items)
 }
 
@@ -118,7 +131,7 @@ fn items_of_characters<W: Weights>(
 fn push_points(window: &mut Window, points: &[Point])
     requires room { length window.old.points + length points.now ≤ window.old.capacity }
     requires open { window.old.has_ended ≡ false }
-    requires sound { All IsSound points.now }
+    requires sound { All IsSoundPoint points.now }
     ensures points { window.new ≡ record window.old { points = window.old.points ++ points.now } }
     ensures stands { (table : TableMap) (taken : List Point) (given : List (List Point)) → WindowStandsFor table window.old taken given
         → WindowStandsFor table window.new (taken ++ points.now) given }
@@ -128,11 +141,13 @@ fn push_points(window: &mut Window, points: &[Point])
     }
 }
 
-/// Cuts all units that are decided, and puts their items at the end of `items`.
+/// Cuts all units that are decided, and puts their items at the end of `items`, those of one unit after those of another into
+/// `unit_items` first.
 fn cut_units<W: Weights>(
     table: &W,
     window: &mut Window,
     weigher: &mut Weigher,
+    unit_items: &mut ArrayVec<Item, MOST_ITEMS>,
     items: &mut Vec<Item>,
 ) -> Result<(), AllocError>
     ensures stands { (taken : List Point) → Gives (W.table table.now) window.old weigher.old items.old.items taken
@@ -140,13 +155,12 @@ fn cut_units<W: Weights>(
     ensures capacity { OnOk result (window.new.capacity ≡ window.old.capacity) }
     ensures ended { OnOk result (window.new.has_ended ≡ window.old.has_ended) }
     ensures settings { OnOk result (HasSettings weigher.new weigher.old) }
-    ensures room { OnOk result (window.old.has_ended ≡ false → is_closed window.old.points ≡ true → length window.new.points ≤ longest_key (W.table table.now)) }
+    ensures room { OnOk result (window.old.has_ended ≡ false → is_closed window.old.points ≡ true → length window.new.points ≤ longest_mapped (W.table table.now)) }
     ensures last { OnOk result (window.old.has_ended ≡ false → is_closed window.old.points ≡ true → is_closed window.new.points ≡ true) }
     ensures all { OnOk result (window.old.has_ended ≡ true → window.new.points ≡ []) }
 {
-    let mut unit_items = ArrayVec::<Item, MOST_ITEMS>::new();
     while let Some(unit) = window.next_unit(table) {
-        weigher.take(&unit, &mut unit_items);
+        weigher.take(&unit, unit_items);
         items.extend_from_slice(unit_items.as_slice())?;
     }
     Ok(())

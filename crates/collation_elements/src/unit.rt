@@ -29,22 +29,23 @@ impl<'t> Model for Unit<'t> {
 
     ghost Value = { UnitValue };
 
-    ghost use Rattle.collation_elements.specs.UnitElements.{elements_in};
+    ghost use Rattle.collation_elements.specs.UnitElements.{elements_held};
 
-    ghost view = { λ u. record { first_point = u.first_point; elements = elements_in u.elements } };
+    ghost view = { λ u. record { first_point = u.first_point; elements = elements_held u.elements } };
 
-    ghost invariant = { λ u. length (elements_in u.elements) ≤ MOST_ROW_ELEMENTS };
+    ghost invariant = { λ u. length (elements_held u.elements) ≤ MOST_ROW_ELEMENTS };
 }
 
 impl<'t> Unit<'t> {
-    /// The unit of the code points `key`, of which `first_point` is the first.
-    pub(crate) fn new<W: Weights>(table: &'t W, first_point: Point, key: &[u32]) -> Self
+    /// The unit of the code points `string`, of which `first_point` is the first.
+    #[inline(always)]
+    pub(crate) fn new<W: Weights>(table: &'t W, first_point: Point, string: &[u32]) -> Self
         requires { first_point.cp < 0x110000 }
         ensures first_point { result.first_point ≡ first_point }
         ensures elements { let pair = implicit_pair (W.table table.now) first_point.cp in
-            result.elements ≡ unwrap_or (row_of (W.table table.now) key.now) pair }
+            result.elements ≡ unwrap_or (row_of (W.table table.now) string.now) pair }
     {
-        let elements = match table.row(key) {
+        let elements = match table.row(string) {
             Some(row) => Elements::Row(row),
             None => Elements::Implicit(table.implicit(first_point.cp)),
         };
@@ -55,6 +56,7 @@ impl<'t> Unit<'t> {
     }
 
     /// The unit's first point.
+    #[inline(always)]
     pub fn first_point(&self) -> Point
         ensures { result ≡ self.now.first_point }
     {
@@ -63,6 +65,7 @@ impl<'t> Unit<'t> {
 
     /// The unit's collation elements before variable weighting (UTS #10, S2.2): the row of the table or, where the unit has
     /// none, the implicit pair of its one point.
+    #[inline(always)]
     pub fn elements(&self) -> &[Element]
         ensures value { result.now ≡ self.now.elements }
         ensures few { length result.now ≤ MOST_ROW_ELEMENTS }

@@ -10,7 +10,8 @@ ghost use Rattle.collation_elements.specs.declared.keys.Item.{Item};
 ghost use Rattle.collation_table.specs.WellFormed.{is_lead};
 ghost use Rattle.collation_elements.specs.Keys.{element_keys, pair_key, second_at, third_at};
 ghost use Rattle.collation_elements.specs.UnitValues.{IsUnitOf};
-ghost use Rattle.collation_elements.specs.Weighing.{weigher, weigher_after, is_after_variable, weighted_element, after_element, key_items, value_items, WeigherStandsFor};
+ghost use Rattle.collation_elements.specs.Items.{key_items};
+ghost use Rattle.collation_elements.specs.Weighing.{weigher, weigher_after, is_after_variable, weighted_element, after_element, value_items, WeigherStandsFor};
 
 use crate::keys::{Item, Key};
 use crate::settings::{Strength, Variable};
@@ -18,8 +19,8 @@ use crate::unit::Unit;
 use arrayvec::ArrayVec;
 use collation_table::Element;
 
-/// The room for the items of a unit: the start of its cluster, and a key for each element of a row. A row has fewer elements
-/// than there is room for.
+/// The room for the items of one unit: the start of its cluster, and 128 keys. An element gives at most one key and a row has at
+/// most `collation_table::MOST_ROW_ELEMENTS`, so the room always suffices, also for rows that are four times as long.
 pub const MOST_ITEMS: usize = 129;
 
 /// Weighs the units of a text, from its beginning on.
@@ -59,6 +60,7 @@ impl Weigher {
     }
 
     /// Empties `items` and puts in those of the next unit: where its cluster begins, if it begins one, and its keys.
+    #[inline(always)]
     pub fn take(&mut self, unit: &Unit, items: &mut ArrayVec<Item, MOST_ITEMS>)
         ensures items { items.new.items ≡ value_items self.old unit.now }
         ensures after { self.new ≡ weigher_after self.old unit.now }
@@ -85,6 +87,7 @@ impl Weigher {
     }
 
     /// The next element under variable weighting.
+    #[inline(always)]
     fn weigh(&mut self, e: Element) -> Element
         ensures element { result ≡ weighted_element self.old.variable self.old.after_variable e }
         ensures after { let after = after_element self.old.variable self.old.after_variable e in
@@ -93,11 +96,9 @@ impl Weigher {
         if self.variable == Variable::NonIgnorable {
             return e;
         }
-        let is_ignored = e.is_variable || (self.after_variable && e.w1 == 0);
-        if e.is_variable {
-            self.after_variable = true;
-        } else if e.w1 > 0 {
-            self.after_variable = false;
+        let is_ignored = e.is_variable || (self.after_variable() && e.w1 == 0);
+        if e.is_variable || e.w1 > 0 {
+            *self = Weigher::restore(self.strength, self.variable, e.is_variable);
         }
         if is_ignored { IGNORABLE } else { e }
     }
@@ -113,6 +114,7 @@ const IGNORABLE: Element = Element {
 
 /// Adds the keys of an element and of the lead that waits before it. A lead waits for the next element, which may be its
 /// follower, and is handed back.
+#[inline(always)]
 fn add_keys(
     strength: Strength,
     lead: Option<Element>,
@@ -143,6 +145,7 @@ fn add_keys(
 }
 
 /// Adds the key of an element that is not ignorable up to the strength.
+#[inline(always)]
 fn add_key(strength: Strength, e: Element, items: &mut ArrayVec<Item, MOST_ITEMS>)
     requires { array_vec_len items.old < MOST_ITEMS }
     ensures keys { items.new.items ≡ items.old.items ++ map (λ key. Item.Element key) (element_keys strength e) }

@@ -1,19 +1,20 @@
 //! A window of points, from whose front units are cut as soon as what follows cannot change them (UTS #10, S2.1).
-ghost use Rattle.std.specs.Prelude.{◌≡◌, ◌+◌, ◌<◌, ◌≤◌, ◌↔◌, ◌==◌, ℕ, List, [], ◌∷◌, ◌++◌, Bool, true, false, length, drop, slice_get, Some, None, if◌then◌else◌, IsTrue, IsSome, IfSome, OnSome, IfNone, IfOk};
+ghost use Rattle.std.specs.Prelude.{◌≡◌, ◌+◌, ◌<◌, ◌≤◌, ◌↔◌, ◌==◌, ℕ, List, [], ◌∷◌, ◌++◌, Bool, true, false, length, take, drop, slice_get, is_some, Some, if◌then◌else◌, IsTrue, IsSome, IfSome, OnSome, IfNone, IfOk};
 ghost use Rattle.std.specs.List.{list_any};
 ghost use Rattle.nfd_points.specs.declared.points.Point.{Point};
+ghost use Rattle.nfd_points.specs.declared.limits.TheConstants.{MOST_GIVEN};
 ghost use Rattle.nfd_points.specs.Points.{is_starter};
 ghost use Rattle.nfd_points.specs.Reordering.{is_closed};
 ghost use Rattle.circular_buffer.specs.Buffer.{buffer};
-ghost use Rattle.collation_table.specs.Table.{TableMap, longest_key, longest_key as greatest_key, is_key};
-ghost use Rattle.collation_elements.specs.Units.{units, codes, extended};
+ghost use Rattle.collation_table.specs.Table.{TableMap, longest_mapped, is_mapped};
+ghost use Rattle.collation_elements.specs.Units.{code_points, extended, prefix_length};
 ghost use Rattle.collation_elements.specs.UnitValues.{IsUnitOf};
-ghost use Rattle.collation_elements.specs.Windows.{Held, is_decided, front_length, next_cut, WindowStandsFor};
+ghost use Rattle.collation_elements.specs.Windows.{Held, is_decided, next_cut, WindowStandsFor};
 
 use crate::queue::Queue;
 use crate::unit::Unit;
 use arrayvec::ArrayVec;
-use collation_table::{MOST_KEY_POINTS, Weights};
+use collation_table::{MOST_STRING_POINTS, Weights};
 use nfd_points::{MOST_GIVEN, Point};
 use std::alloc::{AllocError, Global};
 use std::marker::Model;
@@ -34,12 +35,12 @@ impl Model for Window {
 }
 
 impl Window {
-    /// An empty window for a table whose longest key has `longest_key` points, with room for those and for what one call of a
-    /// `nfd_points::Reorder` gives.
+    /// An empty window for a table whose longest mapped string has `longest_key` points, with room for those and for what one
+    /// call of a `nfd_points::Reorder` gives.
     pub fn with_capacity(alloc: Global, longest_key: usize) -> Result<Self, AllocError>
         requires some { 1 ≤ longest_key }
-        requires few { longest_key ≤ MOST_KEY_POINTS }
-        ensures empty { IfOk result (λ w. w ≡ record { points = []; capacity = longest_key + 34; has_ended = false }) }
+        requires few { longest_key ≤ MOST_STRING_POINTS }
+        ensures empty { IfOk result (λ w. w ≡ record { points = []; capacity = longest_key + MOST_GIVEN; has_ended = false }) }
         ensures stands { IfOk result (λ w. (table : TableMap) → WindowStandsFor table w [] []) }
     {
         Ok(Window {
@@ -72,7 +73,8 @@ impl Window {
         self.queue.is_full()
     }
 
-    /// Adds a point behind the others. It is asked only where there is room and the end was not told, and with a code point.
+    /// Adds a point after the others. It is asked only where there is room and the end was not told, and with a code point.
+    #[inline(always)]
     pub fn push(&mut self, p: Point)
         requires room { length self.old.points < self.old.capacity }
         requires open { self.old.has_ended ≡ false }
@@ -97,7 +99,9 @@ impl Window {
     }
 
     /// The next unit, taken out of the window, where no point that may follow can change it; else `None`, and the window stays
-    /// as it was.
+    /// as it was. So whatever follows, the units of what the window held are this one and then those of what it holds now: that
+    /// is `stands`, where what it held was taken and nothing given.
+    #[inline(always)]
     pub fn next_unit<'t, W: Weights>(&mut self, table: &'t W) -> Option<Unit<'t>>
         ensures decided { IsSome result ↔ IsTrue (is_decided (W.table table.now) self.old) }
         ensures unchanged { IfNone result (self.new ≡ self.old) }
@@ -105,40 +109,36 @@ impl Window {
             OnSome result (self.new ≡ record self.old { points = cut.rest }) }
         ensures unit { let cut = next_cut (W.table table.now) self.old.points in
             IfSome result (λ unit. IsUnitOf (W.table table.now) cut.unit unit) }
-        ensures continues { let cut = next_cut (W.table table.now) self.old.points in
-            OnSome result ((more : List Point) → (self.old.has_ended ≡ true → more ≡ [])
-            → units (W.table table.now) (self.old.points ++ more)
-            ≡ cut.unit ∷ units (W.table table.now) (self.new.points ++ more)) }
         ensures stands { let cut = next_cut (W.table table.now) self.old.points in
             OnSome result ((taken : List Point) (given : List (List Point))
             → WindowStandsFor (W.table table.now) self.old taken given
             → WindowStandsFor (W.table table.now) self.new taken (given ++ cut.unit ∷ [])) }
         ensures fewer { OnSome result (length self.new.points < length self.old.points) }
         ensures room { IfNone result (self.old.has_ended ≡ false → is_closed self.old.points ≡ true
-            → length self.old.points ≤ longest_key (W.table table.now)) }
+            → length self.old.points ≤ longest_mapped (W.table table.now)) }
         ensures last { OnSome result (self.old.has_ended ≡ false → is_closed self.old.points ≡ true
             → is_closed self.new.points ≡ true) }
     {
-        let taken = decided_front(&self.queue, self.has_ended, table)?;
+        let taken = decided_prefix(&self.queue, self.has_ended, table)?;
         Some(cut(&mut self.queue, table, taken))
     }
 }
 
-/// How many points at the front are the longest key there, or 1 where none is, if the unit there is decided.
-fn decided_front<W: Weights>(points: &Queue, has_ended: bool, table: &W) -> Option<usize>
-    ensures { let held : Held = record {
+/// How many points the longest mapped string at the front has, or 1 where none is one, if the unit there is decided.
+#[inline(always)]
+fn decided_prefix<W: Weights>(points: &Queue, has_ended: bool, table: &W) -> Option<usize>
+    ensures decided { let held : Held = record {
       points = points.now.items;
       capacity = points.now.capacity;
       has_ended = has_ended;
     } in
-        result ≡ (if is_decided (W.table table.now) held
-        then Some (front_length (W.table table.now) points.now.items) else None) }
+        is_some result ≡ is_decided (W.table table.now) held }
+    ensures length { IfSome result (λ taken. taken ≡ prefix_length (W.table table.now) points.now.items) }
 {
-    let longest_key = table.longest_key();
-    if points.len() == 0 || (!has_ended && points.len() < longest_key) {
+    if points.len() == 0 || (!has_ended && points.len() < table.longest_key()) {
         return None;
     }
-    let taken = front_length(points, table, longest_key);
+    let taken = prefix_length(points, table);
     if has_ended || has_starter_from(points, taken) {
         Some(taken)
     } else {
@@ -146,16 +146,22 @@ fn decided_front<W: Weights>(points: &Queue, has_ended: bool, table: &W) -> Opti
     }
 }
 
-/// How many points the longest key at the front has, or 1 where none is there. The table's longest key is handed in.
-fn front_length<W: Weights>(points: &Queue, table: &W, longest_key: usize) -> usize
-    requires { longest_key ≡ greatest_key (W.table table.now) }
-    ensures { result ≡ front_length (W.table table.now) points.now.items }
+/// How many points the longest mapped string at the front has, or 1 where none is one. No mapped string is looked for where
+/// none of two or more code points begins with the first point's.
+#[inline(always)]
+fn prefix_length<W: Weights>(points: &Queue, table: &W) -> usize
+    requires { 0 < length points.now.items }
+    ensures { result ≡ prefix_length (W.table table.now) points.now.items }
 {
-    let front = points.front();
-    table.longest(&front[..longest_key.min(front.len())]).max(1)
+    if !table.begins_longer_string(points.point(0).cp) {
+        return 1;
+    }
+    let prefix = points.prefix(table.longest_key());
+    table.longest(prefix.as_slice()).max(1)
 }
 
-/// Whether a starter stands at `index` or behind it.
+/// Whether a starter stands at `index` or after it.
+#[inline]
 fn has_starter_from(points: &Queue, index: usize) -> bool
     ensures { result ≡ list_any is_starter (drop index points.now.items) }
 {
@@ -167,43 +173,37 @@ fn has_starter_from(points: &Queue, index: usize) -> bool
     false
 }
 
-/// Takes the unit that begins with the first `taken` points, which are the longest key at the front, or one point.
+/// Takes the unit that begins with the first `taken` points, which are the longest mapped string at the front, or one point.
+/// Nothing joins a point with whose code point no mapped string of two or more begins.
+#[inline(always)]
 fn cut<'t, W: Weights>(points: &mut Queue, table: &'t W, taken: usize) -> Unit<'t>
     requires some { 0 < length points.old.items }
-    requires front { taken ≡ front_length (W.table table.now) points.old.items }
+    requires beginning { taken ≡ prefix_length (W.table table.now) points.old.items }
     ensures rest { let cut = next_cut (W.table table.now) points.old.items in
         points.new ≡ buffer cut.rest points.old.capacity }
     ensures unit { IsUnitOf (W.table table.now) (next_cut (W.table table.now) points.old.items).unit result }
 {
     let first_point = points.point(0);
-    if taken < points.len() && !points.has_starter_at(taken) {
-        let mut key = key_of(&points.front()[..taken]);
-        points.skip(taken);
-        take_joining(points, table, &mut key);
-        Unit::new(table, first_point, key.as_slice())
-    } else {
-        let unit = Unit::new(table, first_point, &points.front()[..taken]);
-        points.skip(taken);
-        unit
+    if !table.begins_longer_string(first_point.cp) {
+        points.skip(1);
+        return Unit::new(table, first_point, &[first_point.cp]);
     }
+    let mut string = points.prefix(taken);
+    points.skip(taken);
+    take_joining(points, table, &mut string);
+    Unit::new(table, first_point, string.as_slice())
 }
 
-/// The code points as a key that may become longer.
-fn key_of(points: &[u32]) -> ArrayVec<u32, MOST_KEY_POINTS>
-    requires { length points.now ≤ MOST_KEY_POINTS }
-    ensures { result.items ≡ points.now }
-{
-    let mut key = ArrayVec::new();
-    let _fits = key.try_extend_from_slice(points);
-    key
-}
-
-/// Takes out each non-starter, up to the next starter, that no point left before it blocks and with which `key` is a longer
-/// key (UTS #10, S2.1.1 to S2.1.3).
-fn take_joining<W: Weights>(points: &mut Queue, table: &W, key: &mut ArrayVec<u32, MOST_KEY_POINTS>)
-    ensures key { (unit : List Point) → codes unit ≡ key.old.items
-        → key.new.items ≡ codes (extended (W.table table.now) unit [] points.old.items).unit }
-    ensures rest { (unit : List Point) → codes unit ≡ key.old.items
+/// Takes out each non-starter, up to the next starter, that no point left before it blocks and with which `string` is a longer
+/// mapped string (UTS #10, S2.1.1 to S2.1.3).
+fn take_joining<W: Weights>(
+    points: &mut Queue,
+    table: &W,
+    string: &mut ArrayVec<u32, MOST_STRING_POINTS>,
+)
+    ensures string { (unit : List Point) → code_points unit ≡ string.old.items
+        → string.new.items ≡ code_points (extended (W.table table.now) unit [] points.old.items).unit }
+    ensures rest { (unit : List Point) → code_points unit ≡ string.old.items
         → points.new
         ≡ buffer (extended (W.table table.now) unit [] points.old.items).rest points.old.capacity }
 {
@@ -214,7 +214,7 @@ fn take_joining<W: Weights>(points: &mut Queue, table: &W, key: &mut ArrayVec<u3
         if c.ccc == 0 {
             break;
         }
-        if highest_left < c.ccc && lengthen(key, table, c.cp) {
+        if highest_left < c.ccc && lengthen(string, table, c.cp) {
             points.remove(left);
         } else {
             highest_left = highest_left.max(c.ccc);
@@ -223,18 +223,18 @@ fn take_joining<W: Weights>(points: &mut Queue, table: &W, key: &mut ArrayVec<u3
     }
 }
 
-/// Appends the code point to `key` where that makes a key of the table, and says whether it did.
-fn lengthen<W: Weights>(key: &mut ArrayVec<u32, MOST_KEY_POINTS>, table: &W, cp: u32) -> bool
-    ensures value { result ≡ is_key (W.table table.now) (key.old.items ++ cp ∷ []) }
-    ensures key { key.new.items ≡ (if result then key.old.items ++ cp ∷ [] else key.old.items) }
+/// Appends the code point to `string` where that makes a mapped string of the table, and says whether it did.
+fn lengthen<W: Weights>(string: &mut ArrayVec<u32, MOST_STRING_POINTS>, table: &W, cp: u32) -> bool
+    ensures value { result ≡ is_mapped (W.table table.now) (string.old.items ++ cp ∷ []) }
+    ensures string { string.new.items ≡ (if result then string.old.items ++ cp ∷ [] else string.old.items) }
 {
-    if key.is_full() {
+    if string.is_full() {
         return false;
     }
-    key.push(cp);
-    if table.row(key.as_slice()).is_some() {
+    string.push(cp);
+    if table.row(string.as_slice()).is_some() {
         return true;
     }
-    key.pop();
+    string.pop();
     false
 }

@@ -1,17 +1,13 @@
 -- The keys of items, the first item apart.
-use Rattle.std.proofs.Common.{◌≡◌, ℕ, ◌+◌, ◌<◌, List, [], ◌∷◌, ◌++◌, length, drop, get_or, refl, sym, ◌∙◌, ap, append_assoc}
-use Rattle.std.proofs.lemmas.List.{at_drop_more}
+use Rattle.std.proofs.Common.{◌≡◌, ℕ, ◌+◌, ◌<◌, List, [], ◌∷◌, ◌++◌, length, drop, get_or, sym, ◌∙◌, ap, append_assoc}
+use Rattle.std.proofs.lemmas.List.{append-nil, at_drop_more}
 use Rattle.collation_elements.specs.declared.keys.Key.{Key}
 use Rattle.collation_elements.specs.declared.keys.Item.{Item}
-use Rattle.collation_elements.specs.declared.keys.Item.TheVariants.{ClusterStart, Element}
-use Rattle.collation_elements.specs.ItemParts.{item_keys}
-
-item_keys-first : (item : Item) (rest : List Item) → item_keys (item ∷ []) ++ item_keys rest ≡ item_keys (item ∷ rest)
-item_keys-first (ClusterStart start) rest = refl
-item_keys-first (Element key) rest = refl
+use Rattle.collation_elements.specs.ItemParts.{keys_in, item_keys}
 
 pub item_keys-next : (xs : List Item) (i : ℕ) (d : Item) (ks : List Key) → i < length xs →
     (ks ++ item_keys (get_or xs i d ∷ [])) ++ item_keys (drop (i + 1) xs) ≡ ks ++ item_keys (drop i xs)
 item_keys-next xs i d ks below =
     append_assoc ks (item_keys (get_or xs i d ∷ [])) (item_keys (drop (i + 1) xs))
-    ∙ ap (λ (rest : List Key). ks ++ rest) (item_keys-first (get_or xs i d) (drop (i + 1) xs) ∙ sym (at_drop_more item_keys xs i d below))
+    ∙ ap (λ (rest : List Key). ks ++ (rest ++ item_keys (drop (i + 1) xs))) (append-nil (keys_in (get_or xs i d)))
+    ∙ ap (λ (rest : List Key). ks ++ rest) (sym (at_drop_more item_keys xs i d below))

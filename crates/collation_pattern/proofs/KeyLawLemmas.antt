@@ -12,7 +12,7 @@ use Rattle.collation_table.specs.WellFormed.{IsWellFormed}
 use Rattle.nfd_points.specs.Laws.{PointsAreSound}
 use Rattle.nfd_points.specs.declared.points.Point.{Point}
 use Rattle.nfd_points.specs.Points.{points}
-use Rattle.nfd_points.specs.Reordering.{IsSound}
+use Rattle.nfd_points.specs.Reordering.{IsSoundPoint}
 use Rattle.collation_elements.specs.Elements.{rows, weighted_rows}
 use Rattle.collation_pattern.specs.Levels.{levels, text_keys}
 use Rattle.collation_pattern.specs.KeyLaw.{KeyLaw, SortKeyIsLevels}
@@ -30,7 +30,7 @@ each_scalar [] h k d below = absurd (omega arith)
 each_scalar (c ∷ cs) h zero d below = (and_parts (scalar c) (all_scalars cs) h).0
 each_scalar (c ∷ cs) h (suc k) d below = each_scalar cs (and_parts (scalar c) (all_scalars cs) h).1 k d (omega arith)
 
-code_points : (ps : List Point) → All IsSound ps → AllByRecursion IsCodePoint ps
+code_points : (ps : List Point) → All IsSoundPoint ps → AllByRecursion IsCodePoint ps
 code_points [] h = tt
 code_points (p ∷ ps) h =
     let first = h 0 p (omega arith) in

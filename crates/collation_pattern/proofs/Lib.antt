@@ -4,3 +4,5 @@ pub mod ReadableRows
 pub mod ReadableTexts
 pub mod KeyLawLemmas
 pub mod CompileLemmas
+pub mod KeyEquality
+pub mod BorderLemmas

@@ -170,8 +170,8 @@ pair_readable : (T : TableMap) (wf : IsWf2 T) (s : Strength) (e f : Element) →
 pair_readable T wf s e f lead follower some2 low2 some3 low3 =
     let parts = and_parts (not e.is_variable && is_between 0xFB00 0xFBFF e.w1) (not (is_follower e)) lead in
     let between = and_parts (nat_le 0xFB00 e.w1) (nat_le e.w1 0xFBFF) (and_parts (not e.is_variable) (is_between 0xFB00 0xFBFF e.w1) parts.0).1 in
-    let front = and_parts (not f.is_variable && nat_le 0x8000 f.w1 && (f.w2 == 0)) (f.w3 == 0) follower in
-    let form = and_parts (not f.is_variable && nat_le 0x8000 f.w1) (f.w2 == 0) front.0 in
+    let prefix = and_parts (not f.is_variable && nat_le 0x8000 f.w1 && (f.w2 == 0)) (f.w3 == 0) follower in
+    let form = and_parts (not f.is_variable && nat_le 0x8000 f.w1) (f.w2 == 0) prefix.0 in
     let high = leb-true 0x8000 f.w1 (and_parts (not f.is_variable) (nat_le 0x8000 f.w1) form.0).1 in
     elim s as (λ r. IsReadable (scale_of T wf) r (pair_key r e f)) [
       | One ↦ (leb-true 0xFB00 e.w1 between.0, leb-true e.w1 0xFBFF between.1, omega arith, refl, refl)

@@ -6,14 +6,14 @@ use Rattle.std.proofs.lemmas.Bool.{cases_Bool, and_parts, leb-true, le-leb, not-
 use Rattle.std.proofs.lemmas.Nat.{div_below}
 use Rattle.collation_table.specs.declared.elements.Element.{Element}
 use Rattle.collation_table.specs.declared.ranges.ImplicitRange.{ImplicitRange}
-use Rattle.collation_table.specs.Table.{TableMap, row_of, is_between, is_in, implicit_base, implicit_weights, implicit_weights_in, longest_front, is_core_ideograph, is_other_ideograph}
+use Rattle.collation_table.specs.Table.{TableMap, row_of, is_between, is_in, implicit_base, implicit_weights, implicit_weights_in, longest_prefix, is_core_ideograph, is_other_ideograph}
 use Rattle.collation_table.specs.WellFormed.{is_lead, is_follower, skips_level, HasElement, IsWellFormed}
 use Rattle.nfd_points.specs.declared.points.Point.{Point}
 use Rattle.nfd_points.specs.Points.{is_starter}
 use Rattle.collation_elements.specs.declared.settings.Strength.{Strength}
 use Rattle.collation_elements.specs.declared.settings.Variable.{Variable}
 use Rattle.collation_elements.specs.declared.settings.Variable.TheVariants.{NonIgnorable, Shifted}
-use Rattle.collation_elements.specs.Units.{codes, units, units_within, extended, first_unit, joins, Cut}
+use Rattle.collation_elements.specs.Units.{code_points, units, units_within, extended, first_unit, joins, Cut}
 use Rattle.collation_elements.specs.Elements.{unit_row, weighted_row, weighted_rows, after_row}
 use Rattle.collation_elements.specs.Keys.{row_keys, keys}
 use Rattle.collation_pattern.proofs.KeyLists.{AreReadable}
@@ -69,7 +69,7 @@ extended_all P T unit between (c ∷ following) u b f =
 
 first_unit_all : (P : Point → Type 0) (T : TableMap) (p : Point) (ps : List Point) → P p → AllByRecursion P ps → BothAll P (first_unit T p ps)
 first_unit_all P T p ps h hs =
-    let n = max 1 (longest_front T (codes (p ∷ ps))) in
+    let n = max 1 (longest_prefix T (code_points (p ∷ ps))) in
     let all : AllByRecursion P (p ∷ ps) = (h, hs) in
     extended_all P T (take n (p ∷ ps)) [] (drop n (p ∷ ps)) (all-take P n (p ∷ ps) all) tt (all-drop P n (p ∷ ps) all)
 
@@ -132,12 +132,12 @@ follower_from : (w : ℕ) → 0x8000 ≤ w → is_follower (record { is_variable
 follower_from w low = let l = le-leb 0x8000 w low in rw l refl
 
 unit_readable : (T : TableMap) (wf : IsWellFormed T) (s : Strength) (v : Variable) (after : Bool) (unit : List Point) → AllByRecursion IsCodePoint unit →
-    (row : Option (List Element)) → row_of T (codes unit) ≡ row → AreReadable (scale_of T wf.wf2) s (row_keys s (weighted_row v after (unit_row T unit)))
+    (row : Option (List Element)) → row_of T (code_points unit) ≡ row → AreReadable (scale_of T wf.wf2) s (row_keys s (weighted_row v after (unit_row T unit)))
 unit_readable T wf s NonIgnorable after [] h row found = tt
 unit_readable T wf s Shifted after [] h row found = tt
 unit_readable T wf s v after (p ∷ ps) h (Some row) found =
-    let sound = wf.rows (codes (p ∷ ps)) row found in
-    rw found (row_readable T wf.wf2 s (weighted_row v after row) row (weighs_row v after row) (row_sound T wf (codes (p ∷ ps)) row found) sound.pairs)
+    let sound = wf.rows (code_points (p ∷ ps)) row found in
+    rw found (row_readable T wf.wf2 s (weighted_row v after row) row (weighs_row v after row) (row_sound T wf (code_points (p ∷ ps)) row found) sound.pairs)
 unit_readable T wf s v after (p ∷ ps) h None found =
     let between = weights_between T wf p.cp h.0 (find (is_in p.cp) T.ranges) refl in
     let weights = implicit_weights T p.cp in
@@ -150,7 +150,7 @@ units_readable : (T : TableMap) (wf : IsWellFormed T) (s : Strength) (v : Variab
     AreReadable (scale_of T wf.wf2) s (flat_map (row_keys s) (weighted_rows v after (map (unit_row T) us)))
 units_readable T wf s v after [] h = tt
 units_readable T wf s v after (unit ∷ us) h =
-    let first = unit_readable T wf s v after unit h.0 (row_of T (codes unit)) refl in
+    let first = unit_readable T wf s v after unit h.0 (row_of T (code_points unit)) refl in
     let rest = units_readable T wf s v (after_row v after (unit_row T unit)) us h.1 in
     AreReadable-append (scale_of T wf.wf2) s (row_keys s (weighted_row v after (unit_row T unit))) (flat_map (row_keys s) (weighted_rows v (after_row v after (unit_row T unit)) (map (unit_row T) us))) first rest
 

@@ -16,14 +16,14 @@ same_keys (k ∷ ks) (l ∷ ls) = let rest = same_keys ks ls in if same_key k l 
 same_keys ks ls = false
 
 -- the last j of these keys are the first j of the pattern's
-abbrev pub ends_with_front : List Key → List Key → ℕ → Bool
-ends_with_front pattern ks j = same_keys (drop (length ks - j) ks) (take j pattern)
+abbrev pub ends_with_prefix : List Key → List Key → ℕ → Bool
+ends_with_prefix pattern ks j = same_keys (drop (length ks - j) ks) (take j pattern)
 
 abbrev pub border_up_to : List Key → List Key → ℕ → ℕ
 border_up_to pattern ks zero = 0
 border_up_to pattern ks (suc j) =
-    let shorter = border_up_to pattern ks j in if ends_with_front pattern ks (suc j) then suc j else shorter
+    let shorter = border_up_to pattern ks j in if ends_with_prefix pattern ks (suc j) then suc j else shorter
 
--- the length of the longest front of the pattern's keys that ends these keys
+-- the length of the longest prefix of the pattern's keys that ends these keys
 abbrev pub border : List Key → List Key → ℕ
 border pattern ks = border_up_to pattern ks (min (length pattern) (length ks))

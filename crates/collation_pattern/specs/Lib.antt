@@ -1,6 +1,7 @@
 pub mod SortKey
 pub mod Levels
 pub mod Border
+pub mod Borders
 pub mod PatternFaults
 pub mod KeyLaw
 pub mod LevelWeights

@@ -20,5 +20,5 @@ sort_key Two es = level (map (λ e. e.w1) es) ++ 0 ∷ level (map (λ e. e.w2) e
 sort_key Three es = level (map (λ e. e.w1) es) ++ 0 ∷ level (map (λ e. e.w2) es) ++ 0 ∷ level (map (λ e. e.w3) es)
 
 -- the sort key of a text of bytes
-abbrev pub text_key : TableMap → Strength → Variable → List ℕ → List ℕ
-text_key table strength variable text = sort_key strength (elements table variable (points (chars text)))
+abbrev pub text_sort_key : TableMap → Strength → Variable → List ℕ → List ℕ
+text_sort_key table strength variable text = sort_key strength (elements table variable (points (chars text)))

@@ -33,7 +33,7 @@ fn weights_of(key: &Key, at: Level) -> (u16, u16)
     }
 }
 
-/// The keys whose weights are still to come, behind a weight of the key before them (0 where it has none left).
+/// The keys whose weights are still to come, after a weight of the key before them (0 where it has none left).
 #[derive(Drop)]
 struct Reader<'a> {
     pending: u16,

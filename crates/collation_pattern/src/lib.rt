@@ -5,6 +5,7 @@
 //! `collation_table` (well-formed tables).
 #![tactic(auto)]
 
+mod borders;
 mod compile;
 mod faults;
 pub mod laws;

@@ -3,6 +3,7 @@
 ghost use Rattle.std.specs.Prelude.{◌≡◌, ◌↔◌, ◌≤◌, length, IsTrue};
 ghost use Rattle.collation_pattern.specs.Levels.{levels};
 
+use crate::borders::{borders_of, state_after};
 use crate::compile::keys_of_pattern;
 use crate::faults::PatternFault;
 use crate::level_weights::same_levels;
@@ -15,25 +16,31 @@ use std::marker::Model;
 #[derive(Drop)]
 pub struct Pattern {
     keys: Vec<Key>,
+    /// The table of borders of the keys.
+    borders: Vec<usize>,
     strength: Strength,
     variable: Variable,
 }
 
 impl Model for Pattern {
-    ghost use Rattle.std.specs.Prelude.{◌≤◌, length};
+    ghost use Rattle.std.specs.Prelude.{◌≡◌, ◌≤◌, length};
     ghost use Rattle.collation_pattern.specs.Compiled.{Compiled};
+    ghost use Rattle.collation_pattern.specs.Borders.{AreBorders};
 
     ghost Value = { Compiled };
 
     ghost view = { λ p. record { keys = p.keys.items; strength = p.strength; variable = p.variable } };
 
-    ghost invariant = { λ p. 1 ≤ length p.keys.items };
+    ghost invariant = { λ p. (1 ≤ length p.keys.items) × (length p.borders.items ≡ length p.keys.items) × AreBorders p.keys.items p.borders.items };
 }
 
 impl Pattern {
-    ghost use Rattle.std.specs.Prelude.{◌≡◌, ◌≢◌, ◌↔◌, ◌≤◌, length, IsTrue, None, Some, IfOk, OnOk, IfErr};
+    ghost use Rattle.std.specs.Prelude.{◌≡◌, ◌≢◌, ◌↔◌, ◌≤◌, List, [], ◌∷◌, ◌++◌, length, IsTrue, None, Some, IfOk, OnOk, IfErr};
+    ghost use Rattle.collation_elements.specs.declared.keys.Key.{Key};
+    ghost use Rattle.collation_pattern.specs.Border.{border};
     ghost use Rattle.collation_pattern.specs.Levels.{levels, text_keys};
     ghost use Rattle.collation_pattern.specs.PatternFaults.{pattern_fault};
+    ghost use Rattle.collation_pattern.specs.Compiled.{IsCompiledWith};
 
     /// Compiles a text.
     ///
@@ -48,12 +55,19 @@ impl Pattern {
         variable: Variable,
     ) -> Result<Pattern, PatternFault>
         ensures compiled { IfOk result (λ pattern. pattern ≡ record { keys = text_keys (W.table table.now) strength variable text.now; strength = strength; variable = variable }) }
+        ensures from_text { IfOk result (λ pattern. IsCompiledWith (W.table table.now) pattern text.now) }
         ensures accepted { OnOk result (pattern_fault (W.table table.now) strength variable text.now ≡ None) }
         ensures refused { IfErr result (λ f. f.kind ≢ 24 → pattern_fault (W.table table.now) strength variable text.now ≡ Some f.kind) }
     {
         let keys = keys_of_pattern(alloc, table, text, strength, variable)?;
+        let Ok(borders) = borders_of(alloc, &keys) else {
+            return Err(PatternFault {
+                kind: PatternFault::MEMORY,
+            });
+        };
         Ok(Pattern {
             keys,
+            borders,
             strength,
             variable,
         })
@@ -86,6 +100,20 @@ impl Pattern {
         ensures { result.now ≡ self.now.keys }
     {
         self.keys.as_slice()
+    }
+
+    /// How many keys at the beginning of the pattern end the keys of a text with one more key, from how many of them ended
+    /// the text's keys without it.
+    ///
+    /// `state` is the number of keys of the longest prefix of the pattern that the keys before `key` end with; for a text
+    /// without keys it is 0. The whole pattern ends the text's keys exactly where the result is [`Pattern::len`]. Over all
+    /// keys of a text the calls take time proportional to their number.
+    pub fn advance(&self, state: usize, key: &Key) -> usize
+        requires { state ≤ length self.now.keys }
+        ensures border { (ks : List Key) → border self.now.keys ks ≡ state → result ≡ border self.now.keys (ks ++ key.now ∷ []) }
+        ensures within { result ≤ length self.now.keys }
+    {
+        state_after(&self.keys, &self.borders, state, key)
     }
 
     /// Whether a list of keys has the pattern's sort key (UTS #10, S3): the same weights at each level up to the

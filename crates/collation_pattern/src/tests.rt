@@ -89,6 +89,30 @@ fn shifted_pattern_has_no_variable_keys(rt: HostRuntime) -> Result<(), Fail> {
     Ok(())
 }
 
+/// `A` and `a` are one key at strength one.
+#[test]
+fn states_of_a_worked_pattern(rt: HostRuntime) -> Result<(), Fail> {
+    let pattern = pattern_of(rt.alloc(), "aab", Strength::One)?;
+    let (a, b) = (Key::Primary(0x1C00, 0, 0), Key::Primary(0x1C10, 0, 0));
+    for (state, key, want) in [
+        (0, a, 1),
+        (1, a, 2),
+        (2, a, 2),
+        (2, b, 3),
+        (3, a, 1),
+        (3, b, 0),
+        (1, b, 0),
+    ] {
+        assert!(rt; state <= pattern.len());
+        assert_eq!(rt;
+            pattern.advance(state, &key),
+            want,
+            "{key:?} after {state} keys"
+        );
+    }
+    Ok(())
+}
+
 /// The first weights of U+4E00 are those of a pair, and of two keys that no text has.
 #[test]
 fn pair_has_the_sort_key_of_two_keys(rt: HostRuntime) -> Result<(), Fail> {
@@ -125,9 +149,9 @@ fn levels_up_to_the_strength_are_compared(rt: HostRuntime) -> Result<(), Fail> {
     Ok(())
 }
 
-/// The length is told before a run of marks, and that before a text without keys.
+/// The length is reported before a run of marks, and that before a text without keys.
 #[test]
-fn first_fault_is_told(rt: HostRuntime) -> Result<(), Fail> {
+fn first_fault_is_reported(rt: HostRuntime) -> Result<(), Fail> {
     for (piece, count, kind) in [
         ("a", 65_536, 0),
         ("a", 65_537, PatternFault::TOO_LONG),
@@ -145,6 +169,31 @@ fn first_fault_is_told(rt: HostRuntime) -> Result<(), Fail> {
             kind,
             "{count} of {piece}"
         );
+    }
+    Ok(())
+}
+
+/// No pattern is too long before it has more than 65,536 bytes, whatever it is compared by.
+#[test]
+fn greatest_pattern_is_compiled(rt: HostRuntime) -> Result<(), Fail> {
+    let table = Table::read(rt.alloc(), TABLE.as_bytes())?;
+    let letters = "a".repeat(rt.alloc(), 65_536)?;
+    // two bytes and, from strength two on, two keys each
+    let accented = "\u{E9}".repeat(rt.alloc(), 32_768)?;
+    for strength in [Strength::One, Strength::Two, Strength::Three] {
+        for variable in [Variable::NonIgnorable, Variable::Shifted] {
+            let pattern = Pattern::compile(rt.alloc(), &table, &letters, strength, variable)?;
+            assert_eq!(rt; pattern.len(), 65_536);
+            assert_eq!(rt; pattern.strength(), strength);
+            assert_eq!(rt; pattern.variable(), variable);
+            let pattern = Pattern::compile(rt.alloc(), &table, &accented, strength, variable)?;
+            let keys = if strength == Strength::One {
+                32_768
+            } else {
+                65_536
+            };
+            assert_eq!(rt; pattern.len(), keys);
+        }
     }
     Ok(())
 }

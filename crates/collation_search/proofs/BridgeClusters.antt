@@ -1,4 +1,4 @@
--- Clusters by their places: the boundary at a place, the keys in front of it, whether the cluster there has keys.
+-- Clusters by their places: the boundary at a place, the keys before it, whether the cluster there has keys.
 use Rattle.std.proofs.Common.{◌≡◌, ℕ, zero, suc, ◌<◌, ◌≤◌, Bool, true, false, List, [], ◌∷◌, ◌++◌, length, take, drop, refl, ap, ◌∙◌, arith, inl, inr, length-append, ltb-true}
 use Rattle.std.proofs.lemmas.Bool.{ltb-false}
 use Rattle.std.proofs.lemmas.List.{append-nil}
@@ -12,9 +12,9 @@ use Rattle.collation_search.proofs.BridgeRanges.{Below}
 abbrev pub bound : ℕ → List Cluster → ℕ → ℕ
 bound end cs i = start_or end (drop i cs)
 
--- the keys in front of it
-abbrev pub front : List Cluster → ℕ → List Key
-front cs i = joined (take i cs)
+-- the keys before it
+abbrev pub prefix : List Cluster → ℕ → List Key
+prefix cs i = joined (take i cs)
 
 -- the cluster at a place has keys
 abbrev pub keyed : List Cluster → ℕ → Bool
@@ -46,27 +46,27 @@ bound_rises end (c ∷ cs) i zero r a b = absurd (omega arith)
 bound_rises end (c ∷ cs) zero (suc j) r a b = r.0 (bound end cs j) (bound_in end cs j)
 bound_rises end (c ∷ cs) (suc i) (suc j) r a b = bound_rises end cs i j r.1 (omega arith) (omega arith)
 
-pub front_grows : (cs : List Cluster) (i j : ℕ) → i ≤ j → length (front cs i) ≤ length (front cs j)
-front_grows cs zero j h = omega arith
-front_grows [] (suc i) j h = omega arith
-front_grows (c ∷ cs) (suc i) zero h = absurd (omega arith)
-front_grows (c ∷ cs) (suc i) (suc j) h =
-    let rest = front_grows cs i j (omega arith) in
-    omega (arith, rest, length-append c.keys (front cs i), length-append c.keys (front cs j))
+pub prefix_grows : (cs : List Cluster) (i j : ℕ) → i ≤ j → length (prefix cs i) ≤ length (prefix cs j)
+prefix_grows cs zero j h = omega arith
+prefix_grows [] (suc i) j h = omega arith
+prefix_grows (c ∷ cs) (suc i) zero h = absurd (omega arith)
+prefix_grows (c ∷ cs) (suc i) (suc j) h =
+    let rest = prefix_grows cs i j (omega arith) in
+    omega (arith, rest, length-append c.keys (prefix cs i), length-append c.keys (prefix cs j))
 
-pub front_keyed : (cs : List Cluster) (i : ℕ) → keyed cs i ≡ true → length (front cs i) < length (front cs (suc i))
-front_keyed [] i h = cc
-front_keyed (c ∷ cs) zero h = let some = ltb-true 0 (length c.keys) h in omega (arith, some, length-append c.keys [])
-front_keyed (c ∷ cs) (suc i) h =
-    let rest = front_keyed cs i h in
-    omega (arith, rest, length-append c.keys (front cs i), length-append c.keys (front cs (suc i)))
+pub prefix_keyed : (cs : List Cluster) (i : ℕ) → keyed cs i ≡ true → length (prefix cs i) < length (prefix cs (suc i))
+prefix_keyed [] i h = cc
+prefix_keyed (c ∷ cs) zero h = let some = ltb-true 0 (length c.keys) h in omega (arith, some, length-append c.keys [])
+prefix_keyed (c ∷ cs) (suc i) h =
+    let rest = prefix_keyed cs i h in
+    omega (arith, rest, length-append c.keys (prefix cs i), length-append c.keys (prefix cs (suc i)))
 
 none_when_empty : (ks : List Key) → length ks ≤ 0 → ks ≡ []
 none_when_empty [] h = refl
 none_when_empty (k ∷ ks) h = absurd (omega arith)
 
-pub front_unkeyed : (cs : List Cluster) (i : ℕ) → keyed cs i ≡ false → front cs (suc i) ≡ front cs i
-front_unkeyed [] zero h = refl
-front_unkeyed [] (suc i) h = refl
-front_unkeyed (c ∷ cs) zero h = append-nil c.keys ∙ none_when_empty c.keys (ltb-false 0 (length c.keys) h)
-front_unkeyed (c ∷ cs) (suc i) h = ap (λ ks. c.keys ++ ks) (front_unkeyed cs i h)
+pub prefix_unkeyed : (cs : List Cluster) (i : ℕ) → keyed cs i ≡ false → prefix cs (suc i) ≡ prefix cs i
+prefix_unkeyed [] zero h = refl
+prefix_unkeyed [] (suc i) h = refl
+prefix_unkeyed (c ∷ cs) zero h = append-nil c.keys ∙ none_when_empty c.keys (ltb-false 0 (length c.keys) h)
+prefix_unkeyed (c ∷ cs) (suc i) h = ap (λ ks. c.keys ++ ks) (prefix_unkeyed cs i h)

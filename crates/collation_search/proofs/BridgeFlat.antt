@@ -5,8 +5,8 @@ use Rattle.collation_elements.specs.declared.keys.Key.{Key}
 use Rattle.collation_elements.specs.Clusters.{Cluster, joined}
 use Rattle.collation_pattern.specs.Border.{same_keys}
 use Rattle.collation_search.specs.ByClusters.{has_keys, last_has_keys, starts_of, placed_at, placed, range_from, ended_by_keys}
-use Rattle.collation_search.specs.declared.by_clusters.PlacedKey.{PlacedKey}
-use Rattle.collation_search.specs.ByClustersLaws.{last_keys_tell}
+use Rattle.collation_search.specs.ByClusters.{PlacedKey}
+use Rattle.collation_search.specs.ByClustersLaws.{last_keys_decide}
 use Rattle.collation_search.proofs.BridgeKeys.{same_keys-true}
 use Rattle.collation_search.proofs.BridgeFound.{begins, starts_short, to_end}
 
@@ -68,7 +68,7 @@ mapped-not : (pattern : List Key) (end : ℕ) (c : Cluster) (cs : List Cluster) 
 mapped-not pattern end c cs no' =
     ap (λ (xs : List ℕ). map (to_end end) (xs ++ starts_of pattern cs)) (cond-false (begins pattern c cs) (c.start ∷ []) [] no')
 
--- a cluster with keys, with fewer keys than the pattern's behind it
+-- a cluster with keys, with fewer keys than the pattern's after it
 module _ (pattern : List Key) (end start : ℕ) (k : Key) (ks : List Key) (cs : List Cluster) where
   abbrev c : Cluster
   c = record { start = start; keys = k ∷ ks }
@@ -79,10 +79,10 @@ module _ (pattern : List Key) (end start : ℕ) (k : Key) (ks : List Key) (cs : 
   total : length (placed (c ∷ cs)) ≡ length (joined (c ∷ cs))
   total = length-placed (c ∷ cs)
 
-  -- the last keys are all behind this cluster
-  behind : length pattern ≤ length (joined cs) → mapped pattern end cs ≡ ended_by_keys pattern (placed cs) end →
+  -- the last keys are all after this cluster
+  following : length pattern ≤ length (joined cs) → mapped pattern end cs ≡ ended_by_keys pattern (placed cs) end →
       mapped pattern end (c ∷ cs) ≡ ended_by_keys pattern (placed (c ∷ cs)) end
-  behind h same =
+  following h same =
       let rest = length-placed cs in
       let joins = length-append (k ∷ ks) (joined cs) in
       let parts = length-append (placed_at start true (k ∷ ks)) (placed cs) in
@@ -93,7 +93,7 @@ module _ (pattern : List Key) (end start : ℕ) (k : Key) (ks : List Key) (cs : 
       ap (λ i. drop i (placed (c ∷ cs))) place ∙ drop_past (placed_at start true (k ∷ ks)) (placed cs) n in
       mapped-not pattern end c cs none ∙ same ∙ ap (λ l. by_last pattern l end) (sym last)
 
-  -- they begin within this cluster, behind its first key
+  -- they begin within this cluster, after its first key
   inside : length (joined cs) < length pattern → length pattern < length (joined (c ∷ cs)) →
       mapped pattern end (c ∷ cs) ≡ ended_by_keys pattern (placed (c ∷ cs)) end
   inside h more =
@@ -140,7 +140,7 @@ mapped-cons pattern end start (k ∷ ks) cs same =
         | inl more ↦ inside pattern end start k ks cs few more
         | inr no_more ↦ whole pattern end start k ks cs few no_more
       ]
-      | inr many ↦ behind pattern end start k ks cs many same
+      | inr many ↦ following pattern end start k ks cs many same
     ]
 
 mapped-by_keys : (pattern : List Key) (end : ℕ) (cs : List Cluster) → mapped pattern end cs ≡ ended_by_keys pattern (placed cs) end
@@ -148,5 +148,5 @@ mapped-by_keys pattern end [] =
     sym (ap (λ l. by_last pattern l end) (drop_none (0 - length pattern)) ∙ cond_same (same_keys [] pattern) [])
 mapped-by_keys pattern end (c ∷ cs) = mapped-cons pattern end c.start c.keys cs (mapped-by_keys pattern end cs)
 
-pub ended-by_keys : last_keys_tell
+pub ended-by_keys : last_keys_decide
 ended-by_keys pattern cs end h = cond-true (last_has_keys cs) (mapped pattern end cs) [] h ∙ mapped-by_keys pattern end cs

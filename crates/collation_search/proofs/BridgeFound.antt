@@ -9,7 +9,7 @@ use Rattle.collation_search.specs.ByClusters.{has_keys, last_has_keys, starts_of
 use Rattle.collation_search.proofs.BridgeLists.{In, Rising, in_append, in_left, in_right, in_map, map_in, rising_append}
 use Rattle.collation_search.proofs.BridgeRanges.{Below, Before}
 use Rattle.collation_search.proofs.BridgeKeys.{same_keys-true, same_keys-decides}
-use Rattle.collation_search.proofs.BridgeClusters.{bound, front, keyed, last_keyed, front_grows, front_keyed, bound_rises}
+use Rattle.collation_search.proofs.BridgeClusters.{bound, prefix, keyed, last_keyed, prefix_grows, prefix_keyed, bound_rises}
 
 in_one : (b : Bool) (x s : ℕ) → In (cond b (x ∷ []) []) s → (b ≡ true) × (x ≡ s)
 in_one true x s (inl e) = (refl, e)
@@ -25,7 +25,7 @@ begins pattern c cs = has_keys c && same_keys (joined (c ∷ cs)) pattern
 
 -- a start that is among the starts of the first j + 1 clusters
 pub in_starts : (pattern : List Key) (end : ℕ) (cs : List Cluster) (j s : ℕ) → In (starts_of pattern (take (suc j) cs)) s →
-    (i : ℕ) × (i ≤ j) × (keyed cs i ≡ true) × (front cs (suc j) ≡ front cs i ++ pattern) × (bound end cs i ≡ s)
+    (i : ℕ) × (i ≤ j) × (keyed cs i ≡ true) × (prefix cs (suc j) ≡ prefix cs i ++ pattern) × (bound end cs i ≡ s)
 in_starts pattern end [] j s h = absurd h
 in_starts pattern end (c ∷ cs) zero s h =
     elim (in_append (cond (begins pattern c []) (c.start ∷ []) []) [] s h) [
@@ -43,11 +43,11 @@ in_starts pattern end (c ∷ cs) (suc j) s h =
           (0, omega arith, parts.0, same_keys-true (joined (c ∷ take (suc j) cs)) pattern parts.1, one.1)
       | inr rest ↦
           let r = in_starts pattern end cs j s rest in
-          (suc r.0, omega (arith, r.1), r.2, ap (λ ks. c.keys ++ ks) r.3 ∙ sym (append_assoc c.keys (front cs r.0) pattern), r.4)
+          (suc r.0, omega (arith, r.1), r.2, ap (λ ks. c.keys ++ ks) r.3 ∙ sym (append_assoc c.keys (prefix cs r.0) pattern), r.4)
     ]
 
 pub starts_in : (pattern : List Key) (end : ℕ) (cs : List Cluster) (i j : ℕ) → i ≤ j → keyed cs i ≡ true →
-    front cs (suc j) ≡ front cs i ++ pattern → In (starts_of pattern (take (suc j) cs)) (bound end cs i)
+    prefix cs (suc j) ≡ prefix cs i ++ pattern → In (starts_of pattern (take (suc j) cs)) (bound end cs i)
 starts_in pattern end [] i j h k e = cc
 starts_in pattern end (c ∷ cs) zero j h k e =
     in_left (cond (begins pattern c (take j cs)) (c.start ∷ []) []) (starts_of pattern (take j cs)) c.start
@@ -57,7 +57,7 @@ starts_in pattern end (c ∷ cs) (suc i) zero h k e = absurd (omega arith)
 starts_in pattern end (c ∷ cs) (suc i) (suc j) h k e =
     in_right (cond (begins pattern c (take (suc j) cs)) (c.start ∷ []) []) (starts_of pattern (take (suc j) cs)) (bound end cs i)
     (starts_in pattern end cs i j (omega arith) k
-    (append_cancel_left c.keys (front cs (suc j)) (front cs i ++ pattern) (e ∙ append_assoc c.keys (front cs i) pattern)))
+    (append_cancel_left c.keys (prefix cs (suc j)) (prefix cs i ++ pattern) (e ∙ append_assoc c.keys (prefix cs i) pattern)))
 
 -- a range from the start of a cluster with keys to the end of a cluster with keys, whose keys are the pattern's
 pub record Spans (pattern : List Key) (cs : List Cluster) (end : ℕ) (r : ℕ × ℕ) : Type 0 where
@@ -67,7 +67,7 @@ pub record Spans (pattern : List Key) (cs : List Cluster) (end : ℕ) (r : ℕ �
   pub within : upto < length cs
   pub from_keyed : keyed cs from ≡ true
   pub upto_keyed : keyed cs upto ≡ true
-  pub fits : front cs (suc upto) ≡ front cs from ++ pattern
+  pub fits : prefix cs (suc upto) ≡ prefix cs from ++ pattern
   pub is : (bound end cs from, bound end cs (suc upto)) ≡ r
 
 in_if : {A : Type 0} (b : Bool) (xs : List A) (x : A) → In (cond b xs []) x → (b ≡ true) × In xs x
@@ -102,7 +102,7 @@ in_ended pattern end cs j r h k =
     )
 
 pub ended_in : (pattern : List Key) (end : ℕ) (cs : List Cluster) (i j : ℕ) → i ≤ j → j < length cs → keyed cs i ≡ true → keyed cs j ≡ true →
-    front cs (suc j) ≡ front cs i ++ pattern → In (ended pattern (take (suc j) cs) (bound end cs (suc j))) (bound end cs i, bound end cs (suc j))
+    prefix cs (suc j) ≡ prefix cs i ++ pattern → In (ended pattern (take (suc j) cs) (bound end cs (suc j))) (bound end cs i, bound end cs (suc j))
 ended_in pattern end cs i j a h k l e =
     let range = to_end (bound end cs (suc j)) in
     if_in (last_has_keys (take (suc j) cs)) (map range (starts_of pattern (take (suc j) cs))) (range (bound end cs i)) (last_keyed cs j h ∙ l)
@@ -118,7 +118,7 @@ in_found pattern end cs (suc n) r h k =
     ]
 
 pub found_in : (pattern : List Key) (end : ℕ) (cs : List Cluster) (n i j : ℕ) → n ≤ length cs → i ≤ j → j < n → keyed cs i ≡ true → keyed cs j ≡ true →
-    front cs (suc j) ≡ front cs i ++ pattern → In (found_within pattern cs end n) (bound end cs i, bound end cs (suc j))
+    prefix cs (suc j) ≡ prefix cs i ++ pattern → In (found_within pattern cs end n) (bound end cs i, bound end cs (suc j))
 found_in pattern end cs zero i j h a b k l e = absurd (omega arith)
 found_in pattern end cs (suc n) i j h a b k l e =
     elim (cases_lt j n) [
@@ -184,23 +184,23 @@ rising_short R [] h = tt
 rising_short R (x ∷ []) h = (λ y k. absurd k, tt)
 rising_short R (x ∷ y ∷ xs) h = absurd (omega arith)
 
--- a later place, where more keys are in front
-pub later_place : (cs : List Cluster) (i j : ℕ) → length (front cs i) < length (front cs j) → i < j
+-- a later place, where more keys come before
+pub later_place : (cs : List Cluster) (i j : ℕ) → length (prefix cs i) < length (prefix cs j) → i < j
 later_place cs i j h =
     elim (cases_lt i j) [
       | inl less ↦ less
-      | inr more ↦ let grows = front_grows cs j i more in absurd (omega arith)
+      | inr more ↦ let grows = prefix_grows cs j i more in absurd (omega arith)
     ]
 
 spans_rise : (pattern : List Key) (end : ℕ) (cs : List Cluster) (r q : ℕ × ℕ) → Rising Below (starts cs ++ end ∷ []) →
     (s : Spans pattern cs end r) → (t : Spans pattern cs end q) → s.upto < t.upto → Before r q
 spans_rise pattern end cs r q up s t h =
-    let more = front_keyed cs t.upto t.upto_keyed in
-    let grows = front_grows cs (suc s.upto) t.upto h in
+    let more = prefix_keyed cs t.upto t.upto_keyed in
+    let grows = prefix_grows cs (suc s.upto) t.upto h in
     let es = ap (λ (ks : List Key). length ks) s.fits in
     let et = ap (λ (ks : List Key). length ks) t.fits in
     let place = later_place cs s.from t.from
-    (omega (arith, more, grows, es, et, length-append (front cs s.from) pattern, length-append (front cs t.from) pattern)) in
+    (omega (arith, more, grows, es, et, length-append (prefix cs s.from) pattern, length-append (prefix cs t.from) pattern)) in
     let rises = bound_rises end cs s.from t.from up place (omega (arith, t.in_order, t.within)) in
     let er : bound end cs s.from ≡ r.0 = ap (λ (p : ℕ × ℕ). p.0) s.is in
     let eq : bound end cs t.from ≡ q.0 = ap (λ (p : ℕ × ℕ). p.0) t.is in

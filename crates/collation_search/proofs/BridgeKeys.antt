@@ -8,20 +8,20 @@ use Rattle.collation_pattern.specs.Border.{same_key, same_keys}
 
 pub same_key-true : (k l : Key) → same_key k l ≡ true → k ≡ l
 same_key-true (Primary a b c) (Primary x y z) h =
-    let front = and_parts (a == x && b == y) (c == z) h in
-    let parts = and_parts (a == x) (b == y) front.0 in
+    let prefix = and_parts (a == x && b == y) (c == z) h in
+    let parts = and_parts (a == x) (b == y) prefix.0 in
     let e1 = eqb-true a x parts.0 in
     let e2 = eqb-true b y parts.1 in
-    let e3 = eqb-true c z front.1 in
+    let e3 = eqb-true c z prefix.1 in
     cc
 same_key-true (Pair a b c d) (Pair w x y z) h =
-    let front = and_parts (a == w && b == x && c == y) (d == z) h in
-    let middle = and_parts (a == w && b == x) (c == y) front.0 in
+    let prefix = and_parts (a == w && b == x && c == y) (d == z) h in
+    let middle = and_parts (a == w && b == x) (c == y) prefix.0 in
     let parts = and_parts (a == w) (b == x) middle.0 in
     let e1 = eqb-true a w parts.0 in
     let e2 = eqb-true b x parts.1 in
     let e3 = eqb-true c y middle.1 in
-    let e4 = eqb-true d z front.1 in
+    let e4 = eqb-true d z prefix.1 in
     cc
 same_key-true (Secondary a b) (Secondary x y) h =
     let parts = and_parts (a == x) (b == y) h in

@@ -111,7 +111,7 @@ same_members R asym (x ∷ xs) [] a b to from = absurd (to x (inl refl))
 same_members {A} R asym (x ∷ xs) (y ∷ ys) a b to from =
     let heads : x ≡ y = elim (to x (inl refl)) [
       | inl e ↦ sym e
-      | inr later ↦ elim (from y (inl refl)) [ inl e ↦ e | inr behind ↦ absurd (asym x y (a.0 y behind) (b.0 x later)) ]
+      | inr later ↦ elim (from y (inl refl)) [ inl e ↦ e | inr following ↦ absurd (asym x y (a.0 y following) (b.0 x later)) ]
     ] in
     let forth : (z : A) → In xs z → In ys z = λ z h. elim (to z (inr h)) [
       | inl e ↦ let r = a.0 z h in let r' = subst (λ w. R w z) (heads ∙ e) r in absurd (asym z z r' r')

@@ -15,19 +15,19 @@ use Rattle.collation_elements.specs.declared.settings.Strength.{Strength}
 use Rattle.collation_elements.specs.declared.keys.Key.{Key}
 use Rattle.collation_elements.specs.Boundaries.{boundaries, offsets_to, is_boundary, cluster_starts}
 use Rattle.collation_elements.specs.Clusters.{Cluster, clusters, starts, start_or, joined}
-use Rattle.collation_pattern.specs.SortKey.{text_key}
+use Rattle.collation_pattern.specs.SortKey.{text_sort_key}
 use Rattle.collation_pattern.specs.Levels.{text_keys}
 use Rattle.collation_pattern.specs.KeyLaw.{KeyLaw}
 use Rattle.collation_elements.specs.Context.{BoundariesAreStarts, PartsHaveTheKeysOfClusters, PartsAreTexts}
 use Rattle.collation_search.specs.Matches.{ranges_among, part, minimal, matches, settled}
 use Rattle.collation_search.specs.ByClusters.{ended, found, found_within, found_before_last}
 use Rattle.std.proofs.lemmas.Map.Keys.{sorted_from_strictly_increasing, below_from_sorted}
-use Rattle.collation_search.specs.ByClustersLaws.{minimal_ranges_are_found, matches_are_found, settled_are_found, items_tell_ranges}
+use Rattle.collation_search.specs.ByClustersLaws.{minimal_ranges_are_found, matches_are_found, settled_are_found, items_give_ranges}
 use Rattle.collation_search.proofs.BridgeLists.{In, Rising, in_append, rising_append, rising_filter}
 use Rattle.collation_search.proofs.BridgeRanges.{Below}
-use Rattle.collation_search.proofs.BridgeClusters.{bound, front, bound_rises}
+use Rattle.collation_search.proofs.BridgeClusters.{bound, prefix, bound_rises}
 use Rattle.collation_search.proofs.BridgeFound.{in_found, in_ended}
-use Rattle.collation_search.proofs.BridgeMinimal.{Tells, minimal-found}
+use Rattle.collation_search.proofs.BridgeMinimal.{Tests, minimal-found}
 
 -- ---- the clusters between two places
 
@@ -35,7 +35,7 @@ pub record Split (cs : List Cluster) (i j : ℕ) : Type 0 where
   pub inside : List Cluster
   pub whole : cs ≡ take i cs ++ (inside ++ drop j cs)
   pub rest : inside ++ drop j cs ≡ drop i cs
-  pub keys : front cs j ≡ front cs i ++ joined inside
+  pub keys : prefix cs j ≡ prefix cs i ++ joined inside
 
 pub split : (cs : List Cluster) (i j : ℕ) → i ≤ j → Split cs i j
 split cs zero j h = record { inside = take j cs; whole = sym (take-append-drop j cs); rest = take-append-drop j cs; keys = refl }
@@ -48,12 +48,12 @@ split (c ∷ cs) (suc i) (suc j) h =
       inside = s.inside;
       whole = ap (λ (ds : List Cluster). c ∷ ds) s.whole;
       rest = s.rest;
-      keys = ap (λ ks. c.keys ++ ks) s.keys ∙ sym (append_assoc c.keys (front cs i) (joined s.inside));
+      keys = ap (λ ks. c.keys ++ ks) s.keys ∙ sym (append_assoc c.keys (prefix cs i) (joined s.inside));
     }
 
 -- ---- boundaries rise
 
-below_offsets : (n x : ℕ) → In (offsets_to n) x → x ≤ n
+pub below_offsets : (n x : ℕ) → In (offsets_to n) x → x ≤ n
 below_offsets zero x (inl e) = omega arith
 below_offsets zero x (inr h) = absurd h
 below_offsets (suc n) x h =
@@ -137,27 +137,27 @@ rising_from (x ∷ xs) h = (
   rising_from xs (λ i j a b. h (suc i) (suc j) (omega arith) (omega arith)),
 )
 
-abbrev TellsSplits : (ℕ × ℕ → Bool) → List Key → List Cluster → ℕ → Type 0
-TellsSplits test pattern cs end =
+abbrev TestsSplits : (ℕ × ℕ → Bool) → List Key → List Cluster → ℕ → Type 0
+TestsSplits test pattern cs end =
     (before inside after : List Cluster) → cs ≡ before ++ (inside ++ after) →
     Decides (test (start_or end (inside ++ after), start_or end after)) (joined inside ≡ pattern)
 
-tells_from : (test : ℕ × ℕ → Bool) (pattern : List Key) (cs : List Cluster) (end : ℕ) → TellsSplits test pattern cs end → Tells test pattern cs end
-tells_from test pattern cs end h i j le w =
+tests_from : (test : ℕ × ℕ → Bool) (pattern : List Key) (cs : List Cluster) (end : ℕ) → TestsSplits test pattern cs end → Tests test pattern cs end
+tests_from test pattern cs end h i j le w =
     let s = split cs i j le in
     let starts_at : start_or end (s.inside ++ drop j cs) ≡ bound end cs i = ap (start_or end) s.rest in
     let decides : Decides (test (bound end cs i, bound end cs j)) (joined s.inside ≡ pattern) =
     subst (λ b. Decides (test (b, bound end cs j)) (joined s.inside ≡ pattern)) starts_at (h (take i cs) s.inside (drop j cs) s.whole) in (
-      λ t. s.keys ∙ ap (λ ks. front cs i ++ ks) (decides.0 t),
-      λ e. decides.1 (append_cancel_left (front cs i) (joined s.inside) pattern (sym s.keys ∙ e)),
+      λ t. s.keys ∙ ap (λ ks. prefix cs i ++ ks) (decides.0 t),
+      λ e. decides.1 (append_cancel_left (prefix cs i) (joined s.inside) pattern (sym s.keys ∙ e)),
     )
 
 pub minimal-found_by_clusters : minimal_ranges_are_found
-minimal-found_by_clusters test pattern cs end some up tells =
+minimal-found_by_clusters test pattern cs end some up tested =
     let sorted = sorted_from_strictly_increasing (starts cs ++ end ∷ []) up in
     minimal-found test pattern cs end some
     (rising_from (starts cs ++ end ∷ []) (λ i j a b. below_from_sorted (starts cs ++ end ∷ []) i j 0 sorted a b))
-    (tells_from test pattern cs end tells)
+    (tests_from test pattern cs end tested)
 
 -- ---- the bridge
 
@@ -175,12 +175,12 @@ module _ (bounded : BoundariesAreStarts) (part_keys : PartsHaveTheKeysOfClusters
     keys_of_pattern = text_keys table strength variable pattern
 
     abbrev test : ℕ × ℕ → Bool
-    test range = bytes_eq (text_key table strength variable (part text range)) (text_key table strength variable pattern)
+    test range = bytes_eq (text_sort_key table strength variable (part text range)) (text_sort_key table strength variable pattern)
 
-    splits : TellsSplits test keys_of_pattern cs end
+    splits : TestsSplits test keys_of_pattern cs end
     splits before inside after whole =
         let range : ℕ × ℕ = (start_or end (inside ++ after), start_or end after) in
-        let decides = bytes_eq-Decides (text_key table strength variable (part text range)) (text_key table strength variable pattern) in
+        let decides = bytes_eq-Decides (text_sort_key table strength variable (part text range)) (text_sort_key table strength variable pattern) in
         let law = key_law strength variable (part text range) pattern (part_texts table strength variable text before inside after is_text whole) pattern_is_text in
         let there = part_keys table strength variable text before inside after is_text whole in
         (λ h. sym there ∙ law.0 (decides.0 h), λ e. decides.1 (law.1 (there ∙ e)))
@@ -190,7 +190,7 @@ module _ (bounded : BoundariesAreStarts) (part_keys : PartsHaveTheKeysOfClusters
 
     matches-found : matches table strength variable pattern text ≡ found keys_of_pattern cs end
     matches-found =
-        ap (λ bs. minimal (filter test (ranges_among bs))) (bounded table strength variable text is_text) ∙ minimal-found test keys_of_pattern cs end some up (tells_from test keys_of_pattern cs end splits)
+        ap (λ bs. minimal (filter test (ranges_among bs))) (bounded table strength variable text is_text) ∙ minimal-found test keys_of_pattern cs end some up (tests_from test keys_of_pattern cs end splits)
 
     settled-before_last : settled table strength variable pattern text ≡ found_before_last keys_of_pattern cs end
     settled-before_last =
@@ -204,7 +204,7 @@ pub settled-are_found : BoundariesAreStarts → PartsHaveTheKeysOfClusters → P
 settled-are_found bounded part_keys part_texts table key_law strength variable pattern text p t some =
     settled-before_last bounded part_keys part_texts table key_law strength variable pattern text p t some
 
-pub items-tell_ranges : (table : TableMap) → items_tell_ranges table
+pub items-give_ranges : (table : TableMap) → items_give_ranges table
 unfolding chars points_from ordered
-items-tell_ranges table strength variable pattern [] e = (refl, refl)
-items-tell_ranges table strength variable pattern (b ∷ bs) e = (refl, refl)
+items-give_ranges table strength variable pattern [] e = (refl, refl)
+items-give_ranges table strength variable pattern (b ∷ bs) e = (refl, refl)

@@ -8,13 +8,13 @@ use Rattle.collation_search.specs.Matches.{ranges_among, is_within, minimal}
 use Rattle.collation_search.specs.ByClusters.{found}
 use Rattle.collation_search.proofs.BridgeLists.{In, Rising, in_filter, filter_in, rising_filter, same_members}
 use Rattle.collation_search.proofs.BridgeRanges.{Below, Before, Before-asym, in_ranges, ranges_in, rising_ranges, is_within-true, is_within_from, in_minimal, minimal_in, rising_minimal}
-use Rattle.collation_search.proofs.BridgeClusters.{bound, front, keyed, in_bounds, bound_in, bound_rises, front_grows, front_keyed, front_unkeyed}
+use Rattle.collation_search.proofs.BridgeClusters.{bound, prefix, keyed, in_bounds, bound_in, bound_rises, prefix_grows, prefix_keyed, prefix_unkeyed}
 use Rattle.collation_search.proofs.BridgeFound.{Spans, in_found, found_in, rising_found, later_place}
 
 -- the test tells of a range between two boundaries whether the keys there are the pattern's
-abbrev pub Tells : (ℕ × ℕ → Bool) → List Key → List Cluster → ℕ → Type 0
-Tells test pattern cs end =
-    (i j : ℕ) → i ≤ j → j ≤ length cs → Decides (test (bound end cs i, bound end cs j)) (front cs j ≡ front cs i ++ pattern)
+abbrev pub Tests : (ℕ × ℕ → Bool) → List Key → List Cluster → ℕ → Type 0
+Tests test pattern cs end =
+    (i j : ℕ) → i ≤ j → j ≤ length cs → Decides (test (bound end cs i, bound end cs j)) (prefix cs j ≡ prefix cs i ++ pattern)
 
 -- a range between boundaries by its places
 pub record Placed (pattern : List Key) (cs : List Cluster) (end : ℕ) (r : ℕ × ℕ) : Type 0 where
@@ -22,11 +22,11 @@ pub record Placed (pattern : List Key) (cs : List Cluster) (end : ℕ) (r : ℕ 
   pub last : ℕ
   pub in_order : first ≤ last
   pub within : last ≤ length cs
-  pub fits : front cs last ≡ front cs first ++ pattern
+  pub fits : prefix cs last ≡ prefix cs first ++ pattern
   pub is : (bound end cs first, bound end cs last) ≡ r
 
 module _ (test : ℕ × ℕ → Bool) (pattern : List Key) (cs : List Cluster) (end : ℕ) (some : 0 < length pattern)
-    (up : Rising Below (starts cs ++ end ∷ [])) (tells : Tells test pattern cs end) where
+    (up : Rising Below (starts cs ++ end ∷ [])) (tested : Tests test pattern cs end) where
   abbrev bounds : List ℕ
   bounds = starts cs ++ end ∷ []
 
@@ -61,26 +61,26 @@ module _ (test : ℕ × ℕ → Bool) (pattern : List Key) (cs : List Cluster) (
         last = e.0;
         in_order = order;
         within = e.1;
-        fits = (tells s.0 e.0 order e.1).0 (ap test is ∙ k.1);
+        fits = (tested s.0 e.0 order e.1).0 (ap test is ∙ k.1);
         is = is;
       }
 
-  all_in : (i j : ℕ) → i ≤ j → j ≤ length cs → front cs j ≡ front cs i ++ pattern → In all (bound end cs i, bound end cs j)
+  all_in : (i j : ℕ) → i ≤ j → j ≤ length cs → prefix cs j ≡ prefix cs i ++ pattern → In all (bound end cs i, bound end cs j)
   all_in i j h w e =
       filter_in test (ranges_among bounds) (bound end cs i, bound end cs j)
       (ranges_in bounds (bound end cs i) (bound end cs j) (bound_in end cs i) (bound_in end cs j) (bounds_in_order i j h w))
-      ((tells i j h w).1 e)
+      ((tested i j h w).1 e)
 
-  apart : (i j : ℕ) → i < j → length (front cs j) ≤ length (front cs i) → keyed cs i ≡ true → ⊥
+  apart : (i j : ℕ) → i < j → length (prefix cs j) ≤ length (prefix cs i) → keyed cs i ≡ true → ⊥
   apart i j h e k =
-      let more = front_keyed cs i k in
-      let grows = front_grows cs (suc i) j h in
+      let more = prefix_keyed cs i k in
+      let grows = prefix_grows cs (suc i) j h in
       omega arith
 
-  longer : (i j : ℕ) → front cs j ≡ front cs i ++ pattern → i < j
+  longer : (i j : ℕ) → prefix cs j ≡ prefix cs i ++ pattern → i < j
   longer i j e =
       let lengths = ap (λ (ks : List Key). length ks) e in
-      later_place cs i j (omega (arith, some, lengths, length-append (front cs i) pattern))
+      later_place cs i j (omega (arith, some, lengths, length-append (prefix cs i) pattern))
 
   first_keyed : (r : ℕ × ℕ) → ((s : ℕ × ℕ) → In all s → is_within r s ≡ true → ⊥) → (p : Placed pattern cs end r) → keyed cs p.first ≡ true
   first_keyed r none p =
@@ -88,7 +88,7 @@ module _ (test : ℕ × ℕ → Bool) (pattern : List Key) (cs : List Cluster) (
         | inl yes' ↦ yes'
         | inr no' ↦
             let less = longer p.first p.last p.fits in
-            let inner = all_in (suc p.first) p.last less p.within (p.fits ∙ ap (λ ks. ks ++ pattern) (sym (front_unkeyed cs p.first no'))) in
+            let inner = all_in (suc p.first) p.last less p.within (p.fits ∙ ap (λ ks. ks ++ pattern) (sym (prefix_unkeyed cs p.first no'))) in
             let rises = bound_rises end cs p.first (suc p.first) up (omega arith) (omega (arith, less, p.within)) in
             let e0 : bound end cs p.first ≡ r.0 = ap (λ (q : ℕ × ℕ). q.0) p.is in
             let e1 : bound end cs p.last ≡ r.1 = ap (λ (q : ℕ × ℕ). q.1) p.is in
@@ -103,7 +103,7 @@ module _ (test : ℕ × ℕ → Bool) (pattern : List Key) (cs : List Cluster) (
         | inl yes' ↦ yes'
         | inr no' ↦
             let less = longer p.first p.last p.fits in
-            let inner = all_in p.first j (omega (arith, less, is)) (omega (arith, p.within, is)) (sym (front_unkeyed cs j no') ∙ ap (front cs) (sym is) ∙ p.fits) in
+            let inner = all_in p.first j (omega (arith, less, is)) (omega (arith, p.within, is)) (sym (prefix_unkeyed cs j no') ∙ ap (prefix cs) (sym is) ∙ p.fits) in
             let rises = bound_rises end cs j (suc j) up (omega arith) (omega (arith, is, p.within)) in
             let e0 : bound end cs p.first ≡ r.0 = ap (λ (q : ℕ × ℕ). q.0) p.is in
             let e1 : bound end cs (suc j) ≡ r.1 = ap (bound end cs) (sym is) ∙ ap (λ (q : ℕ × ℕ). q.1) p.is in
@@ -116,7 +116,7 @@ module _ (test : ℕ × ℕ → Bool) (pattern : List Key) (cs : List Cluster) (
   to_found_at r none p j is =
       let less = longer p.first p.last p.fits in
       let here = found_in pattern end cs (length cs) p.first j (omega arith) (omega (arith, less, is)) (omega (arith, p.within, is))
-      (first_keyed r none p) (last_has r none p j is) (ap (front cs) (sym is) ∙ p.fits) in
+      (first_keyed r none p) (last_has r none p j is) (ap (prefix cs) (sym is) ∙ p.fits) in
       subst (In (found pattern cs end)) (ap (λ e. (bound end cs p.first, bound end cs e)) (sym is) ∙ p.is) here
 
   predecessor : (i j : ℕ) → i < j → (k : ℕ) × (j ≡ suc k)
@@ -142,18 +142,18 @@ module _ (test : ℕ × ℕ → Bool) (pattern : List Key) (cs : List Cluster) (
       let ends = places_in_order p.last (suc s.upto) p.within (omega (arith, s1, p1, inside.1)) in
       let es = ap (λ (ks : List Key). length ks) s.fits in
       let ep = ap (λ (ks : List Key). length ks) p.fits in
-      let ls = length-append (front cs s.from) pattern in
-      let lp = length-append (front cs p.first) pattern in
-      let grows = front_grows cs p.last (suc s.upto) ends in
+      let ls = length-append (prefix cs s.from) pattern in
+      let lp = length-append (prefix cs p.first) pattern in
+      let grows = prefix_grows cs p.last (suc s.upto) ends in
       elim (cases_lt s.from p.first) [
         | inl less ↦ apart s.from p.first less (omega (arith, es, ep, ls, lp, grows)) s.from_keyed
         | inr more ↦
             let same_first : p.first ≡ s.from = omega (arith, begins, more) in
-            let lengths = ap (λ i. length (front cs i)) same_first in
+            let lengths = ap (λ i. length (prefix cs i)) same_first in
             elim (cases_lt p.last (suc s.upto)) [
               | inl less ↦
-                  let more_keys = front_keyed cs s.upto s.upto_keyed in
-                  let fewer = front_grows cs p.last s.upto (omega (arith, less)) in
+                  let more_keys = prefix_keyed cs s.upto s.upto_keyed in
+                  let fewer = prefix_grows cs p.last s.upto (omega (arith, less)) in
                   absurd (omega (arith, es, ep, ls, lp, lengths, more_keys, fewer))
               | inr further ↦
                   let same_last : p.last ≡ suc s.upto = omega (arith, ends, further) in

@@ -7,8 +7,21 @@ mod BridgeMinimal
 mod BridgeGrowing
 mod BridgeFlat
 mod BridgeMatches
-mod WalkLemmas
+pub mod WalkSteps
 mod BridgeBorder
-pub mod FrontLemmas
+mod FewRanges
+mod LagCounts
+mod LagRanges
+mod LagTexts
+mod LagLaw
+pub mod TextCheckLemmas
 pub mod WorkedRowLemmas
 pub mod SearchLemmas
+pub mod ByteLemmas
+pub mod SearchAnswers
+pub mod SearchBegins
+pub mod FeedLemmas
+pub mod MatchingLemmas
+pub mod SavingLemmas
+pub mod WorkedStateLemmas
+pub mod IndexLemmas

@@ -6,12 +6,12 @@ use Rattle.std.proofs.Common.{refl}
 use Rattle.unicode_normalization.specs.StreamSafe.{has_short_runs}
 use Rattle.unicode_normalization.proofs.Computing.{unicode_normalization}
 use Rattle.nfd_points.specs.Points.{byte_len, points_at, points_from, is_reorderable, is_in_order, sink, ordered}
-use Rattle.nfd_points.specs.PointFaults.{run_after, fault_at, fault_from}
-use Rattle.collation_search.specs.WorkedRows.{OverlappingLetters, ComposedPrimary, ComposedSecondary, DecomposedPrimary, DecomposedSecondary, InsideContraction, HyphenShifted, HyphenKept, SoftHyphen, Discontiguous, DiscontiguousSecondary, BlockedAccent, BlockedBase, AccentBefore, BadByte, CutCharacter}
+use Rattle.nfd_points.specs.PointFaults.{run_after, fault_of_code_point, fault_from}
+use Rattle.collation_search.specs.WorkedRows.{OverlappingLetters, ComposedPrimary, ComposedSecondary, DecomposedPrimary, DecomposedSecondary, InsideContraction, HyphenShifted, HyphenKept, SoftHyphen, Discontiguous, DiscontiguousSecondary, BlockedAccent, BlockedBase, AccentBefore, BadByte, IncompleteSequence}
 
 -- `unfolding rows` lets `refl` compute a row
 unfoldable rows : Unit {0}
-unfolding unicode_normalization has_short_runs byte_len points_at points_from is_reorderable is_in_order sink ordered run_after fault_at fault_from chars encode_utf8 is_utf8 utf8_valid_len utf8_error_len
+unfolding unicode_normalization has_short_runs byte_len points_at points_from is_reorderable is_in_order sink ordered run_after fault_of_code_point fault_from chars encode_utf8 is_utf8 utf8_valid_len utf8_error_len
 rows = tt
 
 pub overlapping_letters_lem : OverlappingLetters
@@ -74,6 +74,6 @@ pub bad_byte_lem : BadByte
 unfolding rows
 bad_byte_lem = refl
 
-pub cut_character_lem : CutCharacter
+pub incomplete_sequence_lem : IncompleteSequence
 unfolding rows
-cut_character_lem = refl
+incomplete_sequence_lem = refl

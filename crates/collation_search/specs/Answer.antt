@@ -5,7 +5,7 @@ use Rattle.collation_elements.specs.declared.settings.Variable.{Variable}
 use Rattle.collation_elements.specs.declared.settings.Strength.{Strength}
 use Rattle.collation_search.specs.Matches.{matches, settled}
 use Rattle.collation_search.specs.declared.faults.TextFault.{TextFault}
-use Rattle.collation_search.specs.GoodFront.{fault, front}
+use Rattle.collation_search.specs.GoodPrefix.{fault, good_prefix}
 
 -- the ranges that are handed out, and the fault that ends them
 pub record Answer : Type 0 where
@@ -17,7 +17,7 @@ abbrev pub answer_at : TableMap → Strength → Variable → List ℕ → List 
 answer_at table strength variable pattern bytes None =
     record { ranges = matches table strength variable pattern bytes; fault = None }
 answer_at table strength variable pattern bytes (Some at) =
-    record { ranges = settled table strength variable pattern (front bytes); fault = Some at }
+    record { ranges = settled table strength variable pattern (good_prefix bytes); fault = Some at }
 
 abbrev pub answer : TableMap → Strength → Variable → List ℕ → List ℕ → Answer
 answer table strength variable pattern bytes = answer_at table strength variable pattern bytes (fault bytes)

@@ -12,7 +12,6 @@ use Rattle.collation_elements.specs.Items.{items}
 use Rattle.collation_elements.specs.declared.keys.Key.{Key}
 use Rattle.collation_elements.specs.Clusters.{Cluster, start_or, joined}
 use Rattle.collation_pattern.specs.Border.{same_keys}
-use Rattle.collation_search.specs.declared.by_clusters.PlacedKey.{PlacedKey}
 
 -- the items of a text of bytes
 abbrev pub text_items : TableMap → Strength → Variable → List ℕ → List Item
@@ -56,7 +55,13 @@ found pattern cs end = found_within pattern cs end (length cs)
 abbrev pub found_before_last : List Key → List Cluster → ℕ → List (ℕ × ℕ)
 found_before_last pattern cs end = found_within pattern cs end (length cs - 1)
 
--- ---- the same, by the flat list of keys, each with the place where its cluster starts
+-- ---- the same, by the flat list of keys
+
+-- a key, where its cluster starts, and whether it is the first of its cluster
+pub record PlacedKey : Type 0 where
+  pub key : Key
+  pub start : ℕ
+  pub is_first : Bool
 
 abbrev pub placed_at : ℕ → Bool → List Key → List PlacedKey
 placed_at start is_first [] = []
@@ -71,7 +76,7 @@ abbrev pub range_from : List PlacedKey → ℕ → List (ℕ × ℕ)
 range_from [] end = []
 range_from (k ∷ ks) end = let range = (k.start, end) ∷ [] in if k.is_first then range else []
 
--- The range that ends behind these keys: their last ones, as many as the pattern has, are the pattern's, and the first of
+-- The range that ends after these keys: their last ones, as many as the pattern has, are the pattern's, and the first of
 -- these is the first of its cluster.
 abbrev pub ended_by_keys : List Key → List PlacedKey → ℕ → List (ℕ × ℕ)
 ended_by_keys pattern ks end =

@@ -11,7 +11,7 @@ use Rattle.collation_elements.specs.declared.settings.Strength.{Strength}
 use Rattle.collation_elements.specs.Clusters.{clusters, clusters_of}
 use Rattle.collation_pattern.specs.Levels.{text_keys}
 use Rattle.collation_pattern.specs.Border.{border}
-use Rattle.collation_search.specs.declared.by_clusters.PlacedKey.{PlacedKey}
+use Rattle.collation_search.specs.ByClusters.{PlacedKey}
 use Rattle.collation_search.specs.Matches.{ranges_among, minimal, matches, settled}
 use Rattle.collation_search.specs.ByClusters.{last_has_keys, ended, found, found_before_last, placed, range_from, ended_by_keys, text_items}
 
@@ -35,7 +35,7 @@ one_cluster_more =
 abbrev pub one_range_ends : Type 0
 one_range_ends = (pattern : List Key) (cs : List Cluster) (end : ℕ) → length (ended pattern cs end) ≤ 1
 
--- Those that end with the clusters but the last one are those of the clusters in front of it.
+-- Those that end with the clusters but the last one are those of the clusters before it.
 abbrev pub last_cluster_left_out : Type 0
 last_cluster_left_out =
     (pattern : List Key) (cs : List Cluster) (c : Cluster) (end : ℕ) →
@@ -47,15 +47,15 @@ found_ranges_stay =
     (pattern : List Key) (cs : List Cluster) (c : Cluster) (following : List Cluster) (end : ℕ) →
     (rest : List (ℕ × ℕ)) × (found pattern (cs ++ c ∷ following) end ≡ found pattern cs c.start ++ rest)
 
--- Where the last cluster has keys, the range that ends with it is told by the last keys and where they stand.
-abbrev pub last_keys_tell : Type 0
-last_keys_tell =
+-- Where the last cluster has keys, the range that ends with it is decided by the last keys and where they stand.
+abbrev pub last_keys_decide : Type 0
+last_keys_decide =
     (pattern : List Key) (cs : List Cluster) (end : ℕ) →
     last_has_keys cs ≡ true → ended pattern cs end ≡ ended_by_keys pattern (placed cs) end
 
--- The last keys are the pattern's exactly where the whole pattern is the longest front of it that ends the keys.
-abbrev pub border_tells : Type 0
-border_tells =
+-- The last keys are the pattern's exactly where the whole pattern is the longest prefix of it that ends the keys.
+abbrev pub border_decides : Type 0
+border_decides =
     (pattern : List Key) (ks : List PlacedKey) (end : ℕ) →
     ended_by_keys pattern ks end
     ≡ (let state = border pattern (map (λ k. k.key) ks) in
@@ -72,8 +72,8 @@ matches_are_found table =
     ≡ found (text_keys table strength variable pattern) (clusters table strength variable text) (length text)
 
 -- The clusters of a text may be read off its items, which for the empty text gives one cluster without keys.
-abbrev pub items_tell_ranges : TableMap → Type 0
-items_tell_ranges table =
+abbrev pub items_give_ranges : TableMap → Type 0
+items_give_ranges table =
     (strength : Strength) (variable : Variable) (pattern : List Key) (text : List ℕ) (end : ℕ) →
     (found pattern (clusters table strength variable text) end ≡ found pattern (clusters_of (text_items table strength variable text)) end)
     × (found_before_last pattern (clusters table strength variable text) end

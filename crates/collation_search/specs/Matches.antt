@@ -5,7 +5,7 @@ use Rattle.collation_table.specs.Table.{TableMap}
 use Rattle.collation_elements.specs.declared.settings.Variable.{Variable}
 use Rattle.collation_elements.specs.declared.settings.Strength.{Strength}
 use Rattle.collation_elements.specs.Boundaries.{boundaries}
-use Rattle.collation_pattern.specs.SortKey.{text_key}
+use Rattle.collation_pattern.specs.SortKey.{text_sort_key}
 
 -- all pairs (start, end) of these offsets, no start after its end
 abbrev pub ranges_among : List ℕ → List (ℕ × ℕ)
@@ -16,9 +16,9 @@ abbrev pub part : List ℕ → ℕ × ℕ → List ℕ
 part text range = take (range.1 - range.0) (drop range.0 text)
 
 -- the ranges between boundaries whose text, taken by itself, has this sort key
-abbrev pub ranges_with_key : TableMap → Strength → Variable → List ℕ → List ℕ → List (ℕ × ℕ)
-ranges_with_key table strength variable key text =
-    filter (λ range. bytes_eq (text_key table strength variable (part text range)) key) (ranges_among (boundaries table text))
+abbrev pub ranges_with_sort_key : TableMap → Strength → Variable → List ℕ → List ℕ → List (ℕ × ℕ)
+ranges_with_sort_key table strength variable sort_key text =
+    filter (λ range. bytes_eq (text_sort_key table strength variable (part text range)) sort_key) (ranges_among (boundaries table text))
 
 -- the second range lies within the first one and is another
 abbrev pub is_within : ℕ × ℕ → ℕ × ℕ → Bool
@@ -32,7 +32,7 @@ minimal ranges = filter (λ range. not (list_any (is_within range) ranges)) rang
 -- the minimal matches of a pattern in a text, by rising start
 abbrev pub matches : TableMap → Strength → Variable → List ℕ → List ℕ → List (ℕ × ℕ)
 matches table strength variable pattern text =
-    let key = text_key table strength variable pattern in minimal (ranges_with_key table strength variable key text)
+    let sort_key = text_sort_key table strength variable pattern in minimal (ranges_with_sort_key table strength variable sort_key text)
 
 -- Those that end before the end of the text. They are handed out where a text counts as ended, as at a fault. Of a text that
 -- goes on they need not be matches: a longer contraction across the old end may take a boundary away.

@@ -1,17 +1,28 @@
--- What a walk over some items of a text holds: the ranges that end with the clusters that have ended, and the keys so far.
-use Rattle.std.specs.Prelude.{◌≡◌, List, [], ◌∷◌, ◌++◌}
+-- What a walk over some items of a text stands for: the ranges that end with the clusters that have ended, and where the last keys stand.
+use Rattle.std.specs.Prelude.{◌≡◌, ℕ, List, [], ◌∷◌, ◌++◌, length, map}
+use Rattle.circular_buffer.specs.Buffer.{keep_last}
 use Rattle.collation_elements.specs.declared.keys.Key.{Key}
 use Rattle.collation_elements.specs.declared.keys.Item.{Item}
 use Rattle.collation_elements.specs.Clusters.{Cluster, clusters_from}
-use Rattle.collation_search.specs.declared.by_clusters.Walk.{Walk}
+use Rattle.collation_pattern.specs.Border.{border}
+use Rattle.collation_search.specs.ByClusters.{PlacedKey}
+use Rattle.collation_search.specs.declared.walk.KeyPlace.{KeyPlace}
+use Rattle.collation_search.specs.declared.walk.Walk.{Walk}
 use Rattle.collation_search.specs.ByClusters.{text_begin, has_keys, found, placed}
 
--- With any items that follow, the clusters are those `before`, which have ended, and those from the current one on.
-pub record HasWalked (pattern : List Key) (items : List Item) (walk : Walk) : Type 0 where
+-- where a key stands, without the key
+abbrev pub place_of : PlacedKey → KeyPlace
+place_of k = record { start = k.start; is_first = k.is_first }
+
+-- A walk over these items by this pattern, which has handed out these ranges: with any items that follow, the clusters are
+-- those `before`, which have ended, and those from the current one on. The ranges are those that end with one of the former.
+pub record WalksOver (pattern : List Key) (items : List Item) (ranges : List (ℕ × ℕ)) (walk : Walk) : Type 0 where
   pub before : List Cluster
   pub current : Cluster
   pub clusters : (rest : List Item) → clusters_from text_begin (items ++ rest) ≡ before ++ clusters_from current rest
   pub start : walk.start ≡ current.start
   pub has_keys : walk.has_keys ≡ Rattle.collation_search.specs.ByClusters.has_keys current
-  pub keys : walk.keys.items ≡ placed (before ++ current ∷ [])
-  pub ranges : walk.ranges.items ≡ found pattern before current.start
+  pub state : walk.state ≡ border pattern (map (λ k. k.key) (placed (before ++ current ∷ [])))
+  pub capacity : walk.places.capacity ≡ length pattern
+  pub places : walk.places.items ≡ keep_last (length pattern) (map place_of (placed (before ++ current ∷ [])))
+  pub handed_out : ranges ≡ found pattern before current.start

@@ -4,7 +4,7 @@ use Rattle.collation_elements.specs.declared.settings.Variable.TheVariants.{NonI
 use Rattle.collation_elements.specs.declared.settings.Strength.TheVariants.{One, Two, Three}
 use Rattle.collation_search.specs.Matches.{matches}
 use Rattle.collation_search.specs.Answer.{answer}
-use Rattle.collation_search.specs.WorkedTable.{worked_table}
+use Rattle.collation_elements.specs.WorkedTable.{worked_table}
 
 -- UTF-8 of U+00E9, U+00FA, U+0300, U+0301, U+0327
 abbrev pub e_acute : List ℕ
@@ -58,7 +58,7 @@ HyphenKept = matches worked_table Three NonIgnorable (codes "ab") (codes "a - b"
 abbrev pub SoftHyphen : Type 0
 SoftHyphen = matches worked_table Three NonIgnorable (codes "a") (0x61 ∷ 0xC2 ∷ 0xAD ∷ []) ≡ (0, 3) ∷ []
 
--- U+00FA at strength one in `u` U+0327 U+0301: a contraction that is not contiguous
+-- U+00FA at strength one in `u` U+0327 U+0301: a discontiguous contraction
 abbrev pub Discontiguous : Type 0
 Discontiguous = matches worked_table One NonIgnorable (u_acute) (0x75 ∷ cedilla ++ acute) ≡ (0, 5) ∷ []
 
@@ -83,5 +83,5 @@ abbrev pub BadByte : Type 0
 BadByte = answer worked_table Three NonIgnorable (codes "a") (codes "ab " ++ 0xFF ∷ []) ≡ record { ranges = (0, 1) ∷ []; fault = Some (record { kind = 31; offset = 3 }) }
 
 -- `b` in `ab` and the byte c3: the match that ends at the fault is not handed out
-abbrev pub CutCharacter : Type 0
-CutCharacter = answer worked_table Three NonIgnorable (codes "b") (codes "ab" ++ 0xC3 ∷ []) ≡ record { ranges = []; fault = Some (record { kind = 31; offset = 2 }) }
+abbrev pub IncompleteSequence : Type 0
+IncompleteSequence = answer worked_table Three NonIgnorable (codes "b") (codes "ab" ++ 0xC3 ∷ []) ≡ record { ranges = []; fault = Some (record { kind = 31; offset = 2 }) }

@@ -1,21 +1,39 @@
 //! The search: minimal matches of a pattern in a text (UTS #10, section 11).
 //!
-//! It stands on `collation_pattern` (patterns and the law that keys decide what sort keys decide), `collation_elements`
-//! (the items of a text), `nfd_points` and `utf8_cut` (where a text is good), and `collation_table`. [`answer_of`] answers a
-//! text that is held whole, [`FrontCheck`] tells the first fault of one that comes in pieces.
+//! A [`Search`] takes a text in pieces of any size and hands out each match as soon as it is known: [`Search::feed`] takes a
+//! piece, [`Search::step`] one byte, [`Search::finish`] ends the text, [`Search::stop`] gives it up. It holds what the layers
+//! below hold of the text's end and the places of the last keys, as many as the pattern has, and nothing that grows with the
+//! text. What it hands out is, in order, the answer of `specs/Answer.antt`: the minimal matches by equal sort keys or, up to
+//! the first fault, the settled ones.
+//!
+//! It stands on `collation_pattern` (patterns, their borders, and the law that keys decide what sort keys decide),
+//! `collation_elements` (windows, units, items), `nfd_points` and `utf8_cut` (where a text is good), and `collation_table`.
+//! [`Search::save`] gives what a search holds as words; which words are a state stands in `specs/StateTests.antt`, with worked
+//! rows in [`worked_states`].
 #![tactic(auto)]
 
 mod bridge;
-mod by_clusters;
 mod faults;
-mod front_check;
+mod feed;
+mod few_ranges;
+mod finder;
+mod indexing;
+mod lag;
+mod matching;
+mod saving;
+mod search;
+#[cfg(test)]
+mod state_tests;
 #[cfg(test)]
 mod tests;
-mod whole_text;
+mod walk;
 pub mod worked;
+pub mod worked_states;
 
 pub use crate::bridge::{growing_text, last_keys, matches_by_clusters, minimal_ranges};
-pub use crate::by_clusters::ranges_by_clusters;
 pub use crate::faults::TextFault;
-pub use crate::front_check::{FrontCheck, MOST_BYTES};
-pub use crate::whole_text::{Answered, answer_of, settled_of};
+pub use crate::few_ranges::one_range_begins_at_an_offset;
+pub use crate::indexing::index;
+pub use crate::lag::{answers_in_time, matches_in_time, ranges_in_time};
+pub use crate::matching::{Found, MOST_FOUND};
+pub use crate::search::{MOST_BYTES, Search};

@@ -1,8 +1,16 @@
 //! What no clause says: that the walk over a text succeeds where memory is there, the printed fault, and worked texts.
 
-use crate::{TextFault, ranges_by_clusters};
-use collation_elements::{Item, Key};
+use crate::TextFault;
+use crate::walk::Walk;
+use collation_elements::{Item, Key, Strength, Variable};
+use collation_pattern::Pattern;
+use collation_table::Table;
 use std::test::Fail;
+
+mod first_ranges;
+mod long_texts;
+mod pieces;
+mod searches;
 
 const A: Item = Item::Element(Key::Primary(0x1C00, 0x20, 2));
 
@@ -12,59 +20,27 @@ const A_KEY: Key = Key::Primary(0x1C00, 0x20, 2);
 
 const B_KEY: Key = Key::Primary(0x1C10, 0x20, 2);
 
-#[test]
-fn matches_that_overlap(rt: HostRuntime) -> Result<(), Fail> {
-    let items = [
-        Item::ClusterStart(0),
-        A,
-        Item::ClusterStart(1),
-        A,
-        Item::ClusterStart(2),
-        A,
-    ];
-    let ranges = ranges_by_clusters(rt.alloc(), &items, 3, &[A_KEY, A_KEY])?;
-    assert_eq!(rt; ranges.len(), 2);
-    assert_eq!(rt; ranges[0], (0, 2));
-    assert_eq!(rt; ranges[1], (1, 3));
-    Ok(())
-}
-
-#[test]
-fn clusters_without_keys(rt: HostRuntime) -> Result<(), Fail> {
-    // a space, `a`, a hyphen, `b` and a space, of which the first, third and fifth are ignorable
-    let items = [
-        Item::ClusterStart(0),
-        Item::ClusterStart(1),
-        A,
-        Item::ClusterStart(2),
-        Item::ClusterStart(3),
-        B,
-        Item::ClusterStart(4),
-    ];
-    let ranges = ranges_by_clusters(rt.alloc(), &items, 5, &[A_KEY, B_KEY])?;
-    assert_eq!(rt; ranges.len(), 1);
-    assert_eq!(rt; ranges[0], (1, 4));
-    Ok(())
-}
-
-#[test]
-fn text_without_items(rt: HostRuntime) -> Result<(), Fail> {
-    let ranges = ranges_by_clusters(rt.alloc(), &[], 0, &[A_KEY])?;
-    assert_eq!(rt; ranges.len(), 0);
-    Ok(())
-}
-
 /// No clause says that the walk gives up for want of memory alone, and not for the length of a text.
+/// `aa` in `aaa` and a soft hyphen, which has no keys.
 #[test]
-fn keys_beyond_sixteen_bits(rt: HostRuntime) -> Result<(), Fail> {
-    let mut items = Vec::new(rt.alloc());
-    for start in 0..70_000u64 {
-        items.push(Item::ClusterStart(start))?;
-        items.push(A)?;
-    }
-    let ranges = ranges_by_clusters(rt.alloc(), items.as_slice(), 70_000, &[A_KEY, A_KEY])?;
-    assert_eq!(rt; ranges.len(), 69_999);
-    assert_eq!(rt; ranges[69_998], (69_998, 70_000));
+fn walk_hands_out_a_range_where_its_last_cluster_ends(rt: HostRuntime) -> Result<(), Fail> {
+    let table = Table::read(
+        rt.alloc(),
+        "@version 0.0.0\n0061 ; [.1C00.0020.0002]\n".as_bytes(),
+    )?;
+    let (strength, variable) = (Strength::Three, Variable::NonIgnorable);
+    let pattern = Pattern::compile(rt.alloc(), &table, "aa", strength, variable)?;
+    let mut walk = Walk::new(rt.alloc(), &pattern)?;
+    assert_eq!(rt; walk.take(&pattern, Item::ClusterStart(0)), None);
+    assert_eq!(rt; walk.take(&pattern, A), None);
+    assert_eq!(rt; walk.end(&pattern, 1), None);
+    assert_eq!(rt; walk.take(&pattern, Item::ClusterStart(1)), None);
+    assert_eq!(rt; walk.take(&pattern, A), None);
+    assert_eq!(rt; walk.take(&pattern, Item::ClusterStart(2)), Some((0, 2)));
+    assert_eq!(rt; walk.take(&pattern, A), None);
+    assert_eq!(rt; walk.end(&pattern, 3), Some((1, 3)));
+    assert_eq!(rt; walk.take(&pattern, Item::ClusterStart(3)), Some((1, 3)));
+    assert_eq!(rt; walk.end(&pattern, 5), None);
     Ok(())
 }
 

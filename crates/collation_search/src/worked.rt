@@ -1,6 +1,6 @@
 //! Worked rows: small texts whose matches the definitions give, one row a function, proved by computing.
 
-ghost use Rattle.collation_search.specs.WorkedRows.{OverlappingLetters, ComposedPrimary, ComposedSecondary, DecomposedPrimary, DecomposedSecondary, InsideContraction, HyphenShifted, HyphenKept, SoftHyphen, Discontiguous, DiscontiguousSecondary, BlockedAccent, BlockedBase, AccentBefore, BadByte, CutCharacter};
+ghost use Rattle.collation_search.specs.WorkedRows.{OverlappingLetters, ComposedPrimary, ComposedSecondary, DecomposedPrimary, DecomposedSecondary, InsideContraction, HyphenShifted, HyphenKept, SoftHyphen, Discontiguous, DiscontiguousSecondary, BlockedAccent, BlockedBase, AccentBefore, BadByte, IncompleteSequence};
 
 /// `aa` in `aaa`: ranges that overlap are all found.
 pub fn overlapping_letters()
@@ -47,7 +47,7 @@ pub fn soft_hyphen()
     ensures { SoftHyphen }
 {}
 
-/// U+00FA at strength one in `u` U+0327 U+0301: a contraction that is not contiguous.
+/// U+00FA at strength one in `u` U+0327 U+0301: a discontiguous contraction.
 pub fn discontiguous()
     ensures { Discontiguous }
 {}
@@ -78,6 +78,6 @@ pub fn bad_byte()
 {}
 
 /// `b` in `ab` and the byte c3: the match that ends at the fault is not handed out.
-pub fn cut_character()
-    ensures { CutCharacter }
+pub fn incomplete_sequence()
+    ensures { IncompleteSequence }
 {}

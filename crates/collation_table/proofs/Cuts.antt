@@ -12,9 +12,9 @@ abbrev pub parts : ℕ → List ℕ → List (List ℕ)
 parts c bytes = slice_split (λ b. eqb b c) bytes
 
 -- a list is cut in two at its first c
-pub record IsCut (c : ℕ) (bytes front behind : List ℕ) : Type 0 where
-  pub parts_are : parts c bytes ≡ front ∷ parts c behind
-  pub shorter : length behind < length bytes
+pub record IsCut (c : ℕ) (bytes prefix following : List ℕ) : Type 0 where
+  pub parts_are : parts c bytes ≡ prefix ∷ parts c following
+  pub shorter : length following < length bytes
 
 abbrev place : ℕ → List ℕ → ℕ
 place c bytes = position_or_len (λ b. eqb b c) bytes
@@ -22,20 +22,20 @@ place c bytes = position_or_len (λ b. eqb b c) bytes
 abbrev halves : List ℕ → ℕ → List ℕ × List ℕ
 halves bytes i = (take i bytes, drop (i + 1) bytes)
 
-cut_by : (t : Bool) (c : ℕ) (bytes front behind : List ℕ) → ltb (place c bytes) (length bytes) ≡ t → option_map (halves bytes) (cond t (Some (place c bytes)) None) ≡ Some (front, behind) → IsCut c bytes front behind
-cut_by true c bytes front behind h e =
-    let two = some_pair_parts (take (place c bytes) bytes) front (drop (place c bytes + 1) bytes) behind e in
+cut_by : (t : Bool) (c : ℕ) (bytes prefix following : List ℕ) → ltb (place c bytes) (length bytes) ≡ t → option_map (halves bytes) (cond t (Some (place c bytes)) None) ≡ Some (prefix, following) → IsCut c bytes prefix following
+cut_by true c bytes prefix following h e =
+    let two = some_pair_parts (take (place c bytes) bytes) prefix (drop (place c bytes + 1) bytes) following e in
     let within = ltb-true (place c bytes) (length bytes) h in
     let first = slice_split_first (λ b. eqb b c) bytes 0 within in
     record {
-      parts_are = first ∙ ap (λ x. x ∷ parts c (drop (place c bytes + 1) bytes)) two.0 ∙ ap (λ y. front ∷ parts c y) two.1;
+      parts_are = first ∙ ap (λ x. x ∷ parts c (drop (place c bytes + 1) bytes)) two.0 ∙ ap (λ y. prefix ∷ parts c y) two.1;
       shorter = omega (arith, length-drop (place c bytes + 1) bytes, ap length two.1);
     }
-cut_by false c bytes front behind h e = absurd (none-some (front, behind) e)
+cut_by false c bytes prefix following h e = absurd (none-some (prefix, following) e)
 
 -- what a cut gives
-pub IsCut-from_some : (c : ℕ) (bytes front behind : List ℕ) → split_once c bytes ≡ Some (front, behind) → IsCut c bytes front behind
-IsCut-from_some c bytes front behind e = cut_by (ltb (place c bytes) (length bytes)) c bytes front behind refl e
+pub IsCut-from_some : (c : ℕ) (bytes prefix following : List ℕ) → split_once c bytes ≡ Some (prefix, following) → IsCut c bytes prefix following
+IsCut-from_some c bytes prefix following e = cut_by (ltb (place c bytes) (length bytes)) c bytes prefix following refl e
 
 uncut_by : (t : Bool) (c : ℕ) (bytes : List ℕ) → ltb (place c bytes) (length bytes) ≡ t → option_map (halves bytes) (cond t (Some (place c bytes)) None) ≡ None → parts c bytes ≡ bytes ∷ []
 uncut_by true c bytes h e = absurd (none-some (halves bytes (place c bytes)) (sym e))

@@ -1,46 +1,12 @@
 -- What a pass over the rows finds of the elements of the whole table.
-use Rattle.std.proofs.Common.{◌≡◌, ℕ, min, max, Bool, true, false, not, ◌&&◌, ◌||◌, cond, List, [], ◌∷◌, length, map, Option, Some, None, fold, refl, sym, ap, ◌∙◌, arith, Vec, nat_le, flat_map}
+use Rattle.std.proofs.Common.{◌≡◌, ℕ, min, max, Bool, true, false, not, ◌&&◌, ◌||◌, cond, List, [], ◌∷◌, Option, Some, None, fold, refl, sym, ap, ◌∙◌, arith, nat_le}
 use Rattle.std.proofs.lemmas.Bool.Decides.{nat_tests}
 use Rattle.std.proofs.Math.Bool.{and-false, or-false, or_assoc}
-use Rattle.std.proofs.lemmas.List.Folds.{list_any-append}
-use Rattle.std.proofs.lemmas.List.Sums.{fold-append}
 use Rattle.std.specs.List.{list_any}
 use Rattle.collation_table.specs.declared.elements.Element.{Element}
-use Rattle.collation_table.specs.Entries.{rows_of}
 use Rattle.collation_table.specs.Table.{TableMap, greatest}
-use Rattle.collation_table.specs.WellFormed.{elements, is_primary, is_secondary, is_tertiary, breaks_wf2, breaks_wf4}
+use Rattle.collation_table.specs.WellFormed.{table_elements, is_primary, is_secondary, is_tertiary, breaks_wf2, breaks_wf4}
 use Rattle.collation_table.specs.Bounds.{higher_second, higher_third, span_with, wider_span, is_too_light, is_within_span}
-
--- a fold row by row is the fold over the elements of all rows
-pub fold-elements : {A B : Type 0} (f : B → Element → B) (b : B) (es : List (Vec ℕ A × Vec Element A))
-    → fold (λ a v. fold f a v.items) b (map (λ e. e.1) es) ≡ fold f b (flat_map (λ row. row.1) (rows_of es))
-fold-elements f b [] = refl
-fold-elements f b (e ∷ es) = fold-elements f (fold f b e.1.items) es ∙ sym (fold-append f b e.1.items (flat_map (λ row. row.1) (rows_of es)))
-
--- a test of some element row by row is the test over the elements of all rows
-pub list_any-elements : {A : Type 0} (p : Element → Bool) (es : List (Vec ℕ A × Vec Element A))
-    → list_any (λ v. list_any p v.items) (map (λ e. e.1) es) ≡ list_any p (flat_map (λ row. row.1) (rows_of es))
-list_any-elements p [] = refl
-list_any-elements p (e ∷ es) =
-    ap (λ b. list_any p e.1.items || b) (list_any-elements p es) ∙ sym (list_any-append p e.1.items (flat_map (λ row. row.1) (rows_of es)))
-
--- the same of the keys
-pub list_any-keys : {A : Type 0} (q : List ℕ → Bool) (es : List (Vec ℕ A × Vec Element A)) → list_any (λ k. q k.items) (map (λ e. e.0) es) ≡ list_any (λ row. q row.0) (rows_of es)
-list_any-keys q [] = refl
-list_any-keys q (e ∷ es) = ap (λ b. q e.0.items || b) (list_any-keys q es)
-
--- ---- the greatest of some numbers
-
-max_assoc : (a b c : ℕ) → max (max a b) c ≡ max a (max b c)
-max_assoc a b c = omega arith
-
-pub fold_max-keys : {A : Type 0} (m : ℕ) (es : List (Vec ℕ A × Vec Element A)) → fold (λ most k. max most (length k.items)) m (map (λ e. e.0) es) ≡ max m (greatest (map (λ row. length row.0) (rows_of es)))
-fold_max-keys m [] = omega arith
-fold_max-keys m (e ∷ es) = fold_max-keys (max m (length e.0.items)) es ∙ max_assoc m (length e.0.items) (greatest (map (λ row. length row.0) (rows_of es)))
-
-pub fold_max-values : {A : Type 0} (m : ℕ) (es : List (Vec ℕ A × Vec Element A)) → fold (λ most v. max most (length v.items)) m (map (λ e. e.1) es) ≡ max m (greatest (map (λ row. length row.1) (rows_of es)))
-fold_max-values m [] = omega arith
-fold_max-values m (e ∷ es) = fold_max-values (max m (length e.1.items)) es ∙ max_assoc m (length e.1.items) (greatest (map (λ row. length row.1) (rows_of es)))
 
 -- ---- WF2 by two bounds
 
@@ -80,8 +46,8 @@ le_fold kind weight x m (e ∷ es) =
     ∙ ap (λ b. b || list_any (λ p. kind p && nat_le x (weight p)) es) (le_step x m (weight e) (kind e))
     ∙ or_assoc (nat_le x m) (kind e && nat_le x (weight e)) (list_any (λ p. kind p && nat_le x (weight p)) es)
 
-pub breaks_wf2-by_bounds : (T : TableMap) → breaks_wf2 T ≡ list_any (is_too_light (fold higher_second 0x20 (elements T)) (fold higher_third 2 (elements T))) (elements T)
-breaks_wf2-by_bounds T = by (elements T)
+pub breaks_wf2-by_bounds : (T : TableMap) → breaks_wf2 T ≡ list_any (is_too_light (fold higher_second 0x20 (table_elements T)) (fold higher_third 2 (table_elements T))) (table_elements T)
+breaks_wf2-by_bounds T = by (table_elements T)
   where
     by : (es : List Element)
         → (list_any (λ s. is_secondary s && (nat_le s.w2 0x20 || list_any (λ p. is_primary p && nat_le s.w2 p.w2) es)) es
@@ -138,15 +104,15 @@ wf4_by_span span es is =
     ap (λ b. is_primary p && not p.is_variable && b && list_any (λ v. v.is_variable && nat_le p.w1 v.w1) es) (sym (above_fold p.w1 None es) ∙ ap (λ s. at_or_above s p.w1) is)
     ∙ ap (λ b. is_primary p && not p.is_variable && at_or_above span p.w1 && b) (sym (below_fold p.w1 None es) ∙ ap (λ s. at_or_below s p.w1) is)) es
 
-pub breaks_wf4-by_span : (T : TableMap) (least greatest : ℕ) → fold wider_span None (elements T) ≡ Some (least, greatest) → breaks_wf4 T ≡ list_any (is_within_span least greatest) (elements T)
+pub breaks_wf4-by_span : (T : TableMap) (least greatest : ℕ) → fold wider_span None (table_elements T) ≡ Some (least, greatest) → breaks_wf4 T ≡ list_any (is_within_span least greatest) (table_elements T)
 unfolding at_or_above at_or_below
-breaks_wf4-by_span T least greatest is = wf4_by_span (Some (least, greatest)) (elements T) is
+breaks_wf4-by_span T least greatest is = wf4_by_span (Some (least, greatest)) (table_elements T) is
 
 none_passes : (p : Element → Bool) → ((e : Element) → p e ≡ false) → (es : List Element) → list_any p es ≡ false
 none_passes p fails [] = refl
 none_passes p fails (e ∷ es) = ap (λ b. b || list_any p es) (fails e) ∙ none_passes p fails es
 
-pub breaks_wf4-no_variable : (T : TableMap) → fold wider_span None (elements T) ≡ None → breaks_wf4 T ≡ false
+pub breaks_wf4-no_variable : (T : TableMap) → fold wider_span None (table_elements T) ≡ None → breaks_wf4 T ≡ false
 unfolding at_or_above at_or_below
 breaks_wf4-no_variable T is =
-    wf4_by_span None (elements T) is ∙ none_passes _ (λ p. and-false (is_primary p && not p.is_variable && false)) (elements T)
+    wf4_by_span None (table_elements T) is ∙ none_passes _ (λ p. and-false (is_primary p && not p.is_variable && false)) (table_elements T)

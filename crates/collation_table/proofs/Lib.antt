@@ -1,10 +1,13 @@
 pub mod Cuts
 pub mod ElementLemmas
 pub mod FileFaults
+pub mod IndexLemmas
 pub mod LinesOfFile
+pub mod PageLemmas
 pub mod Parsed
 pub mod RangeLemmas
 pub mod RowLemmas
 pub mod StarterLemmas
 pub mod TableLemmas
+pub mod TrieLemmas
 pub mod WorkedTables

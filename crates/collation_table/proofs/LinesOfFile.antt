@@ -1,4 +1,4 @@
--- The first line of a file, and the lines behind it.
+-- The first line of a file, and the lines after it.
 use Rattle.std.proofs.Common.{◌≡◌, ℕ, ◌<◌, cond, List, [], ◌∷◌, length, Some, None, refl, sym, ap, ◌∙◌, subst, arith}
 use Rattle.std.proofs.lemmas.Bool.{ne_eqb}
 use Rattle.std.specs.Str.Lines.{lines, lines_of_parts, strip_carriage_return}
@@ -11,10 +11,10 @@ lines_of_parts-cons line ps first more e =
     let P : List (List ℕ) → Type 0 = λ qs. lines_of_parts (line ∷ qs) ≡ strip_carriage_return line ∷ lines_of_parts qs in
     subst P (sym e) refl
 
-pub lines-cut : (bytes line behind : List ℕ) → split_once 10 bytes ≡ Some (line, behind) → lines bytes ≡ strip_carriage_return line ∷ lines behind
-lines-cut bytes line behind e =
-    let some = some_part 10 behind in
-    ap lines_of_parts (IsCut-from_some 10 bytes line behind e).parts_are ∙ lines_of_parts-cons line (parts 10 behind) some.0 some.1 some.2
+pub lines-cut : (bytes line following : List ℕ) → split_once 10 bytes ≡ Some (line, following) → lines bytes ≡ strip_carriage_return line ∷ lines following
+lines-cut bytes line following e =
+    let some = some_part 10 following in
+    ap lines_of_parts (IsCut-from_some 10 bytes line following e).parts_are ∙ lines_of_parts-cons line (parts 10 following) some.0 some.1 some.2
 
 -- a last line with no end
 last_of : (line : List ℕ) → 0 < length line → lines_of_parts (line ∷ []) ≡ line ∷ []

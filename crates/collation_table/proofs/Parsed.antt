@@ -3,10 +3,10 @@ use Rattle.std.proofs.Common.{◌≡◌, ℕ, ◌+◌, ◌<◌, true, false, not
 use Rattle.std.proofs.lemmas.List.{at_drop_more, at_drop_all}
 use Rattle.std.specs.List.{list_all, slice_split}
 use Rattle.collation_table.specs.declared.elements.Element.{Element}
-use Rattle.collation_table.specs.Spelling.{◌>>=◌, only_if, all_some, is_blank, split_once, some_of, bracketed_of, elements_in, elements_of, code_point_of, key_of}
+use Rattle.collation_table.specs.Spelling.{◌>>=◌, only_if, all_some, is_blank, split_once, some_of, bracketed_of, elements_of_parts, elements_of, code_point_of, string_of}
 use Rattle.collation_table.proofs.Cuts.{parts, IsCut-from_some, parts-from_none, some_part}
 
--- the list of what is left behind what was found
+-- the list of what is left after what was found
 abbrev pub joined : {A : Type 0} → List A → Option (List A) → Option (List A)
 joined xs more = option_map (λ ys. xs ++ ys) more
 
@@ -16,38 +16,38 @@ joined-push xs x (Some ys) = ap Some (append_assoc xs (x ∷ []) ys)
 
 -- Elements
 
--- the first element, and those behind it
-elements_in-cons : (part : List ℕ) (ps : List (List ℕ)) (first : List ℕ) (more : List (List ℕ)) → ps ≡ first ∷ more → elements_in (part ∷ ps) ≡ (bracketed_of part >>= λ e. option_map (λ es. e ∷ es) (elements_in ps))
-elements_in-cons part ps first more e =
-    let P : List (List ℕ) → Type 0 = λ qs. elements_in (part ∷ qs) ≡ (bracketed_of part >>= λ e. option_map (λ es. e ∷ es) (elements_in qs)) in
+-- the first element, and those after it
+elements_of_parts-cons : (part : List ℕ) (ps : List (List ℕ)) (first : List ℕ) (more : List (List ℕ)) → ps ≡ first ∷ more → elements_of_parts (part ∷ ps) ≡ (bracketed_of part >>= λ e. option_map (λ es. e ∷ es) (elements_of_parts ps))
+elements_of_parts-cons part ps first more e =
+    let P : List (List ℕ) → Type 0 = λ qs. elements_of_parts (part ∷ qs) ≡ (bracketed_of part >>= λ e. option_map (λ es. e ∷ es) (elements_of_parts qs)) in
     subst P (sym e) refl
 
-elements_in-cut : (bytes part behind : List ℕ) → split_once 93 bytes ≡ Some (part, behind) → elements_in (parts 93 bytes) ≡ (bracketed_of part >>= λ e. option_map (λ es. e ∷ es) (elements_in (parts 93 behind)))
-elements_in-cut bytes part behind e =
-    let some = some_part 93 behind in
-    ap elements_in (IsCut-from_some 93 bytes part behind e).parts_are ∙ elements_in-cons part (parts 93 behind) some.0 some.1 some.2
+elements_of_parts-cut : (bytes part following : List ℕ) → split_once 93 bytes ≡ Some (part, following) → elements_of_parts (parts 93 bytes) ≡ (bracketed_of part >>= λ e. option_map (λ es. e ∷ es) (elements_of_parts (parts 93 following)))
+elements_of_parts-cut bytes part following e =
+    let some = some_part 93 following in
+    ap elements_of_parts (IsCut-from_some 93 bytes part following e).parts_are ∙ elements_of_parts-cons part (parts 93 following) some.0 some.1 some.2
 
 -- one more element was found
-pub elements_more : (xs : List Element) (x : Element) (all : Option (List Element)) (bytes part behind : List ℕ) → split_once 93 bytes ≡ Some (part, behind) → bracketed_of part ≡ Some x → joined xs (elements_in (parts 93 bytes)) ≡ all → joined (xs ++ x ∷ []) (elements_in (parts 93 behind)) ≡ all
-elements_more xs x all bytes part behind cut found before =
-    joined-push xs x (elements_in (parts 93 behind))
-    ∙ ap (λ o. joined xs (o >>= λ e. option_map (λ es. e ∷ es) (elements_in (parts 93 behind)))) (sym found)
-    ∙ ap (joined xs) (sym (elements_in-cut bytes part behind cut)) ∙ before
+pub elements_more : (xs : List Element) (x : Element) (all : Option (List Element)) (bytes part following : List ℕ) → split_once 93 bytes ≡ Some (part, following) → bracketed_of part ≡ Some x → joined xs (elements_of_parts (parts 93 bytes)) ≡ all → joined (xs ++ x ∷ []) (elements_of_parts (parts 93 following)) ≡ all
+elements_more xs x all bytes part following cut found before =
+    joined-push xs x (elements_of_parts (parts 93 following))
+    ∙ ap (λ o. joined xs (o >>= λ e. option_map (λ es. e ∷ es) (elements_of_parts (parts 93 following)))) (sym found)
+    ∙ ap (joined xs) (sym (elements_of_parts-cut bytes part following cut)) ∙ before
 
 -- a part is no element
-pub elements_stop : (xs : List Element) (text bytes part behind : List ℕ) → split_once 93 bytes ≡ Some (part, behind) → bracketed_of part ≡ None → joined xs (elements_in (parts 93 bytes)) ≡ elements_in (parts 93 text) → elements_of text ≡ None
-elements_stop xs text bytes part behind cut found before =
-    ap (λ o. o >>= λ es. some_of es) (sym before ∙ ap (joined xs) (elements_in-cut bytes part behind cut ∙ ap (λ o. o >>= λ e. option_map (λ es. e ∷ es) (elements_in (parts 93 behind))) found))
+pub elements_stop : (xs : List Element) (text bytes part following : List ℕ) → split_once 93 bytes ≡ Some (part, following) → bracketed_of part ≡ None → joined xs (elements_of_parts (parts 93 bytes)) ≡ elements_of_parts (parts 93 text) → elements_of text ≡ None
+elements_stop xs text bytes part following cut found before =
+    ap (λ o. o >>= λ es. some_of es) (sym before ∙ ap (joined xs) (elements_of_parts-cut bytes part following cut ∙ ap (λ o. o >>= λ e. option_map (λ es. e ∷ es) (elements_of_parts (parts 93 following))) found))
 
--- behind the last element stand only blanks, or other bytes
-pub elements_end : (xs : List Element) (text bytes : List ℕ) → split_once 93 bytes ≡ None → joined xs (elements_in (parts 93 bytes)) ≡ elements_in (parts 93 text) → list_all is_blank bytes ≡ true → elements_of text ≡ some_of xs
+-- after the last element stand only blanks, or other bytes
+pub elements_end : (xs : List Element) (text bytes : List ℕ) → split_once 93 bytes ≡ None → joined xs (elements_of_parts (parts 93 bytes)) ≡ elements_of_parts (parts 93 text) → list_all is_blank bytes ≡ true → elements_of text ≡ some_of xs
 elements_end xs text bytes cut before blank =
-    ap (λ o. o >>= λ es. some_of es) (sym before ∙ ap (λ ps. joined xs (elements_in ps)) (parts-from_none 93 bytes cut) ∙ ap (λ t. joined xs (only_if t [])) blank)
+    ap (λ o. o >>= λ es. some_of es) (sym before ∙ ap (λ ps. joined xs (elements_of_parts ps)) (parts-from_none 93 bytes cut) ∙ ap (λ t. joined xs (only_if t [])) blank)
     ∙ ap (λ es. some_of es) (append-nil xs)
 
-pub elements_trail : (xs : List Element) (text bytes : List ℕ) → split_once 93 bytes ≡ None → joined xs (elements_in (parts 93 bytes)) ≡ elements_in (parts 93 text) → list_all is_blank bytes ≡ false → elements_of text ≡ None
+pub elements_trail : (xs : List Element) (text bytes : List ℕ) → split_once 93 bytes ≡ None → joined xs (elements_of_parts (parts 93 bytes)) ≡ elements_of_parts (parts 93 text) → list_all is_blank bytes ≡ false → elements_of text ≡ None
 elements_trail xs text bytes cut before blank =
-    ap (λ o. o >>= λ es. some_of es) (sym before ∙ ap (λ ps. joined xs (elements_in ps)) (parts-from_none 93 bytes cut) ∙ ap (λ t. joined xs (only_if t [])) blank)
+    ap (λ o. o >>= λ es. some_of es) (sym before ∙ ap (λ ps. joined xs (elements_of_parts ps)) (parts-from_none 93 bytes cut) ∙ ap (λ t. joined xs (only_if t [])) blank)
 
 -- Code points
 
@@ -55,7 +55,7 @@ elements_trail xs text bytes cut before blank =
 abbrev pub points_in : List (List ℕ) → Option (List ℕ)
 points_in ps = all_some (map code_point_of (filter (λ word. not (eqb (length word) 0)) ps))
 
--- the parts of a key between its blanks
+-- the parts of a mapped string between its blanks
 abbrev pub pieces : List ℕ → List (List ℕ)
 pieces bytes = slice_split is_blank bytes
 
@@ -67,7 +67,7 @@ points_in-none ps w e none =
     ap (λ t. all_some (map code_point_of (cond (not t) (w ∷ filter (λ word. not (eqb (length word) 0)) ps) (filter (λ word. not (eqb (length word) 0)) ps)))) e
     ∙ ap (λ o. all_some (o ∷ map code_point_of (filter (λ word. not (eqb (length word) 0)) ps))) none
 
-points_in-some : (ps : List (List ℕ)) (w : List ℕ) (cp : ℕ) → eqb (length w) 0 ≡ false → code_point_of w ≡ Some cp → points_in (w ∷ ps) ≡ option_map (λ key. cp ∷ key) (points_in ps)
+points_in-some : (ps : List (List ℕ)) (w : List ℕ) (cp : ℕ) → eqb (length w) 0 ≡ false → code_point_of w ≡ Some cp → points_in (w ∷ ps) ≡ option_map (λ string. cp ∷ string) (points_in ps)
 points_in-some ps w cp e some =
     ap (λ t. all_some (map code_point_of (cond (not t) (w ∷ filter (λ word. not (eqb (length word) 0)) ps) (filter (λ word. not (eqb (length word) 0)) ps)))) e
     ∙ ap (λ o. all_some (o ∷ map code_point_of (filter (λ word. not (eqb (length word) 0)) ps))) some
@@ -76,19 +76,19 @@ points_in-some ps w cp e some =
 points_at : (ps : List (List ℕ)) (i : ℕ) (w : List ℕ) → (i < length ps) × (w ≡ get_or ps i w) → points_in (drop i ps) ≡ points_in (w ∷ drop (i + 1) ps)
 points_at ps i w at = at_drop_more points_in ps i w at.0 ∙ ap (λ x. points_in (x ∷ drop (i + 1) ps)) (sym at.1)
 
-pub points_more : (key : List ℕ) (cp : ℕ) (all : Option (List ℕ)) (ps : List (List ℕ)) (i : ℕ) (w : List ℕ) → (i < length ps) × (w ≡ get_or ps i w) → eqb (length w) 0 ≡ false → code_point_of w ≡ Some cp → joined key (points_in (drop i ps)) ≡ all → joined (key ++ cp ∷ []) (points_in (drop (i + 1) ps)) ≡ all
-points_more key cp all ps i w at full found before =
-    joined-push key cp (points_in (drop (i + 1) ps)) ∙ ap (joined key) (sym (points_at ps i w at ∙ points_in-some (drop (i + 1) ps) w cp full found)) ∙ before
+pub points_more : (string : List ℕ) (cp : ℕ) (all : Option (List ℕ)) (ps : List (List ℕ)) (i : ℕ) (w : List ℕ) → (i < length ps) × (w ≡ get_or ps i w) → eqb (length w) 0 ≡ false → code_point_of w ≡ Some cp → joined string (points_in (drop i ps)) ≡ all → joined (string ++ cp ∷ []) (points_in (drop (i + 1) ps)) ≡ all
+points_more string cp all ps i w at full found before =
+    joined-push string cp (points_in (drop (i + 1) ps)) ∙ ap (joined string) (sym (points_at ps i w at ∙ points_in-some (drop (i + 1) ps) w cp full found)) ∙ before
 
-pub points_skip : (key : List ℕ) (all : Option (List ℕ)) (ps : List (List ℕ)) (i : ℕ) (w : List ℕ) → (i < length ps) × (w ≡ get_or ps i w) → eqb (length w) 0 ≡ true → joined key (points_in (drop i ps)) ≡ all → joined key (points_in (drop (i + 1) ps)) ≡ all
-points_skip key all ps i w at empty before = ap (joined key) (sym (points_at ps i w at ∙ points_in-empty (drop (i + 1) ps) w empty)) ∙ before
+pub points_skip : (string : List ℕ) (all : Option (List ℕ)) (ps : List (List ℕ)) (i : ℕ) (w : List ℕ) → (i < length ps) × (w ≡ get_or ps i w) → eqb (length w) 0 ≡ true → joined string (points_in (drop i ps)) ≡ all → joined string (points_in (drop (i + 1) ps)) ≡ all
+points_skip string all ps i w at empty before = ap (joined string) (sym (points_at ps i w at ∙ points_in-empty (drop (i + 1) ps) w empty)) ∙ before
 
 -- a word is no code point
-pub points_stop : (key text : List ℕ) (i : ℕ) (w : List ℕ) → (i < length (pieces text)) × (w ≡ get_or (pieces text) i w) → eqb (length w) 0 ≡ false → code_point_of w ≡ None → joined key (points_in (drop i (pieces text))) ≡ points_in (pieces text) → key_of text ≡ None
-points_stop key text i w at full none before =
-    ap (λ o. o >>= λ key. some_of key) (sym before ∙ ap (joined key) (points_at (pieces text) i w at ∙ points_in-none (drop (i + 1) (pieces text)) w full none))
+pub points_stop : (string text : List ℕ) (i : ℕ) (w : List ℕ) → (i < length (pieces text)) × (w ≡ get_or (pieces text) i w) → eqb (length w) 0 ≡ false → code_point_of w ≡ None → joined string (points_in (drop i (pieces text))) ≡ points_in (pieces text) → string_of text ≡ None
+points_stop string text i w at full none before =
+    ap (λ o. o >>= λ string. some_of string) (sym before ∙ ap (joined string) (points_at (pieces text) i w at ∙ points_in-none (drop (i + 1) (pieces text)) w full none))
 
 -- each word is
-pub points_end : (key text : List ℕ) (n : ℕ) → n ≡ length (pieces text) → joined key (points_in (drop n (pieces text))) ≡ points_in (pieces text) → key_of text ≡ some_of key
-points_end key text n all before =
-    ap (λ o. o >>= λ key. some_of key) (sym before ∙ ap (joined key) (at_drop_all points_in (pieces text) n (omega arith))) ∙ ap (λ key. some_of key) (append-nil key)
+pub points_end : (string text : List ℕ) (n : ℕ) → n ≡ length (pieces text) → joined string (points_in (drop n (pieces text))) ≡ points_in (pieces text) → string_of text ≡ some_of string
+points_end string text n all before =
+    ap (λ o. o >>= λ string. some_of string) (sym before ∙ ap (joined string) (at_drop_all points_in (pieces text) n (omega arith))) ∙ ap (λ string. some_of string) (append-nil string)

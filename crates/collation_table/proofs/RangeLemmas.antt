@@ -69,12 +69,12 @@ AreRangesSound-spread ranges i j r s sound at_i at_j same = by (cases_lt j i)
     by : (j < i) ⊎ (i ≤ j) → r.last ≤ s.first + 0x7FFF
     by (inl lt) =
         omega (arith, spread_le (take i ranges) r (sound i r at_i), first_with_base-smallest r.base r.first (take i ranges) j s (slice_get_take ranges i j s lt at_j) same)
-    by (inr le) = behind (cases_lt i j)
+    by (inr le) = following (cases_lt i j)
       where
-        behind : (i < j) ⊎ (j ≤ i) → r.last ≤ s.first + 0x7FFF
-        behind (inl lt) =
+        following : (i < j) ⊎ (j ≤ i) → r.last ≤ s.first + 0x7FFF
+        following (inl lt) =
             omega (arith, spread_le (take j ranges) s (sound j s at_j), with_base-greatest s.base (take j ranges) i r (slice_get_take ranges j i r lt at_i) (sym same), first_with_base-le s.base s.first (take j ranges))
-        behind (inr ge) =
+        following (inr ge) =
             let same_place : i ≡ j = omega arith in
             let same_range : Some r ≡ Some s = sym at_i ∙ ap (slice_get ranges) same_place ∙ at_j in
             let same_first : r.first ≡ s.first = cc in
@@ -100,7 +100,7 @@ find_place cp (x ∷ xs) r h = by (is_in cp x) refl h (find_place cp xs r)
     by true e f rest = let same : x ≡ r = cc in (0, f, sym (ap (is_in cp) same) ∙ e)
     by false e f rest = let found = rest f in (suc found.0, found.1, found.2)
 
--- how far a code point is behind the first of its base
+-- how far a code point is after the first of its base
 pub offset_le : (ranges : List ImplicitRange) (cp : ℕ) (r : ImplicitRange) → AreRangesSound ranges → find (is_in cp) ranges ≡ Some r → cp ≤ first_with_base r.base cp ranges + 0x7FFF
 offset_le ranges cp r sound found =
     let place = find_place cp ranges r found in

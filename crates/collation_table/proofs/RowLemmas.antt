@@ -1,38 +1,18 @@
 -- Lemmas on the rows of a table, as the map inside `Rows` holds them.
-use Rattle.std.proofs.Common.{◌≡◌, ℕ, zero, suc, Bool, true, false, cond, List, [], ◌∷◌, ◌++◌, length, take, Option, Some, None, is_some, slice_get, refl, sym, ap, ◌∙◌, Vec, bytes_eq, ◌⊎◌, inl, inr}
+use Rattle.std.proofs.Common.{◌≡◌, ℕ, zero, suc, Bool, true, false, cond, List, [], ◌∷◌, ◌++◌, length, take, get_or, nat_lt, ◌||◌, ◌<◌, arith, Option, Some, None, slice_get, refl, sym, ap, ◌∙◌, ◌⊎◌, inl, inr}
 use Rattle.std.specs.List.{AllByRecursion}
-use Rattle.std.specs.Option.{option_map}
 use Rattle.std.proofs.lemmas.Option.{slice_get_within}
+use Rattle.std.proofs.lemmas.Bool.{or_parts, ltb-false}
+use Rattle.std.specs.List.{list_any}
+use Rattle.collation_table.specs.declared.limits.TheConstants.{MOST_STRING_POINTS, MOST_ROW_ELEMENTS}
+use Rattle.collation_table.specs.Table.{TableMap, is_mapped}
+use Rattle.collation_table.specs.Faults.{entry_kind, is_beyond_unicode}
 use Rattle.std.proofs.Math.Nat.{le_of_lt}
 use Rattle.std.proofs.Math.Seq.{take-append_seam}
 use Rattle.std.proofs.lemmas.List.{take-append-le}
-use Rattle.std.specs.Map.{lookup}
-use Rattle.indexmap.specs.IndexMap.{insert_entry}
 use Rattle.collation_table.specs.declared.elements.Element.{Element}
 use Rattle.collation_table.specs.declared.ranges.ImplicitRange.{ImplicitRange}
-use Rattle.collation_table.specs.Entries.{rows_of}
-use Rattle.collation_table.specs.Table.{row_with}
-use Rattle.collation_table.specs.WellFormed.{AreRangesSound, breaks_ranges}
-
-row_with-lookup_at : {A : Type 0} (b : Bool) (v : Vec Element A) (o : Option (Vec Element A)) (p : Option (List Element)) → option_map (λ w. w.items) o ≡ p → option_map (λ w. w.items) (cond b (Some v) o) ≡ cond b (Some v.items) p
-row_with-lookup_at true v o p e = refl
-row_with-lookup_at false v o p e = e
-
--- what the map finds at a key is the row that the definition finds
-pub row_with-lookup : {A : Type 0} (key : List ℕ) (es : List (Vec ℕ A × Vec Element A)) → option_map (λ v. v.items) (lookup (λ k. bytes_eq key k.items) es) ≡ row_with key (rows_of es)
-row_with-lookup key [] = refl
-row_with-lookup key (e ∷ es) = row_with-lookup_at (bytes_eq key e.0.items) e.1 (lookup (λ k. bytes_eq key k.items) es) (row_with key (rows_of es)) (row_with-lookup key es)
-
-is_some-map : {X Y : Type 0} (f : X → Y) (o : Option X) → is_some (option_map f o) ≡ is_some o
-is_some-map f None = refl
-is_some-map f (Some x) = refl
-
-pub is_some-lookup : {A : Type 0} (key : List ℕ) (es : List (Vec ℕ A × Vec Element A)) → is_some (lookup (λ k. bytes_eq key k.items) es) ≡ is_some (row_with key (rows_of es))
-is_some-lookup key es = sym (is_some-map (λ v. v.items) (lookup (λ k. bytes_eq key k.items) es)) ∙ ap is_some (row_with-lookup key es)
-
-pub rows_of-append : {A : Type 0} (es fs : List (Vec ℕ A × Vec Element A)) → rows_of (es ++ fs) ≡ rows_of es ++ rows_of fs
-rows_of-append [] fs = refl
-rows_of-append (e ∷ es) fs = ap (λ l. (e.0.items, e.1.items) ∷ l) (rows_of-append es fs)
+use Rattle.collation_table.specs.WellFormed.{AreRangesSound, breaks_ranges, breaks_wf1, breaks_wf3, breaks_pair_rule, IsRowSound}
 
 -- ---- one row more, one range more
 
@@ -61,14 +41,36 @@ AreRangesSound-push rs r sound ok = λ k s at. by k s (slice_get_push rs r k s a
         ap (λ n. take n (rs ++ r ∷ [])) last.0 ∙ take-append_seam rs (r ∷ []) in
         ap (λ l. breaks_ranges l s) whole ∙ ap (breaks_ranges rs) (sym last.1) ∙ ok
 
--- a row with a new key is inserted behind the others
-pub rows_of-insert_entry : {A : Type 0} (key : Vec ℕ A) (row : Vec Element A) (es : List (Vec ℕ A × Vec Element A)) → is_some (row_with key.items (rows_of es)) ≡ false
-    → rows_of (insert_entry (λ (x y : Vec ℕ A). bytes_eq x.items y.items) es key row) ≡ rows_of es ++ (key.items, row.items) ∷ []
-rows_of-insert_entry key row [] absent = refl
-rows_of-insert_entry {A} key row (e ∷ es) absent = by (bytes_eq key.items e.0.items) absent (rows_of-insert_entry key row es)
+-- ---- a line that is right
+
+kind_none : (test : Bool) (kind : ℕ) (rest : Option ℕ) → cond test (Some kind) rest ≡ None → (test ≡ false) × (rest ≡ None)
+kind_none true kind rest none = cc
+kind_none false kind rest none = (refl, none)
+
+any_at : (string : List ℕ) (k d : ℕ) → list_any is_beyond_unicode string ≡ false → k < length string → get_or string k d < 0x110000
+any_at [] k d none lt = absurd (omega arith)
+any_at (x ∷ string) k d none lt = by k lt (or_parts (is_beyond_unicode x) (list_any is_beyond_unicode string) none) (λ n. any_at string n d)
   where
-    by : (b : Bool) → is_some (cond b (Some e.1.items) (row_with key.items (rows_of es))) ≡ false
-        → (is_some (row_with key.items (rows_of es)) ≡ false → rows_of (insert_entry (λ (x y : Vec ℕ A). bytes_eq x.items y.items) es key row) ≡ rows_of es ++ (key.items, row.items) ∷ [])
-        → rows_of (cond b ((e.0, row) ∷ es) (e ∷ insert_entry (λ (x y : Vec ℕ A). bytes_eq x.items y.items) es key row)) ≡ (e.0.items, e.1.items) ∷ (rows_of es ++ (key.items, row.items) ∷ [])
-    by true h rest = cc
-    by false h rest = ap (λ l. (e.0.items, e.1.items) ∷ l) (rest h)
+    by : (k : ℕ) → k < length (x ∷ string) → (is_beyond_unicode x ≡ false) × (list_any is_beyond_unicode string ≡ false) → ((n : ℕ) → list_any is_beyond_unicode string ≡ false → n < length string → get_or string n d < 0x110000) → get_or (x ∷ string) k d < 0x110000
+    by zero lt parts rest = omega (arith, ltb-false 0x10FFFF x parts.0)
+    by (suc n) lt parts rest = rest n parts.1 (omega arith)
+
+pub IsRowSound-from_kind : (T : TableMap) (string : List ℕ) (row : List Element) → 0 < length string → 0 < length row → entry_kind T string row ≡ None → IsRowSound string row
+IsRowSound-from_kind T string row points elements none =
+    let beyond = kind_none (list_any is_beyond_unicode string) 2 _ none in
+    let twice = kind_none (is_mapped T string) 3 _ beyond.1 in
+    let long = kind_none (nat_lt MOST_STRING_POINTS (length string) || nat_lt MOST_ROW_ELEMENTS (length row)) 4 _ twice.1 in
+    let wf1 = kind_none (breaks_wf1 row) 5 _ long.1 in
+    let wf3 = kind_none (breaks_wf3 row) 7 _ wf1.1 in
+    let pairs = kind_none (breaks_pair_rule row) 10 _ wf3.1 in
+    let sizes = or_parts (nat_lt MOST_STRING_POINTS (length string)) (nat_lt MOST_ROW_ELEMENTS (length row)) long.0 in
+    record {
+      some_points = points;
+      few_points = ltb-false MOST_STRING_POINTS (length string) sizes.0;
+      points = λ k d lt. any_at string k d beyond.0 lt;
+      some_elements = elements;
+      few_elements = ltb-false MOST_ROW_ELEMENTS (length row) sizes.1;
+      wf1 = wf1.0;
+      wf3 = wf3.0;
+      pairs = pairs.0;
+    }

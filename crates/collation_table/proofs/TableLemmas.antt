@@ -4,9 +4,9 @@ use Rattle.std.specs.List.{list_any, AllByRecursion}
 use Rattle.std.specs.Cmp.Lexicographic.{bytes_decides}
 use Rattle.std.proofs.lemmas.Bool.{leb-false, lt-ltb, not-false, cases_lt, cases_Bool, or_parts}
 use Rattle.collation_table.specs.declared.elements.Element.{Element}
-use Rattle.collation_table.specs.declared.limits.TheConstants.{MOST_KEY_POINTS, MOST_ROW_ELEMENTS}
-use Rattle.collation_table.specs.Table.{TableMap, HasSizes, row_with, is_key, longest_front_within, longest_front, longest_key, greatest, class_of}
-use Rattle.collation_table.specs.WellFormed.{elements, HasElement, is_primary, is_secondary, is_tertiary, IsRowSound, AreLinesSound, IsWf2, IsWf4, IsWf5, IsWellFormed, breaks_wf2, breaks_wf4, breaks_wf5, lacks_front, is_empty_list, map_fault}
+use Rattle.collation_table.specs.declared.limits.TheConstants.{MOST_STRING_POINTS, MOST_ROW_ELEMENTS}
+use Rattle.collation_table.specs.Table.{TableMap, HasSizes, row_with, is_mapped, longest_prefix_within, longest_prefix, longest_mapped, greatest, class_of}
+use Rattle.collation_table.specs.WellFormed.{table_elements, HasElement, is_primary, is_secondary, is_tertiary, IsRowSound, AreLinesSound, IsWf2, IsWf4, IsWf5, IsWellFormed, breaks_wf2, breaks_wf4, breaks_wf5, lacks_prefix, is_empty_list, map_fault}
 
 -- ---- tests
 
@@ -39,108 +39,108 @@ any_append p (x ∷ xs) ys h =
     let rest = any_append p xs ys parts.1 in
     (ap (λ b. b || list_any p xs) parts.0 ∙ rest.0, rest.1)
 
--- ---- keys
+-- ---- mapped strings
 
-same_key : (key other : List ℕ) → bytes_eq key other ≡ true → key ≡ other
-same_key key other h = (bytes_decides key other).0 h
+same_string : (string other : List ℕ) → bytes_eq string other ≡ true → string ≡ other
+same_string string other h = (bytes_decides string other).0 h
 
-key_length : (key : List ℕ) (rows : List (List ℕ × List Element)) → is_some (row_with key rows) ≡ true → length key ≤ greatest (map (λ row. length row.0) rows)
-key_length key [] h = cc
-key_length key (row ∷ rows) h = by (bytes_eq key row.0) refl h (key_length key rows)
+mapped_length : (string : List ℕ) (rows : List (List ℕ × List Element)) → is_some (row_with string rows) ≡ true → length string ≤ greatest (map (λ row. length row.0) rows)
+mapped_length string [] h = cc
+mapped_length string (row ∷ rows) h = by (bytes_eq string row.0) refl h (mapped_length string rows)
   where
-    by : (b : Bool) → bytes_eq key row.0 ≡ b → is_some (cond b (Some row.1) (row_with key rows)) ≡ true → (is_some (row_with key rows) ≡ true → length key ≤ greatest (map (λ r. length r.0) rows)) → length key ≤ max (length row.0) (greatest (map (λ r. length r.0) rows))
-    by true e found rest = omega (arith, ap length (same_key key row.0 e))
+    by : (b : Bool) → bytes_eq string row.0 ≡ b → is_some (cond b (Some row.1) (row_with string rows)) ≡ true → (is_some (row_with string rows) ≡ true → length string ≤ greatest (map (λ r. length r.0) rows)) → length string ≤ max (length row.0) (greatest (map (λ r. length r.0) rows))
+    by true e found rest = omega (arith, ap length (same_string string row.0 e))
     by false e found rest = omega (arith, rest found)
 
--- a list longer than each key is no key
-long_no_key : (T : TableMap) (key : List ℕ) → longest_key T < length key → is_key T key ≡ false
-long_no_key T key long = by (is_key T key) refl
+-- a list longer than each mapped string is not mapped
+long_not_mapped : (T : TableMap) (string : List ℕ) → longest_mapped T < length string → is_mapped T string ≡ false
+long_not_mapped T string long = by (is_mapped T string) refl
   where
-    by : (b : Bool) → is_key T key ≡ b → b ≡ false
-    by true e = absurd (omega (arith, key_length key T.rows e))
+    by : (b : Bool) → is_mapped T string ≡ b → b ≡ false
+    by true e = absurd (omega (arith, mapped_length string T.rows e))
     by false e = refl
 
--- ---- the longest front
+-- ---- the longest prefix
 
-pub front_skips : (T : TableMap) (points : List ℕ) (n : ℕ) → 0 < n → is_key T (take n points) ≡ false → longest_front_within T points (n - 1) ≡ longest_front_within T points n
-front_skips T points zero lt no_key = absurd (omega arith)
-front_skips T points (suc n) lt no_key =
+pub prefix_skips : (T : TableMap) (points : List ℕ) (n : ℕ) → 0 < n → is_mapped T (take n points) ≡ false → longest_prefix_within T points (n - 1) ≡ longest_prefix_within T points n
+prefix_skips T points zero lt not_mapped = absurd (omega arith)
+prefix_skips T points (suc n) lt not_mapped =
     let one_less : suc n - 1 ≡ n = omega arith in
-    ap (longest_front_within T points) one_less ∙ sym (ap (λ b. cond b (suc n) (longest_front_within T points n)) no_key)
+    ap (longest_prefix_within T points) one_less ∙ sym (ap (λ b. cond b (suc n) (longest_prefix_within T points n)) not_mapped)
 
-pub front_found : (T : TableMap) (points : List ℕ) (n : ℕ) → 0 < n → is_key T (take n points) ≡ true → longest_front_within T points n ≡ n
-front_found T points zero lt key = refl
-front_found T points (suc n) lt key = ap (λ b. cond b (suc n) (longest_front_within T points n)) key
+pub prefix_found : (T : TableMap) (points : List ℕ) (n : ℕ) → 0 < n → is_mapped T (take n points) ≡ true → longest_prefix_within T points n ≡ n
+prefix_found T points zero lt string = refl
+prefix_found T points (suc n) lt string = ap (λ b. cond b (suc n) (longest_prefix_within T points n)) string
 
 length_take : (n : ℕ) (xs : List ℕ) → n ≤ length xs → length (take n xs) ≡ n
 length_take zero xs le = refl
 length_take (suc n) [] le = absurd (omega arith)
 length_take (suc n) (x ∷ xs) le = ap suc (length_take n xs (omega arith))
 
-front_beyond : (T : TableMap) (points : List ℕ) (m n : ℕ) → n ≤ m → m ≤ length points → longest_key T ≤ n → longest_front_within T points n ≡ longest_front_within T points m
-front_beyond T points zero n le within longest =
+prefix_beyond : (T : TableMap) (points : List ℕ) (m n : ℕ) → n ≤ m → m ≤ length points → longest_mapped T ≤ n → longest_prefix_within T points n ≡ longest_prefix_within T points m
+prefix_beyond T points zero n le within longest =
     let same : n ≡ 0 = omega arith in
-    ap (longest_front_within T points) same
-front_beyond T points (suc m) n le within longest = by (cases_lt m n) (front_beyond T points m n)
+    ap (longest_prefix_within T points) same
+prefix_beyond T points (suc m) n le within longest = by (cases_lt m n) (prefix_beyond T points m n)
   where
-    by : (m < n) ⊎ (n ≤ m) → (n ≤ m → m ≤ length points → longest_key T ≤ n → longest_front_within T points n ≡ longest_front_within T points m) → longest_front_within T points n ≡ longest_front_within T points (suc m)
+    by : (m < n) ⊎ (n ≤ m) → (n ≤ m → m ≤ length points → longest_mapped T ≤ n → longest_prefix_within T points n ≡ longest_prefix_within T points m) → longest_prefix_within T points n ≡ longest_prefix_within T points (suc m)
     by (inl lt) rest =
         let same : n ≡ suc m = omega arith in
-        ap (longest_front_within T points) same
+        ap (longest_prefix_within T points) same
     by (inr ge) rest =
         let long = length_take (suc m) points within in
-        rest ge (omega arith) longest ∙ sym (ap (λ b. cond b (suc m) (longest_front_within T points m)) (long_no_key T (take (suc m) points) (omega (arith, long))))
+        rest ge (omega arith) longest ∙ sym (ap (λ b. cond b (suc m) (longest_prefix_within T points m)) (long_not_mapped T (take (suc m) points) (omega (arith, long))))
 
--- no front longer than each key need be tried
-pub front_start : (T : TableMap) (points : List ℕ) (n : ℕ) → n ≡ min (length points) (longest_key T) → longest_front_within T points n ≡ longest_front T points
-front_start T points n is = by (cases_lt (longest_key T) (length points))
+-- no prefix longer than each mapped string need be tried
+pub prefix_start : (T : TableMap) (points : List ℕ) (n : ℕ) → n ≡ min (length points) (longest_mapped T) → longest_prefix_within T points n ≡ longest_prefix T points
+prefix_start T points n is = by (cases_lt (longest_mapped T) (length points))
   where
-    by : (longest_key T < length points) ⊎ (length points ≤ longest_key T) → longest_front_within T points n ≡ longest_front T points
-    by (inl lt) = front_beyond T points (length points) n (omega (arith, is)) (omega arith) (omega (arith, is))
+    by : (longest_mapped T < length points) ⊎ (length points ≤ longest_mapped T) → longest_prefix_within T points n ≡ longest_prefix T points
+    by (inl lt) = prefix_beyond T points (length points) n (omega (arith, is)) (omega arith) (omega (arith, is))
     by (inr ge) =
         let same : n ≡ length points = omega (arith, is) in
-        ap (longest_front_within T points) same
+        ap (longest_prefix_within T points) same
 
 -- ---- rows
 
-row_sound : (key : List ℕ) (row : List Element) (rows : List (List ℕ × List Element)) → AllByRecursion (λ r. IsRowSound r.0 r.1) rows → row_with key rows ≡ Some row → IsRowSound key row
-row_sound key row [] all at = cc
-row_sound key row (r ∷ rows) all at = by (bytes_eq key r.0) refl at (row_sound key row rows all.1)
+row_sound : (string : List ℕ) (row : List Element) (rows : List (List ℕ × List Element)) → AllByRecursion (λ r. IsRowSound r.0 r.1) rows → row_with string rows ≡ Some row → IsRowSound string row
+row_sound string row [] all at = cc
+row_sound string row (r ∷ rows) all at = by (bytes_eq string r.0) refl at (row_sound string row rows all.1)
   where
-    by : (b : Bool) → bytes_eq key r.0 ≡ b → cond b (Some r.1) (row_with key rows) ≡ Some row → (row_with key rows ≡ Some row → IsRowSound key row) → IsRowSound key row
+    by : (b : Bool) → bytes_eq string r.0 ≡ b → cond b (Some r.1) (row_with string rows) ≡ Some row → (row_with string rows ≡ Some row → IsRowSound string row) → IsRowSound string row
     by true e found rest =
         let same_row : r.1 ≡ row = cc in
-        subst (λ l. IsRowSound key l) same_row (subst (λ k. IsRowSound k r.1) (sym (same_key key r.0 e)) all.0)
+        subst (λ l. IsRowSound string l) same_row (subst (λ k. IsRowSound k r.1) (sym (same_string string r.0 e)) all.0)
     by false e found rest = rest found
 
-element_passes : (p : Element → Bool) (key : List ℕ) (row : List Element) (rows : List (List ℕ × List Element)) (e : Element)
-    → list_any p (flat_map (λ r. r.1) rows) ≡ false → row_with key rows ≡ Some row → Contains row e → p e ≡ false
-element_passes p key row [] e none at within = cc
-element_passes p key row (r ∷ rows) e none at within = by (bytes_eq key r.0) at (any_append p r.1 (flat_map (λ q. q.1) rows) none) (λ h k. element_passes p key row rows e h k within)
+element_passes : (p : Element → Bool) (string : List ℕ) (row : List Element) (rows : List (List ℕ × List Element)) (e : Element)
+    → list_any p (flat_map (λ r. r.1) rows) ≡ false → row_with string rows ≡ Some row → Contains row e → p e ≡ false
+element_passes p string row [] e none at within = cc
+element_passes p string row (r ∷ rows) e none at within = by (bytes_eq string r.0) at (any_append p r.1 (flat_map (λ q. q.1) rows) none) (λ h k. element_passes p string row rows e h k within)
   where
-    by : (b : Bool) → cond b (Some r.1) (row_with key rows) ≡ Some row → (list_any p r.1 ≡ false) × (list_any p (flat_map (λ q. q.1) rows) ≡ false) → (list_any p (flat_map (λ q. q.1) rows) ≡ false → row_with key rows ≡ Some row → p e ≡ false) → p e ≡ false
+    by : (b : Bool) → cond b (Some r.1) (row_with string rows) ≡ Some row → (list_any p r.1 ≡ false) × (list_any p (flat_map (λ q. q.1) rows) ≡ false) → (list_any p (flat_map (λ q. q.1) rows) ≡ false → row_with string rows ≡ Some row → p e ≡ false) → p e ≡ false
     by true found parts rest =
         let same_row : r.1 ≡ row = cc in
         any_false p row e (sym (ap (list_any p) same_row) ∙ parts.0) within
     by false found parts rest = rest parts.1 found
 
--- what no element of the table passes, an element of the row of some key does not
-no_element : (T : TableMap) (p : Element → Bool) (e : Element) → list_any p (elements T) ≡ false → HasElement T e → p e ≡ false
+-- what no element of the table passes, an element of the row of some mapped string does not
+no_element : (T : TableMap) (p : Element → Bool) (e : Element) → list_any p (table_elements T) ≡ false → HasElement T e → p e ≡ false
 no_element T p e none has = element_passes p has.0 has.1 T.rows e none has.2 has.3
 
-no_such_key : (q : List ℕ → Bool) (key : List ℕ) (rows : List (List ℕ × List Element)) → list_any (λ row. q row.0) rows ≡ false → is_some (row_with key rows) ≡ true → q key ≡ false
-no_such_key q key [] none at = cc
-no_such_key q key (r ∷ rows) none at = by (bytes_eq key r.0) refl at (or_parts (q r.0) (list_any (λ row. q row.0) rows) none) (no_such_key q key rows)
+no_such_string : (q : List ℕ → Bool) (string : List ℕ) (rows : List (List ℕ × List Element)) → list_any (λ row. q row.0) rows ≡ false → is_some (row_with string rows) ≡ true → q string ≡ false
+no_such_string q string [] none at = cc
+no_such_string q string (r ∷ rows) none at = by (bytes_eq string r.0) refl at (or_parts (q r.0) (list_any (λ row. q row.0) rows) none) (no_such_string q string rows)
   where
-    by : (b : Bool) → bytes_eq key r.0 ≡ b → is_some (cond b (Some r.1) (row_with key rows)) ≡ true → (q r.0 ≡ false) × (list_any (λ row. q row.0) rows ≡ false) → (list_any (λ row. q row.0) rows ≡ false → is_some (row_with key rows) ≡ true → q key ≡ false) → q key ≡ false
-    by true e found parts rest = ap q (same_key key r.0 e) ∙ parts.0
+    by : (b : Bool) → bytes_eq string r.0 ≡ b → is_some (cond b (Some r.1) (row_with string rows)) ≡ true → (q r.0 ≡ false) × (list_any (λ row. q row.0) rows ≡ false) → (list_any (λ row. q row.0) rows ≡ false → is_some (row_with string rows) ≡ true → q string ≡ false) → q string ≡ false
+    by true e found parts rest = ap q (same_string string r.0 e) ∙ parts.0
     by false e found parts rest = rest parts.1 found
 
 -- ---- the conditions on the whole table
 
 wf2_from_test : (T : TableMap) → breaks_wf2 T ≡ false → IsWf2 T
 wf2_from_test T h =
-    let es = elements T in
+    let es = table_elements T in
     let lighter_second : Element → Bool = λ s. is_secondary s && (nat_le s.w2 0x20 || list_any (λ p. is_primary p && nat_le s.w2 p.w2) es) in
     let lighter_third : Element → Bool = λ t. is_tertiary t && (nat_le t.w3 2 || list_any (λ p. (is_primary p || is_secondary p) && nat_le t.w3 p.w3) es) in
     let parts = or_parts (list_any lighter_second es) (list_any lighter_third es) h in
@@ -159,16 +159,16 @@ wf2_from_test T h =
 
 wf4_from_test : (T : TableMap) → breaks_wf4 T ≡ false → IsWf4 T
 wf4_from_test T h p v w has_p has_v has_w kind plain var_v var_w above =
-    let es = elements T in
+    let es = table_elements T in
     let low : Element → Bool = λ x. x.is_variable && nat_le x.w1 p.w1 in
     let high : Element → Bool = λ x. x.is_variable && nat_le p.w1 x.w1 in
     let between : (is_primary p && not p.is_variable && list_any low es && list_any high es) ≡ false =
     no_element T (λ q. is_primary q && not q.is_variable && list_any (λ x. x.is_variable && nat_le x.w1 q.w1) es && list_any (λ x. x.is_variable && nat_le q.w1 x.w1) es) p h has_p in
     by (cases_Bool (list_any low es)) (cases_Bool (list_any high es)) between
   where
-    by : ((list_any (λ x. x.is_variable && nat_le x.w1 p.w1) (elements T) ≡ true) ⊎ (list_any (λ x. x.is_variable && nat_le x.w1 p.w1) (elements T) ≡ false))
-        → ((list_any (λ x. x.is_variable && nat_le p.w1 x.w1) (elements T) ≡ true) ⊎ (list_any (λ x. x.is_variable && nat_le p.w1 x.w1) (elements T) ≡ false))
-        → (is_primary p && not p.is_variable && list_any (λ x. x.is_variable && nat_le x.w1 p.w1) (elements T) && list_any (λ x. x.is_variable && nat_le p.w1 x.w1) (elements T)) ≡ false
+    by : ((list_any (λ x. x.is_variable && nat_le x.w1 p.w1) (table_elements T) ≡ true) ⊎ (list_any (λ x. x.is_variable && nat_le x.w1 p.w1) (table_elements T) ≡ false))
+        → ((list_any (λ x. x.is_variable && nat_le p.w1 x.w1) (table_elements T) ≡ true) ⊎ (list_any (λ x. x.is_variable && nat_le p.w1 x.w1) (table_elements T) ≡ false))
+        → (is_primary p && not p.is_variable && list_any (λ x. x.is_variable && nat_le x.w1 p.w1) (table_elements T) && list_any (λ x. x.is_variable && nat_le p.w1 x.w1) (table_elements T)) ≡ false
         → w.w1 < p.w1
     by (inr none) _ between =
         let not_low = and_false_right v.is_variable (nat_le v.w1 p.w1) (no_element T (λ x. x.is_variable && nat_le x.w1 p.w1) v none has_v) var_v in
@@ -176,19 +176,19 @@ wf4_from_test T h p v w has_p has_v has_w kind plain var_v var_w above =
     by (inl some) (inr none) between =
         leb-false p.w1 w.w1 (and_false_right w.is_variable (nat_le p.w1 w.w1) (no_element T (λ x. x.is_variable && nat_le p.w1 x.w1) w none has_w) var_w)
     by (inl some) (inl other) between =
-        let whole : (is_primary p && not p.is_variable && list_any (λ x. x.is_variable && nat_le x.w1 p.w1) (elements T) && list_any (λ x. x.is_variable && nat_le p.w1 x.w1) (elements T)) ≡ true =
+        let whole : (is_primary p && not p.is_variable && list_any (λ x. x.is_variable && nat_le x.w1 p.w1) (table_elements T) && list_any (λ x. x.is_variable && nat_le p.w1 x.w1) (table_elements T)) ≡ true =
         λ i. so (is_primary p) kind i && not (plain i) && some i && other i in
         let clash : true ≡ false = sym whole ∙ between in
         cc
 
 wf5_from_test : (T : TableMap) → breaks_wf5 T ≡ false → IsWf5 T
-wf5_from_test T h key is long class =
-    let front = length key - 1 in
-    let lacks = no_such_key (lacks_front T) key T.rows h (so (is_key T key) is) in
-    let two : nat_lt 1 front ≡ true = lt-ltb 1 front (omega arith) in
-    let mark : nat_lt 0 (class_of (slice_index key front)) ≡ true = lt-ltb 0 _ class in
-    let both : (nat_lt 1 front && nat_lt 0 (class_of (slice_index key front))) ≡ true = λ i. two i && mark i in
-    true_is_so (is_key T (take front key)) (not-false (is_key T (take front key)) (and_false_right (nat_lt 1 front && nat_lt 0 (class_of (slice_index key front))) (not (is_key T (take front key))) lacks both))
+wf5_from_test T h string is long class =
+    let prefix = length string - 1 in
+    let lacks = no_such_string (lacks_prefix T) string T.rows h (so (is_mapped T string) is) in
+    let two : nat_lt 1 prefix ≡ true = lt-ltb 1 prefix (omega arith) in
+    let mark : nat_lt 0 (class_of (slice_index string prefix)) ≡ true = lt-ltb 0 _ class in
+    let both : (nat_lt 1 prefix && nat_lt 0 (class_of (slice_index string prefix))) ≡ true = λ i. two i && mark i in
+    true_is_so (is_mapped T (take prefix string)) (not-false (is_mapped T (take prefix string)) (and_false_right (nat_lt 1 prefix && nat_lt 0 (class_of (slice_index string prefix))) (not (is_mapped T (take prefix string))) lacks both))
 
 pub IsWellFormed-from_tests : (T : TableMap) → AreLinesSound T → map_fault T ≡ None → IsWellFormed T
 IsWellFormed-from_tests T lines none =
@@ -197,7 +197,7 @@ IsWellFormed-from_tests T lines none =
     let wf4 = cond_none (breaks_wf4 T) 8 _ wf2.1 in
     let wf5 = cond_none (breaks_wf5 T) 9 _ wf4.1 in
     record {
-      rows = λ key row at. row_sound key row T.rows lines.rows at;
+      rows = λ string row at. row_sound string row T.rows lines.rows at;
       ranges = lines.ranges;
       wf2 = wf2_from_test T wf2.0;
       wf4 = wf4_from_test T wf4.0;
@@ -206,22 +206,22 @@ IsWellFormed-from_tests T lines none =
 
 -- ---- sizes
 
-keys_le : (rows : List (List ℕ × List Element)) → AllByRecursion (λ r. IsRowSound r.0 r.1) rows → greatest (map (λ row. length row.0) rows) ≤ MOST_KEY_POINTS
-keys_le [] all = omega arith
-keys_le (r ∷ rows) all = omega (arith, keys_le rows all.1, all.0.few_points)
+strings_le : (rows : List (List ℕ × List Element)) → AllByRecursion (λ r. IsRowSound r.0 r.1) rows → greatest (map (λ row. length row.0) rows) ≤ MOST_STRING_POINTS
+strings_le [] all = omega arith
+strings_le (r ∷ rows) all = omega (arith, strings_le rows all.1, all.0.few_points)
 
 elements_le : (rows : List (List ℕ × List Element)) → AllByRecursion (λ r. IsRowSound r.0 r.1) rows → greatest (map (λ row. length row.1) rows) ≤ MOST_ROW_ELEMENTS
 elements_le [] all = omega arith
 elements_le (r ∷ rows) all = omega (arith, elements_le rows all.1, all.0.few_elements)
 
-some_key : (rows : List (List ℕ × List Element)) → AllByRecursion (λ r. IsRowSound r.0 r.1) rows → is_empty_list rows ≡ false → 1 ≤ greatest (map (λ row. length row.0) rows)
-some_key [] all some = cc
-some_key (r ∷ rows) all some = omega (arith, all.0.some_points)
+some_mapped : (rows : List (List ℕ × List Element)) → AllByRecursion (λ r. IsRowSound r.0 r.1) rows → is_empty_list rows ≡ false → 1 ≤ greatest (map (λ row. length row.0) rows)
+some_mapped [] all some = cc
+some_mapped (r ∷ rows) all some = omega (arith, all.0.some_points)
 
 pub HasSizes-from_lines : (T : TableMap) → AreLinesSound T → map_fault T ≡ None → HasSizes T
 HasSizes-from_lines T lines none = record {
-  some_key = some_key T.rows lines.rows (cond_none (is_empty_list T.rows) 12 _ none).0;
-  key = keys_le T.rows lines.rows;
+  some_mapped = some_mapped T.rows lines.rows (cond_none (is_empty_list T.rows) 12 _ none).0;
+  string = strings_le T.rows lines.rows;
   pair = omega arith;
   row = omega (arith, elements_le T.rows lines.rows);
 }

@@ -2,7 +2,7 @@
 use Rattle.std.proofs.Common.{refl}
 use Rattle.unicode_normalization.proofs.Computing.{unicode_normalization}
 use Rattle.collation_table.specs.Spelling.{the_spelling}
-use Rattle.collation_table.specs.WorkedTables.{LineFaults, RowFaults, RangeFaults, TableFaults, AcceptedTables, ImplicitWeights, LongestFronts, Classes}
+use Rattle.collation_table.specs.WorkedTables.{LineFaults, RowFaults, RangeFaults, TableFaults, AcceptedTables, ImplicitWeights, LongestPrefixes, Classes}
 
 pub line_faults-hold : LineFaults
 unfolding the_spelling unicode_normalization
@@ -18,8 +18,8 @@ line_faults-hold = record {
 pub row_faults-hold : RowFaults
 unfolding the_spelling unicode_normalization
 row_faults-hold = record {
-  key_twice_by_value = refl;
-  key_of_17 = refl;
+  mapped_twice_by_value = refl;
+  string_of_17 = refl;
   row_of_33 = refl;
   primary_alone = refl;
   primary_skips_a_level = refl;
@@ -49,7 +49,7 @@ table_faults-hold = record {
   low_secondary = refl;
   low_tertiary = refl;
   between_variables = refl;
-  front_that_is_no_key = refl;
+  prefix_that_is_not_mapped = refl;
 }
 
 pub accepted_tables-hold : AcceptedTables
@@ -59,7 +59,7 @@ accepted_tables-hold = record {
   lead_and_follower = record { accepted = refl; longest = refl; largest = refl };
   blanks_and_comment = record { accepted = refl; longest = refl; largest = refl };
   range_just_near = record { accepted = refl; longest = refl; largest = refl };
-  key_of_16 = record { accepted = refl; longest = refl; largest = refl };
+  string_of_16 = record { accepted = refl; longest = refl; largest = refl };
   row_of_32 = record { accepted = refl; longest = refl; largest = refl };
 }
 
@@ -77,12 +77,12 @@ implicit_weights-hold = record {
   tangut_supplement = refl;
 }
 
-pub longest_fronts-hold : LongestFronts
+pub longest_prefixes-hold : LongestPrefixes
 unfolding the_spelling unicode_normalization
-longest_fronts-hold = record {
+longest_prefixes-hold = record {
   contraction = refl;
   no_contraction = refl;
-  no_front = refl;
+  no_prefix = refl;
 }
 
 pub classes-hold : Classes

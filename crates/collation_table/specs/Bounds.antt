@@ -3,7 +3,7 @@
 use Rattle.std.specs.Prelude.{ℕ, min, max, Bool, not, ◌&&◌, ◌||◌, nat_le, Option, Some, None, if◌then◌else◌, fold}
 use Rattle.collation_table.specs.declared.elements.Element.{Element}
 use Rattle.collation_table.specs.Table.{TableMap}
-use Rattle.collation_table.specs.WellFormed.{elements, is_primary, is_secondary, is_tertiary}
+use Rattle.collation_table.specs.WellFormed.{table_elements, is_primary, is_secondary, is_tertiary}
 
 abbrev pub higher_second : ℕ → Element → ℕ
 higher_second most e = if is_primary e then max most e.w2 else most
@@ -13,11 +13,11 @@ higher_third most e = if is_primary e || is_secondary e then max most e.w3 else 
 
 -- the greatest second weight of the primary elements, those of implicit pairs included
 abbrev pub second_bound : TableMap → ℕ
-second_bound T = fold higher_second 0x20 (elements T)
+second_bound T = fold higher_second 0x20 (table_elements T)
 
 -- the greatest third weight of the primary and secondary elements, those of implicit pairs included
 abbrev pub third_bound : TableMap → ℕ
-third_bound T = fold higher_third 2 (elements T)
+third_bound T = fold higher_third 2 (table_elements T)
 
 abbrev pub span_with : Option (ℕ × ℕ) → ℕ → Option (ℕ × ℕ)
 span_with None w = Some (w, w)
@@ -28,7 +28,7 @@ wider_span span e = if e.is_variable then span_with span e.w1 else span
 
 -- the least and the greatest first weight of the variable elements
 abbrev pub variable_span : TableMap → Option (ℕ × ℕ)
-variable_span T = fold wider_span None (elements T)
+variable_span T = fold wider_span None (table_elements T)
 
 abbrev pub is_too_light : ℕ → ℕ → Element → Bool
 is_too_light second third e = (is_secondary e && nat_le e.w2 second) || (is_tertiary e && nat_le e.w3 third)

@@ -1,15 +1,15 @@
 -- What is wrong with a table file, and the table that it spells where nothing is. A line is judged by itself and by the lines
--- before it; the first line at fault is told, with the smallest kind of fault that it has.
+-- before it; the first line at fault is reported, with the smallest kind of fault that it has.
 use Rattle.std.specs.Prelude.{◌≡◌, ℕ, ◌+◌, Bool, ◌||◌, nat_lt, nat_le, if◌then◌else◌, List, [], ◌∷◌, ◌++◌, ◌⊎◌, length, take, map, Option, Some, None, option_map}
 use Rattle.std.specs.Option.{option_or}
 use Rattle.std.specs.List.{list_any, cons_option, filter_map, range_with_len, slice_index_or}
 use Rattle.std.specs.Str.Lines.{lines}
-use Rattle.collation_table.specs.declared.limits.TheConstants.{MOST_KEY_POINTS, MOST_ROW_ELEMENTS, MOST_ENTRY_LINES, MOST_RANGE_LINES}
-use Rattle.collation_table.specs.Kinds.{malformed_line_kind, beyond_unicode_kind, key_twice_kind, too_long_kind, wf1_kind, wf3_kind, pair_rule_kind, bad_range_kind, too_many_lines_kind, out_of_memory_kind}
+use Rattle.collation_table.specs.declared.limits.TheConstants.{MOST_STRING_POINTS, MOST_ROW_ELEMENTS, MOST_ENTRY_LINES, MOST_RANGE_LINES}
+use Rattle.collation_table.specs.Kinds.{malformed_line_kind, beyond_unicode_kind, mapped_twice_kind, too_long_kind, wf1_kind, wf3_kind, pair_rule_kind, bad_range_kind, too_many_lines_kind, allocation_refused_kind}
 use Rattle.collation_table.specs.declared.faults.TableFault.{TableFault}
 use Rattle.collation_table.specs.declared.elements.Element.{Element}
 use Rattle.collation_table.specs.declared.ranges.ImplicitRange.{ImplicitRange}
-use Rattle.collation_table.specs.Table.{TableMap, row_of, is_key, longest_key, most_elements}
+use Rattle.collation_table.specs.Table.{TableMap, row_of, is_mapped, longest_mapped, most_elements}
 use Rattle.collation_table.specs.WellFormed.{breaks_wf1, breaks_wf3, breaks_pair_rule, breaks_ranges, map_fault}
 use Rattle.collation_table.specs.Spelling.{Form, Empty, Version, Range, Entry, line_form}
 
@@ -21,7 +21,7 @@ forms_of bytes = map line_form (lines bytes)
 
 -- the row of an entry line
 abbrev pub row_in : Option Form → Option (List ℕ × List Element)
-row_in (Some (Entry key row)) = Some (key, row)
+row_in (Some (Entry string row)) = Some (string, row)
 row_in _ = None
 
 -- the range of a range line
@@ -39,10 +39,10 @@ with_line T form = record { rows = T.rows ++ cons_option (row_in form) []; range
 
 -- The table is the finite map of the entry lines, and has the ranges of the range lines. Its sizes are those of the rows that the
 -- lines give, so no other row counts.
-pub record Spells (bytes : List ℕ) (T : TableMap) : Type 0 where
-  pub rows : (key : List ℕ) → row_of T key ≡ row_of (map_of (forms_of bytes)) key
+pub record SpellsTable (bytes : List ℕ) (T : TableMap) : Type 0 where
+  pub rows : (string : List ℕ) → row_of T string ≡ row_of (map_of (forms_of bytes)) string
   pub ranges : T.ranges ≡ (map_of (forms_of bytes)).ranges
-  pub longest : longest_key T ≡ longest_key (map_of (forms_of bytes))
+  pub longest : longest_mapped T ≡ longest_mapped (map_of (forms_of bytes))
   pub largest : most_elements T ≡ most_elements (map_of (forms_of bytes))
 
 -- What is wrong with a line
@@ -55,7 +55,7 @@ first_kind (test ∷ tests) = if test.0 then Some test.1 else first_kind tests
 abbrev pub is_beyond_unicode : ℕ → Bool
 is_beyond_unicode cp = nat_lt 0x10FFFF cp
 
--- the smallest kind of fault of a range line, behind lines that spell the table T
+-- the smallest kind of fault of a range line, after lines that spell the table T
 abbrev pub range_kind : TableMap → ImplicitRange → Option ℕ
 range_kind T range =
     first_kind (
@@ -64,35 +64,35 @@ range_kind T range =
     ∷ (nat_le MOST_RANGE_LINES (length T.ranges), too_many_lines_kind)
     ∷ [])
 
--- the smallest kind of fault of an entry line, behind lines that spell the table T
+-- the smallest kind of fault of an entry line, after lines that spell the table T
 abbrev pub entry_kind : TableMap → List ℕ → List Element → Option ℕ
-entry_kind T key row =
+entry_kind T string row =
     first_kind (
-    (list_any is_beyond_unicode key, beyond_unicode_kind)
-    ∷ (is_key T key, key_twice_kind)
-    ∷ (nat_lt MOST_KEY_POINTS (length key) || nat_lt MOST_ROW_ELEMENTS (length row), too_long_kind)
+    (list_any is_beyond_unicode string, beyond_unicode_kind)
+    ∷ (is_mapped T string, mapped_twice_kind)
+    ∷ (nat_lt MOST_STRING_POINTS (length string) || nat_lt MOST_ROW_ELEMENTS (length row), too_long_kind)
     ∷ (breaks_wf1 row, wf1_kind)
     ∷ (breaks_wf3 row, wf3_kind)
     ∷ (breaks_pair_rule row, pair_rule_kind)
     ∷ (nat_le MOST_ENTRY_LINES (length T.rows), too_many_lines_kind)
     ∷ [])
 
--- the smallest kind of fault of a line, behind lines that spell the table T
+-- the smallest kind of fault of a line, after lines that spell the table T
 abbrev pub line_kind : TableMap → Option Form → Option ℕ
 line_kind T None = Some malformed_line_kind
 line_kind T (Some Empty) = None
 line_kind T (Some Version) = None
 line_kind T (Some (Range range)) = range_kind T range
-line_kind T (Some (Entry key row)) = entry_kind T key row
+line_kind T (Some (Entry string row)) = entry_kind T string row
 
 -- What is wrong with a file
 
-abbrev pub fault_at : ℕ → Option ℕ → Option TableFault
-fault_at line kind = option_map (λ k. record { line = line; kind = k }) kind
+abbrev pub fault_at_line : ℕ → Option ℕ → Option TableFault
+fault_at_line line kind = option_map (λ k. record { line = line; kind = k }) kind
 
 -- the fault of the line at a place, counted from 0; its number is counted from 1
 abbrev pub fault_of_line : List (Option Form) → ℕ → Option TableFault
-fault_of_line forms n = fault_at (n + 1) (line_kind (map_of (take n forms)) (slice_index_or forms n None))
+fault_of_line forms n = fault_at_line (n + 1) (line_kind (map_of (take n forms)) (slice_index_or forms n None))
 
 -- what f gives for the first of the values for which it gives something
 abbrev pub first_some : {A B : Type 0} → (A → Option B) → List A → Option B
@@ -104,15 +104,15 @@ first_line_fault forms = first_some (fault_of_line forms) (range_with_len 0 (len
 
 -- the fault of the first line at fault, or else that of the whole table
 abbrev pub fault_of_forms : List (Option Form) → Option TableFault
-fault_of_forms forms = option_or (first_line_fault forms) (fault_at 0 (map_fault (map_of forms)))
+fault_of_forms forms = option_or (first_line_fault forms) (fault_at_line 0 (map_fault (map_of forms)))
 
 abbrev pub table_fault : List ℕ → Option TableFault
 table_fault bytes = fault_of_forms (forms_of bytes)
 
 -- refused memory
-abbrev pub out_of_memory : TableFault
-out_of_memory = record { line = 0; kind = out_of_memory_kind }
+abbrev pub allocation_refused : TableFault
+allocation_refused = record { line = 0; kind = allocation_refused_kind }
 
--- a fault that is told: the one that there is, or that of refused memory
-abbrev pub IsFaultOrMemory : Option TableFault → TableFault → Type 0
-IsFaultOrMemory there fault = (there ≡ Some fault) ⊎ (fault ≡ out_of_memory)
+-- a fault that is reported: the one that there is, or that of refused memory
+abbrev pub IsFaultOrAllocationRefused : Option TableFault → TableFault → Type 0
+IsFaultOrAllocationRefused there fault = (there ≡ Some fault) ⊎ (fault ≡ allocation_refused)

@@ -7,8 +7,8 @@ malformed_line_kind = 1
 abbrev pub beyond_unicode_kind : ℕ
 beyond_unicode_kind = 2
 
-abbrev pub key_twice_kind : ℕ
-key_twice_kind = 3
+abbrev pub mapped_twice_kind : ℕ
+mapped_twice_kind = 3
 
 abbrev pub too_long_kind : ℕ
 too_long_kind = 4
@@ -40,5 +40,5 @@ no_entry_kind = 12
 abbrev pub too_many_lines_kind : ℕ
 too_many_lines_kind = 13
 
-abbrev pub out_of_memory_kind : ℕ
-out_of_memory_kind = 14
+abbrev pub allocation_refused_kind : ℕ
+allocation_refused_kind = 14

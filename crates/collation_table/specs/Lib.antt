@@ -5,5 +5,6 @@ pub mod Kinds
 pub mod Reading
 pub mod Spelling
 pub mod Table
+pub mod Trie
 pub mod WellFormed
 pub mod WorkedTables

@@ -9,11 +9,11 @@ abbrev pub form : Line → spelled.Form
 form lines.Empty = spelled.Empty
 form lines.Version = spelled.Version
 form (lines.Range range) = spelled.Range range
-form (lines.Entry key row) = spelled.Entry key.items row.items
+form (lines.Entry string row) = spelled.Entry string.items row.items
 
 -- an entry has a code point and an element
 abbrev pub HasParts : Line → Type 0
 HasParts lines.Empty = Unit {0}
 HasParts lines.Version = Unit {0}
 HasParts (lines.Range range) = Unit {0}
-HasParts (lines.Entry key row) = (0 < length key.items) × (0 < length row.items)
+HasParts (lines.Entry string row) = (0 < length string.items) × (0 < length row.items)

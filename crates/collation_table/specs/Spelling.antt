@@ -49,7 +49,7 @@ abbrev pub begins_with_blank : List ℕ → Bool
 begins_with_blank [] = false
 begins_with_blank (b ∷ bytes) = is_blank b
 
--- without the blanks at the front
+-- without the blanks at the start
 abbrev pub trim_start : List ℕ → List ℕ
 trim_start bytes = drop (prefix_len is_blank bytes) bytes
 
@@ -65,11 +65,11 @@ trim bytes = trim_end (trim_start bytes)
 abbrev pub words : List ℕ → List (List ℕ)
 words bytes = filter (λ word. not (length word == 0)) (slice_split is_blank bytes)
 
--- what stands before the first c and what stands behind it, where there is one
+-- what stands before the first c and what stands after it, where there is one
 abbrev pub split_once : ℕ → List ℕ → Option (List ℕ × List ℕ)
 split_once c bytes = option_map (λ i. (take i bytes, drop (i + 1) bytes)) (position (λ b. b == c) bytes)
 
--- what stands behind the text that the bytes begin with
+-- what stands after the text that the bytes begin with
 abbrev pub after : List ℕ → List ℕ → Option (List ℕ)
 after text bytes = only_if (starts_with nat_eq bytes text) (drop (length text) bytes)
 
@@ -81,7 +81,7 @@ hex_digit b =
     if nat_le 48 b && nat_le b 57 then Some (b - 48) else
     (if nat_le 65 b && nat_le b 70 then Some (b - 55) else None)
 
--- the number that digits spell which stand behind the number n
+-- the number that digits spell which stand after the number n
 abbrev pub hex_after : ℕ → List ℕ → Option ℕ
 hex_after n [] = Some n
 hex_after n (b ∷ bytes) = hex_digit b >>= λ d. hex_after (n * 16 + d) bytes
@@ -119,11 +119,11 @@ element_of (mark ∷ weights) = mark_of mark >>= λ is_variable. weights_of is_v
 unfoldable pub bracketed_of : List ℕ → Option Element
 bracketed_of bytes = after (codes "[") (trim_start bytes) >>= λ inside. element_of inside
 
--- each part but the last is an element without its `]`; behind the last `]` are only blanks
-abbrev pub elements_in : List (List ℕ) → Option (List Element)
-elements_in [] = None
-elements_in (behind ∷ []) = only_if (list_all is_blank behind) []
-elements_in (part ∷ next ∷ parts) = bracketed_of part >>= λ e. option_map (λ es. e ∷ es) (elements_in (next ∷ parts))
+-- each part but the last is an element without its `]`; after the last `]` are only blanks
+abbrev pub elements_of_parts : List (List ℕ) → Option (List Element)
+elements_of_parts [] = None
+elements_of_parts (following ∷ []) = only_if (list_all is_blank following) []
+elements_of_parts (part ∷ next ∷ parts) = bracketed_of part >>= λ e. option_map (λ es. e ∷ es) (elements_of_parts (next ∷ parts))
 
 -- what is not empty
 abbrev pub some_of : {A : Type 0} → List A → Option (List A)
@@ -131,11 +131,11 @@ some_of xs = if length xs == 0 then None else Some xs
 
 -- one or more elements
 abbrev pub elements_of : List ℕ → Option (List Element)
-elements_of bytes = elements_in (slice_split (λ b. b == closing_bracket) bytes) >>= λ es. some_of es
+elements_of bytes = elements_of_parts (slice_split (λ b. b == closing_bracket) bytes) >>= λ es. some_of es
 
 -- one or more code points, with blanks between them
-abbrev pub key_of : List ℕ → Option (List ℕ)
-key_of bytes = all_some (map code_point_of (words bytes)) >>= λ key. some_of key
+abbrev pub string_of : List ℕ → Option (List ℕ)
+string_of bytes = all_some (map code_point_of (words bytes)) >>= λ string. some_of string
 
 -- Lines
 
@@ -158,8 +158,8 @@ is_version bytes = option_map_or ends_word (after (codes "@version") (trim_start
 -- `@implicitweights`, a blank, and `FIRST..LAST; BASE`
 unfoldable pub range_of : List ℕ → Option ImplicitRange
 range_of bytes = do
-  behind ← after (codes "@implicitweights") (trim_start bytes)
-  text ← only_if (begins_with_blank behind) behind
+  following ← after (codes "@implicitweights") (trim_start bytes)
+  text ← only_if (begins_with_blank following) following
   parts ← split_once semicolon text
   ends ← split_once full_stop parts.0
   second ← after (codes ".") ends.1
@@ -168,13 +168,13 @@ range_of bytes = do
   base ← weight_of (trim parts.1)
   Some (record { first = first; last = last; base = base })
 
--- a key, `;` and elements
+-- a mapped string, `;` and elements
 unfoldable pub entry_of : List ℕ → Option Form
 entry_of bytes = do
   parts ← split_once semicolon bytes
-  key ← key_of parts.0
+  string ← string_of parts.0
   elements ← elements_of parts.1
-  Some (Entry key elements)
+  Some (Entry string elements)
 
 -- what a line says whose end and comment were taken away, where it has one of the four forms
 unfoldable pub form_of : List ℕ → Option Form

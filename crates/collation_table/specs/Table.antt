@@ -1,38 +1,46 @@
 -- A collation element table as a finite map from lists of code points to lists of collation elements, with the ranges
 -- of implicit weights (UTS #10, sections 3 and 10.1.3).
-use Rattle.std.specs.Prelude.{ℕ, zero, suc, ◌+◌, ◌-◌, ◌/◌, ◌%◌, ◌≤◌, min, max, Bool, false, ◌&&◌, ◌||◌, ◌==◌, nat_le, if◌then◌else◌, List, [], ◌∷◌, length, take, map, find, Option, Some, None, is_some, bytes_eq}
+use Rattle.std.specs.Prelude.{◌≡◌, ℕ, zero, suc, ◌+◌, ◌-◌, ◌/◌, ◌%◌, ◌≤◌, min, max, Bool, false, ◌&&◌, ◌||◌, ◌==◌, nat_le, if◌then◌else◌, List, [], ◌∷◌, ◌++◌, length, take, map, find, Option, Some, None, is_some, bytes_eq}
 use Rattle.unicode_normalization.specs.Forms.{nfd}
 use Rattle.unicode_normalization.specs.Lookups.{canonical_combining_class}
-use Rattle.collation_table.specs.declared.limits.TheConstants.{MOST_KEY_POINTS, MOST_ROW_ELEMENTS}
+use Rattle.collation_table.specs.declared.limits.TheConstants.{MOST_STRING_POINTS, MOST_ROW_ELEMENTS}
 use Rattle.collation_table.specs.declared.elements.Element.{Element}
 use Rattle.collation_table.specs.declared.ranges.ImplicitRange.{ImplicitRange}
 
--- the rows, each a key and its elements, and the ranges, both in the order of the file
+-- the rows, each a mapped string and its elements, and the ranges, both in the order of the file
 pub record TableMap : Type 0 where
   pub rows : List (List ℕ × List Element)
   pub ranges : List ImplicitRange
 
--- the elements of the first row with the key
+-- the elements of the first row of the string
 abbrev pub row_with : List ℕ → List (List ℕ × List Element) → Option (List Element)
-row_with key [] = None
-row_with key (row ∷ rows) = if bytes_eq key row.0 then Some row.1 else row_with key rows
+row_with string [] = None
+row_with string (row ∷ rows) = if bytes_eq string row.0 then Some row.1 else row_with string rows
 
 -- the elements to which the table maps a list of code points
 abbrev pub row_of : TableMap → List ℕ → Option (List Element)
-row_of T key = row_with key T.rows
+row_of T string = row_with string T.rows
 
-abbrev pub is_key : TableMap → List ℕ → Bool
-is_key T key = is_some (row_of T key)
+abbrev pub is_mapped : TableMap → List ℕ → Bool
+is_mapped T string = is_some (row_of T string)
 
--- the greatest number up to n at which the front of so many points is a key, and 0 if none is
-abbrev pub longest_front_within : TableMap → List ℕ → ℕ → ℕ
-longest_front_within T points zero = 0
-longest_front_within T points (suc n) =
-    let shorter = longest_front_within T points n in if is_key T (take (suc n) points) then suc n else shorter
+-- the greatest number up to n at which the prefix of so many points is mapped, and 0 if none is
+abbrev pub longest_prefix_within : TableMap → List ℕ → ℕ → ℕ
+longest_prefix_within T points zero = 0
+longest_prefix_within T points (suc n) =
+    let shorter = longest_prefix_within T points n in if is_mapped T (take (suc n) points) then suc n else shorter
 
 -- UTS #10, S2.1: how long the longest initial part is that the table has
-abbrev pub longest_front : TableMap → List ℕ → ℕ
-longest_front T points = longest_front_within T points (length points)
+abbrev pub longest_prefix : TableMap → List ℕ → ℕ
+longest_prefix T points = longest_prefix_within T points (length points)
+
+-- no mapped string of two code points or more begins with cp
+abbrev pub BeginsNoLongerString : TableMap → ℕ → Type 0
+BeginsNoLongerString T cp = (next : ℕ) (rest : List ℕ) → is_mapped T (cp ∷ next ∷ rest) ≡ false
+
+-- cp stands in no mapped string after the first place
+abbrev pub ContinuesNoString : TableMap → ℕ → Type 0
+ContinuesNoString T cp = (first : ℕ) (prefix rest : List ℕ) → is_mapped T (first ∷ (prefix ++ cp ∷ rest)) ≡ false
 
 -- ---- implicit weights (UTS #10, section 10.1.3)
 
@@ -84,17 +92,17 @@ abbrev pub greatest : List ℕ → ℕ
 greatest [] = 0
 greatest (n ∷ ns) = max n (greatest ns)
 
--- how many code points the longest key has
-abbrev pub longest_key : TableMap → ℕ
-longest_key T = greatest (map (λ row. length row.0) T.rows)
+-- how many code points the longest mapped string has
+abbrev pub longest_mapped : TableMap → ℕ
+longest_mapped T = greatest (map (λ row. length row.0) T.rows)
 
 -- how many elements the largest row has; an implicit pair counts as a row of 2 elements
 abbrev pub most_elements : TableMap → ℕ
 most_elements T = max 2 (greatest (map (λ row. length row.1) T.rows))
 
 pub record HasSizes (T : TableMap) : Type 0 where
-  pub some_key : 1 ≤ longest_key T
-  pub key : longest_key T ≤ MOST_KEY_POINTS
+  pub some_mapped : 1 ≤ longest_mapped T
+  pub string : longest_mapped T ≤ MOST_STRING_POINTS
   pub pair : 2 ≤ most_elements T
   pub row : most_elements T ≤ MOST_ROW_ELEMENTS
 
@@ -103,7 +111,7 @@ pub record HasSizes (T : TableMap) : Type 0 where
 abbrev pub is_scalar_value : ℕ → Bool
 is_scalar_value cp = is_between 0 0xD7FF cp || is_between 0xE000 0x10FFFF cp
 
--- The canonical combining class of a code point that stands in a key. One that a text in NFD never has, as a surrogate or a
--- code point that is not its own decomposition, counts as a starter.
+-- The canonical combining class of a code point that stands in a mapped string. One that a text in NFD never has, as a
+-- surrogate or a code point that is not its own decomposition, counts as a starter.
 abbrev pub class_of : ℕ → ℕ
 class_of cp = if is_scalar_value cp && bytes_eq (nfd (cp ∷ [])) (cp ∷ []) then canonical_combining_class cp else 0

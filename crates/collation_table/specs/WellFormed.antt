@@ -3,11 +3,11 @@
 -- ranges of implicit weights. Each `breaks_` is a test that is true where the condition is broken.
 use Rattle.std.specs.Prelude.{◌≡◌, ℕ, ◌-◌, ◌<◌, ◌≤◌, Bool, true, false, not, ◌&&◌, ◌||◌, ◌==◌, nat_le, nat_lt, if◌then◌else◌, List, [], ◌∷◌, length, take, map, filter, flat_map, All, Contains, slice_get, slice_index, Option, Some, None, IsTrue}
 use Rattle.std.specs.List.{list_any, AllByRecursion}
-use Rattle.collation_table.specs.declared.limits.TheConstants.{MOST_KEY_POINTS, MOST_ROW_ELEMENTS}
+use Rattle.collation_table.specs.declared.limits.TheConstants.{MOST_STRING_POINTS, MOST_ROW_ELEMENTS}
 use Rattle.collation_table.specs.declared.elements.Element.{Element}
 use Rattle.collation_table.specs.declared.ranges.ImplicitRange.{ImplicitRange}
 use Rattle.collation_table.specs.Kinds.{wf2_kind, wf4_kind, wf5_kind, no_entry_kind}
-use Rattle.collation_table.specs.Table.{TableMap, row_of, is_key, is_between, greatest, first_with_base, class_of}
+use Rattle.collation_table.specs.Table.{TableMap, row_of, is_mapped, is_between, greatest, first_with_base, class_of}
 
 -- ---- kinds of elements
 
@@ -15,7 +15,7 @@ use Rattle.collation_table.specs.Table.{TableMap, row_of, is_key, is_between, gr
 abbrev pub is_follower : Element → Bool
 is_follower e = not e.is_variable && nat_le 0x8000 e.w1 && (e.w2 == 0) && (e.w3 == 0)
 
--- a primary weight that takes one weight more, that of the follower behind it
+-- a primary weight that takes one weight more, that of the follower after it
 abbrev pub is_lead : Element → Bool
 is_lead e = not e.is_variable && is_between 0xFB00 0xFBFF e.w1 && not (is_follower e)
 
@@ -51,7 +51,7 @@ breaks_pairs after_lead [] = after_lead
 breaks_pairs true (e ∷ es) = not (is_follower e) || breaks_pairs false es
 breaks_pairs false (e ∷ es) = is_follower e || is_high_variable e || breaks_pairs (is_lead e) es
 
--- each lead has its follower behind it, no follower stands elsewhere, and no variable weight is as high as a lead's
+-- each lead has its follower after it, no follower stands elsewhere, and no variable weight is as high as a lead's
 abbrev pub breaks_pair_rule : List Element → Bool
 breaks_pair_rule row = breaks_pairs false row
 
@@ -69,7 +69,7 @@ abbrev pub spreads_too_far : List ImplicitRange → ImplicitRange → Bool
 spreads_too_far earlier r =
     nat_lt 0x7FFF (greatest (map (λ s. s.last) (r ∷ with_base r.base earlier)) - first_with_base r.base r.first earlier)
 
--- whether a range, behind the earlier ones, has its ends in the wrong order or a base that is none, shares a code point with
+-- whether a range, after the earlier ones, has its ends in the wrong order or a base that is none, shares a code point with
 -- an earlier one, or spreads too far
 abbrev pub breaks_ranges : List ImplicitRange → ImplicitRange → Bool
 breaks_ranges earlier r =
@@ -77,15 +77,15 @@ breaks_ranges earlier r =
 
 -- ---- conditions on the whole table
 
-abbrev pub elements : TableMap → List Element
-elements T = flat_map (λ row. row.1) T.rows
+abbrev pub table_elements : TableMap → List Element
+table_elements T = flat_map (λ row. row.1) T.rows
 
 -- A secondary element whose second weight is not above that of each primary one and 0020, or a tertiary element whose third weight
 -- is not above that of each primary and secondary one and 0002. 0020 and 0002 are the weights of implicit pairs, which any text may
 -- have.
 abbrev pub breaks_wf2 : TableMap → Bool
 breaks_wf2 T =
-    let es = elements T in (
+    let es = table_elements T in (
     list_any (λ s. is_secondary s && (nat_le s.w2 0x20 || list_any (λ p. is_primary p && nat_le s.w2 p.w2) es)) es
     || list_any (λ t. is_tertiary t && (nat_le t.w3 2 || list_any (λ p. (is_primary p || is_secondary p) && nat_le t.w3 p.w3) es)) es
     )
@@ -93,17 +93,17 @@ breaks_wf2 T =
 -- a primary element, not variable, whose first weight is at least that of a variable one and at most that of another or the same one
 abbrev pub breaks_wf4 : TableMap → Bool
 breaks_wf4 T =
-    let es = elements T in
+    let es = table_elements T in
     list_any (λ p. is_primary p && not p.is_variable && list_any (λ v. v.is_variable && nat_le v.w1 p.w1) es && list_any (λ v. v.is_variable && nat_le p.w1 v.w1) es) es
 
--- the key ends in a non-starter, and without it, it is a list of two code points or more that is no key
-abbrev pub lacks_front : TableMap → List ℕ → Bool
-lacks_front T key =
-    let front = length key - 1 in
-    nat_lt 1 front && nat_lt 0 (class_of (slice_index key front)) && not (is_key T (take front key))
+-- the mapped string ends in a non-starter, and without it, it is a list of two code points or more that is not mapped
+abbrev pub lacks_prefix : TableMap → List ℕ → Bool
+lacks_prefix T string =
+    let prefix = length string - 1 in
+    nat_lt 1 prefix && nat_lt 0 (class_of (slice_index string prefix)) && not (is_mapped T (take prefix string))
 
 abbrev pub breaks_wf5 : TableMap → Bool
-breaks_wf5 T = list_any (λ row. lacks_front T row.0) T.rows
+breaks_wf5 T = list_any (λ row. lacks_prefix T row.0) T.rows
 
 abbrev pub is_empty_list : {X : Type 0} → List X → Bool
 is_empty_list [] = true
@@ -116,11 +116,11 @@ map_fault T =
 
 -- ---- well-formedness
 
--- a key and its row, by themselves
-pub record IsRowSound (key : List ℕ) (row : List Element) : Type 0 where
-  pub some_points : 1 ≤ length key
-  pub few_points : length key ≤ MOST_KEY_POINTS
-  pub points : All (λ cp. cp < 0x110000) key
+-- a mapped string and its row, by themselves
+pub record IsRowSound (string : List ℕ) (row : List Element) : Type 0 where
+  pub some_points : 1 ≤ length string
+  pub few_points : length string ≤ MOST_STRING_POINTS
+  pub points : All (λ cp. cp < 0x110000) string
   pub some_elements : 1 ≤ length row
   pub few_elements : length row ≤ MOST_ROW_ELEMENTS
   pub wf1 : breaks_wf1 row ≡ false
@@ -136,9 +136,9 @@ pub record AreLinesSound (T : TableMap) : Type 0 where
   pub rows : AllByRecursion (λ row. IsRowSound row.0 row.1) T.rows
   pub ranges : AreRangesSound T.ranges
 
--- e is an element of the row of some key
+-- e is an element of the row of some mapped string
 abbrev pub HasElement : TableMap → Element → Type 0
-HasElement T e = (key : List ℕ) × (row : List Element) × (row_of T key ≡ Some row) × Contains row e
+HasElement T e = (string : List ℕ) × (row : List Element) × (row_of T string ≡ Some row) × Contains row e
 
 -- WF2: secondary elements weigh more at the second level than primary ones, and tertiary ones at the third than both
 pub record IsWf2 (T : TableMap) : Type 0 where
@@ -153,13 +153,13 @@ abbrev pub IsWf4 : TableMap → Type 0
 IsWf4 T =
     (p v w : Element) → HasElement T p → HasElement T v → HasElement T w → IsTrue (is_primary p) → p.is_variable ≡ false → v.is_variable ≡ true → w.is_variable ≡ true → v.w1 ≤ p.w1 → w.w1 < p.w1
 
--- WF5: with a key of three code points or more that ends in a non-starter, its front is a key too
+-- WF5: with a mapped string of three code points or more that ends in a non-starter, its prefix without that is mapped too
 abbrev pub IsWf5 : TableMap → Type 0
 IsWf5 T =
-    (key : List ℕ) → IsTrue (is_key T key) → 2 < length key → 0 < class_of (slice_index key (length key - 1)) → IsTrue (is_key T (take (length key - 1) key))
+    (string : List ℕ) → IsTrue (is_mapped T string) → 2 < length string → 0 < class_of (slice_index string (length string - 1)) → IsTrue (is_mapped T (take (length string - 1) string))
 
 pub record IsWellFormed (T : TableMap) : Type 0 where
-  pub rows : (key : List ℕ) (row : List Element) → row_of T key ≡ Some row → IsRowSound key row
+  pub rows : (string : List ℕ) (row : List Element) → row_of T string ≡ Some row → IsRowSound string row
   pub ranges : AreRangesSound T.ranges
   pub wf2 : IsWf2 T
   pub wf4 : IsWf4 T

@@ -1,8 +1,8 @@
 -- Small table files, each the lines given, with what the definitions say of them.
 use Rattle.std.specs.Prelude.{◌≡◌, ℕ, zero, suc, List, [], ◌∷◌, ◌++◌, codes, Some, None}
 use Rattle.std.specs.List.{join_with_byte}
-use Rattle.collation_table.specs.Table.{TableMap, longest_front, implicit_weights, longest_key, most_elements, class_of}
-use Rattle.collation_table.specs.declared.limits.TheConstants.{MOST_KEY_POINTS, MOST_ROW_ELEMENTS, MOST_ENTRY_LINES, MOST_RANGE_LINES}
+use Rattle.collation_table.specs.Table.{TableMap, longest_prefix, implicit_weights, longest_mapped, most_elements, class_of}
+use Rattle.collation_table.specs.declared.limits.TheConstants.{MOST_STRING_POINTS, MOST_ROW_ELEMENTS, MOST_ENTRY_LINES, MOST_RANGE_LINES}
 use Rattle.collation_table.specs.Faults.{forms_of, map_of, table_fault}
 
 -- the lines of a file, the last without an end
@@ -16,10 +16,10 @@ table_of lines = map_of (forms_of (file lines))
 abbrev pub HasFault : List (List ℕ) → ℕ → ℕ → Type 0
 HasFault lines kind line = table_fault (file lines) ≡ Some (record { line = line; kind = kind })
 
--- the file of these lines has no fault, its longest key so many code points, and its largest row so many elements
+-- the file of these lines has no fault, its longest mapped string so many code points, and its largest row so many elements
 pub record IsTable (lines : List (List ℕ)) (points elements : ℕ) : Type 0 where
   pub accepted : table_fault (file lines) ≡ None
-  pub longest : longest_key (table_of lines) ≡ points
+  pub longest : longest_mapped (table_of lines) ≡ points
   pub largest : most_elements (table_of lines) ≡ elements
 
 -- a text so many times
@@ -66,8 +66,8 @@ pub record LineFaults : Type 0 where
 
 -- entry lines that break a condition
 pub record RowFaults : Type 0 where
-  pub key_twice_by_value : HasFault (codes "0061 ; [.1C00.0020.0002]" ∷ codes "000061 ; [.1C01.0020.0002]" ∷ []) 3 2
-  pub key_of_17 : HasFault ((copies 17 (codes "0061 ") ++ codes "; [.1C00.0020.0002]") ∷ []) 4 1
+  pub mapped_twice_by_value : HasFault (codes "0061 ; [.1C00.0020.0002]" ∷ codes "000061 ; [.1C01.0020.0002]" ∷ []) 3 2
+  pub string_of_17 : HasFault ((copies 17 (codes "0061 ") ++ codes "; [.1C00.0020.0002]") ∷ []) 4 1
   pub row_of_33 : HasFault ((codes "0061 ; " ++ copies 33 (codes "[.1C00.0020.0002]")) ∷ []) 4 1
   pub primary_alone : HasFault (codes "0061 ; [.1C00.0000.0000]" ∷ []) 5 1
   pub primary_skips_a_level : HasFault (codes "0061 ; [.1C00.0000.0002]" ∷ []) 5 1
@@ -93,7 +93,7 @@ pub record TableFaults : Type 0 where
   pub low_secondary : HasFault (codes "0301 ; [.0000.0020.0002]" ∷ []) 6 0
   pub low_tertiary : HasFault (codes "0061 ; [.1C00.0020.0002]" ∷ codes "0062 ; [.0000.0000.0002]" ∷ []) 6 0
   pub between_variables : HasFault (codes "0020 ; [*0201.0020.0002]" ∷ codes "002D ; [*0203.0020.0002]" ∷ codes "0061 ; [.0202.0020.0002]" ∷ []) 8 0
-  pub front_that_is_no_key : HasFault (codes "0061 ; [.1C00.0020.0002]" ∷ codes "0061 0062 0301 ; [.1C01.0020.0002]" ∷ []) 9 0
+  pub prefix_that_is_not_mapped : HasFault (codes "0061 ; [.1C00.0020.0002]" ∷ codes "0061 0062 0301 ; [.1C01.0020.0002]" ∷ []) 9 0
 
 -- files with no fault
 pub record AcceptedTables : Type 0 where
@@ -101,12 +101,12 @@ pub record AcceptedTables : Type 0 where
   pub lead_and_follower : IsTable (codes "2F00 ; [.FB40.0020.0004][.CE00.0000.0000]" ∷ []) 1 2
   pub blanks_and_comment : IsTable (codes "  0061 0062;[.1C00.0020.0002] [.0000.0021.0002]# x" ∷ []) 2 2
   pub range_just_near : IsTable (codes "@implicitweights 17000..17000; FB00" ∷ codes "@implicitweights 1EFFF..1EFFF; FB00" ∷ codes "0061 ; [.1C00.0020.0002]" ∷ []) 1 2
-  pub key_of_16 : IsTable ((copies 16 (codes "0061 ") ++ codes "; [.1C00.0020.0002]") ∷ []) 16 2
+  pub string_of_16 : IsTable ((copies 16 (codes "0061 ") ++ codes "; [.1C00.0020.0002]") ∷ []) 16 2
   pub row_of_32 : IsTable ((codes "0061 ; " ++ copies 32 (codes "[.1C00.0020.0002]")) ∷ []) 1 32
 
 -- the sizes that a table may have
 pub record Limits : Type 0 where
-  pub key_points : MOST_KEY_POINTS ≡ 16
+  pub string_points : MOST_STRING_POINTS ≡ 16
   pub row_elements : MOST_ROW_ELEMENTS ≡ 32
   pub entry_lines : MOST_ENTRY_LINES ≡ 1048576
   pub range_lines : MOST_RANGE_LINES ≡ 256
@@ -123,13 +123,13 @@ pub record ImplicitWeights : Type 0 where
   pub tangut : implicit_weights (table_of (codes "@implicitweights 17000..18AFF; FB00" ∷ [])) 0x17005 ≡ (0xFB00, 0x8005)
   pub tangut_supplement : implicit_weights (table_of (codes "@implicitweights 17000..18AFF; FB00" ∷ codes "@implicitweights 18D00..18D8F; FB00" ∷ [])) 0x18D00 ≡ (0xFB00, 0x9D00)
 
--- how long the longest front is that is a key (UTS #10, S2.1)
-pub record LongestFronts : Type 0 where
-  pub contraction : longest_front (table_of letters) (0x63 ∷ 0x68 ∷ 0x61 ∷ []) ≡ 2
-  pub no_contraction : longest_front (table_of letters) (0x63 ∷ 0x61 ∷ 0x68 ∷ []) ≡ 1
-  pub no_front : longest_front (table_of letters) (0x4E00 ∷ 0x61 ∷ []) ≡ 0
+-- how long the longest prefix is that is mapped (UTS #10, S2.1)
+pub record LongestPrefixes : Type 0 where
+  pub contraction : longest_prefix (table_of letters) (0x63 ∷ 0x68 ∷ 0x61 ∷ []) ≡ 2
+  pub no_contraction : longest_prefix (table_of letters) (0x63 ∷ 0x61 ∷ 0x68 ∷ []) ≡ 1
+  pub no_prefix : longest_prefix (table_of letters) (0x4E00 ∷ 0x61 ∷ []) ≡ 0
 
--- canonical combining classes of code points of a key
+-- canonical combining classes of code points of a mapped string
 pub record Classes : Type 0 where
   pub acute : class_of 0x301 ≡ 230
   -- U+0344 is not its own decomposition

@@ -10,9 +10,9 @@ use thiserror::Error;
 pub const MALFORMED_LINE: u8 = 1;
 /// A code point over 10FFFF.
 pub const BEYOND_UNICODE: u8 = 2;
-/// A key that an earlier line has.
-pub const KEY_TWICE: u8 = 3;
-/// A key or a row with more parts than one may have.
+/// A string that an earlier line maps.
+pub const MAPPED_TWICE: u8 = 3;
+/// A mapped string or a row with more parts than one may have.
 pub const TOO_LONG: u8 = 4;
 /// A row that breaks WF1 (UTS #10, section 5).
 pub const BREAKS_WF1: u8 = 5;
@@ -26,16 +26,16 @@ pub const BREAKS_WF4: u8 = 8;
 pub const BREAKS_WF5: u8 = 9;
 /// A row whose primary weights can't be read in pairs.
 pub const BREAKS_PAIRS: u8 = 10;
-/// A range of implicit weights that can't stand behind the earlier ones.
+/// A range of implicit weights that can't stand after the earlier ones.
 pub const BAD_RANGE: u8 = 11;
 /// A file with no row.
 pub const NO_ENTRY: u8 = 12;
 /// One line more than a table may have of a form.
 pub const TOO_MANY_LINES: u8 = 13;
 /// Memory that was refused.
-pub const OUT_OF_MEMORY: u8 = 14;
+pub const ALLOCATION_REFUSED: u8 = 14;
 
-/// Why a table file is refused. The first line at fault is told, with the smallest kind of fault that it has; where no line
+/// Why a table file is refused. The first line at fault is reported, with the smallest kind of fault that it has; where no line
 /// is, the whole table is at fault, at line 0.
 #[derive(Clone, Copy, Debug, PartialEq, Eq, Error)]
 #[error("fault {kind} at line {line}")]
@@ -52,7 +52,7 @@ impl From<AllocError> for TableFault {
     fn from(_error: AllocError) -> TableFault {
         TableFault {
             line: 0,
-            kind: OUT_OF_MEMORY,
+            kind: ALLOCATION_REFUSED,
         }
     }
 }

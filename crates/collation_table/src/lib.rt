@@ -1,8 +1,9 @@
 //! Collation element tables (UTS #10, Unicode Collation Algorithm).
 //!
-//! `Table::read` reads a file in the form of allkeys.txt and tells the first fault in it. A `Table` is known to be well formed
-//! (UTS #10, section 5), and answers the trait `Weights`, by which the crates above ask any table: the longest key that a list
-//! of code points begins with, the collation elements of a key, and the implicit weights of a code point that has no row.
+//! `Table::read` reads a file in the form of allkeys.txt and reports the first fault in it. A `Table` is known to be well
+//! formed (UTS #10, section 5), and answers the trait `Weights`, by which the crates above ask any table: the longest mapped
+//! string that a list of code points begins with, the collation elements of a mapped string, and the implicit weights of a code
+//! point that has no row.
 //!
 //! What a file spells and what is wrong with it stand in `specs/Spelling.antt` and `specs/Faults.antt`, the finite map that a
 //! table stands for in `specs/Table.antt`, and when it is well formed in `specs/WellFormed.antt`. Classes of code points come
@@ -16,6 +17,7 @@ mod limits;
 mod line_faults;
 mod lines;
 mod lookup;
+mod pages;
 mod pieces;
 mod ranges;
 mod reader;
@@ -23,12 +25,13 @@ mod rows;
 mod spelling;
 mod starters;
 mod table;
+mod trie;
 mod well_formed;
 pub mod worked;
 
 pub use elements::Element;
 pub use faults::TableFault;
-pub use limits::{MOST_KEY_POINTS, MOST_ROW_ELEMENTS};
+pub use limits::{MOST_ROW_ELEMENTS, MOST_STRING_POINTS};
 pub use lookup::Weights;
 pub use ranges::ImplicitRange;
 pub use table::Table;

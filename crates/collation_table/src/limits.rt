@@ -1,7 +1,7 @@
 //! The sizes that a table may have. The standard bounds none of them.
 
-/// The greatest number of code points of a key.
-pub const MOST_KEY_POINTS: usize = 16;
+/// The greatest number of code points of a mapped string.
+pub const MOST_STRING_POINTS: usize = 16;
 
 /// The greatest number of collation elements of a row.
 pub const MOST_ROW_ELEMENTS: usize = 32;

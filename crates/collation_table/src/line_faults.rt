@@ -1,4 +1,4 @@
-//! What is wrong with a line of a table file, by itself and behind the lines before it.
+//! What is wrong with a line of a table file, by itself and after the lines before it.
 
 ghost use Rattle.std.specs.Prelude.{◌≡◌, option_map};
 ghost use Rattle.std.specs.List.{list_any};
@@ -7,10 +7,10 @@ ghost use Rattle.collation_table.specs.Reading.{form};
 
 use crate::elements::Element;
 use crate::faults::{
-    BAD_RANGE, BEYOND_UNICODE, BREAKS_PAIRS, BREAKS_WF1, BREAKS_WF3, KEY_TWICE, MALFORMED_LINE,
+    BAD_RANGE, BEYOND_UNICODE, BREAKS_PAIRS, BREAKS_WF1, BREAKS_WF3, MALFORMED_LINE, MAPPED_TWICE,
     TOO_LONG, TOO_MANY_LINES,
 };
-use crate::limits::{MOST_ENTRY_LINES, MOST_KEY_POINTS, MOST_RANGE_LINES, MOST_ROW_ELEMENTS};
+use crate::limits::{MOST_ENTRY_LINES, MOST_RANGE_LINES, MOST_ROW_ELEMENTS, MOST_STRING_POINTS};
 use crate::lines::Line;
 use crate::ranges::ImplicitRange;
 use crate::rows::Rows;
@@ -26,7 +26,7 @@ fn any_beyond_unicode(points: &[u32]) -> bool
     points.iter().any(|point| *point > LAST_CODE_POINT)
 }
 
-/// The smallest kind of fault of a range line behind the lines that gave `rows`.
+/// The smallest kind of fault of a range line after the lines that gave `rows`.
 fn range_fault(rows: &Rows, range: &ImplicitRange) -> Option<u8>
     ensures { result ≡ range_kind rows.now range.now }
 {
@@ -41,15 +41,15 @@ fn range_fault(rows: &Rows, range: &ImplicitRange) -> Option<u8>
     }
 }
 
-/// The smallest kind of fault of an entry line behind the lines that gave `rows`.
-fn entry_fault(rows: &Rows, key: &[u32], row: &[Element]) -> Option<u8>
-    ensures { result ≡ entry_kind rows.now key.now row.now }
+/// The smallest kind of fault of an entry line after the lines that gave `rows`.
+fn entry_fault(rows: &Rows, string: &[u32], row: &[Element]) -> Option<u8>
+    ensures { result ≡ entry_kind rows.now string.now row.now }
 {
-    if any_beyond_unicode(key) {
+    if any_beyond_unicode(string) {
         Some(BEYOND_UNICODE)
-    } else if rows.has_key(key) {
-        Some(KEY_TWICE)
-    } else if key.len() > MOST_KEY_POINTS || row.len() > MOST_ROW_ELEMENTS {
+    } else if rows.maps(string) {
+        Some(MAPPED_TWICE)
+    } else if string.len() > MOST_STRING_POINTS || row.len() > MOST_ROW_ELEMENTS {
         Some(TOO_LONG)
     } else if breaks_wf1(row) {
         Some(BREAKS_WF1)
@@ -64,7 +64,7 @@ fn entry_fault(rows: &Rows, key: &[u32], row: &[Element]) -> Option<u8>
     }
 }
 
-/// The smallest kind of fault of a line behind the lines that gave `rows`.
+/// The smallest kind of fault of a line after the lines that gave `rows`.
 pub(crate) fn line_fault(rows: &Rows, line: &Option<Line>) -> Option<u8>
     ensures { result ≡ line_kind rows.now (option_map form line.now) }
 {
@@ -72,6 +72,6 @@ pub(crate) fn line_fault(rows: &Rows, line: &Option<Line>) -> Option<u8>
         None => Some(MALFORMED_LINE),
         Some(Line::Empty | Line::Version) => None,
         Some(Line::Range(range)) => range_fault(rows, range),
-        Some(Line::Entry { key, row }) => entry_fault(rows, key, row),
+        Some(Line::Entry { string, row }) => entry_fault(rows, string, row),
     }
 }

@@ -10,7 +10,7 @@ use crate::pieces::{
     cut, is_blank_byte, is_blank_only, strip_text, without_leading_blanks, without_outer_blanks,
 };
 use crate::ranges::ImplicitRange;
-use crate::spelling::{code_point, elements, key, weight};
+use crate::spelling::{code_point, elements, string, weight};
 use std::alloc::{AllocError, Global};
 
 /// What a line says.
@@ -23,7 +23,7 @@ pub(crate) enum Line {
     /// Code points whose implicit weights begin with a base of their own.
     Range(ImplicitRange),
     /// A row of the table.
-    Entry { key: Vec<u32>, row: Vec<Element> },
+    Entry { string: Vec<u32>, row: Vec<Element> },
 }
 
 /// Whether the bytes begin with a blank.
@@ -36,13 +36,13 @@ fn starts_with_blank(bytes: &[u8]) -> bool
     }
 }
 
-/// Whether a line is `@version`, alone or with a blank and any bytes behind it.
+/// Whether a line is `@version`, alone or with a blank and any bytes after it.
 #[tactic(auto, unfolding(crate::specs::Spelling::is_version))]
 fn is_version_line(text: &[u8]) -> bool
     ensures { result ≡ is_version text.now }
 {
     match strip_text(without_leading_blanks(text), b"@version") {
-        Some(behind) => behind.is_empty() || starts_with_blank(behind),
+        Some(following) => following.is_empty() || starts_with_blank(following),
         None => false,
     }
 }
@@ -52,11 +52,11 @@ fn is_version_line(text: &[u8]) -> bool
 fn range(text: &[u8]) -> Option<ImplicitRange>
     ensures { result ≡ range_of text.now }
 {
-    let behind = strip_text(without_leading_blanks(text), b"@implicitweights")?;
-    if !starts_with_blank(behind) {
+    let following = strip_text(without_leading_blanks(text), b"@implicitweights")?;
+    if !starts_with_blank(following) {
         return None;
     }
-    let (ends, base) = cut(behind, b';')?;
+    let (ends, base) = cut(following, b';')?;
     let (first, rest) = cut(ends, b'.')?;
     let last = strip_text(rest, b".")?;
     let first = code_point(without_outer_blanks(first))?;
@@ -65,7 +65,7 @@ fn range(text: &[u8]) -> Option<ImplicitRange>
     Some(ImplicitRange { first, last, base })
 }
 
-/// The row of a line `KEY ; ELEMENTS`.
+/// The row of a line `CODE POINTS ; ELEMENTS`.
 #[tactic(auto, unfolding(crate::specs::Spelling::entry_of))]
 fn entry(alloc: Global, text: &[u8]) -> Result<Option<Line>, AllocError>
     ensures value { IfOk result (λ found. option_map form found ≡ entry_of text.now) }
@@ -74,13 +74,13 @@ fn entry(alloc: Global, text: &[u8]) -> Result<Option<Line>, AllocError>
     let Some((left, right)) = cut(text, b';') else {
         return Ok(None);
     };
-    let Some(key) = key(alloc, left)? else {
+    let Some(string) = string(alloc, left)? else {
         return Ok(None);
     };
     let Some(row) = elements(alloc, right)? else {
         return Ok(None);
     };
-    Ok(Some(Line::Entry { key, row }))
+    Ok(Some(Line::Entry { string, row }))
 }
 
 /// What a line says without its end and its comment, or `None` where it has none of the four forms.
@@ -114,7 +114,7 @@ fn without_comment(text: &[u8]) -> &[u8]
     ensures { result.now ≡ before_first (λ b. b == number_sign) text.now }
 {
     match cut(text, b'#') {
-        Some((front, _)) => front,
+        Some((prefix, _)) => prefix,
         None => text,
     }
 }

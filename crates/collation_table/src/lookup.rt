@@ -1,6 +1,6 @@
 //! What the rest of the library asks a collation element table.
-ghost use Rattle.std.specs.Prelude.{◌≡◌, ◌<◌, ◌≤◌, length, option_copied};
-ghost use Rattle.collation_table.specs.Table.{TableMap, HasSizes, row_of, longest_front, implicit_pair, longest_key, most_elements};
+ghost use Rattle.std.specs.Prelude.{◌≡◌, false, ◌<◌, ◌≤◌, length, option_copied};
+ghost use Rattle.collation_table.specs.Table.{TableMap, BeginsNoLongerString, ContinuesNoString, HasSizes, row_of, longest_prefix, implicit_pair, longest_mapped, most_elements};
 ghost use Rattle.collation_table.specs.WellFormed.{IsWellFormed};
 
 use crate::elements::Element;
@@ -10,23 +10,41 @@ pub trait Weights {
     // The finite map and the ranges that the table stands for.
     ghost table: { Self → TableMap };
 
-    /// The greatest number of code points at which a front of `points` is a key of the table, and 0 if none is.
+    /// The greatest number of code points at which a prefix of `points` is mapped by the table, and 0 if none is.
     fn longest(&self, points: &[u32]) -> usize
-        ensures value { result ≡ longest_front (table self.now) points.now }
+        ensures value { result ≡ longest_prefix (table self.now) points.now }
         ensures within { result ≤ length points.now };
 
-    /// The collation elements to which the table maps `key`, lent by the table.
-    fn row(&self, key: &[u32]) -> Option<&[Element]>
-        ensures { option_copied result ≡ row_of (table self.now) key.now };
+    /// The collation elements to which the table maps `string`, lent by the table.
+    fn row(&self, string: &[u32]) -> Option<&[Element]>
+        ensures { option_copied result ≡ row_of (table self.now) string.now };
+
+    /// Whether a mapped string of two or more code points begins with `cp`. `false` only where none does; a table that does not
+    /// know answers `true`.
+    fn begins_longer_string(&self, cp: u32) -> bool
+        ensures { result ≡ false → BeginsNoLongerString (table self.now) cp }
+    {
+        let _ = cp;
+        true
+    }
+
+    /// Whether `cp` stands after the first place in some mapped string. `false` only where it does not; a table that does not
+    /// know answers `true`.
+    fn continues_string(&self, cp: u32) -> bool
+        ensures { result ≡ false → ContinuesNoString (table self.now) cp }
+    {
+        let _ = cp;
+        true
+    }
 
     /// The two elements of a code point that has no row of its own (UTS #10, section 10.1.3).
     fn implicit(&self, cp: u32) -> [Element; 2]
         requires { cp < 0x110000 }
         ensures { result ≡ implicit_pair (table self.now) cp };
 
-    /// The number of code points of the longest key.
+    /// The number of code points of the longest mapped string.
     fn longest_key(&self) -> usize
-        ensures { result ≡ longest_key (table self.now) };
+        ensures { result ≡ longest_mapped (table self.now) };
 
     /// The number of elements of the largest row, at least the 2 of an implicit pair.
     fn most_elements(&self) -> usize

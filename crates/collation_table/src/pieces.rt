@@ -26,7 +26,7 @@ fn place_of(bytes: &[u8], byte: u8) -> Option<usize>
     bytes.iter().position(|b| *b == byte)
 }
 
-/// What stands before the first `separator`, and what stands behind it.
+/// What stands before the first `separator`, and what stands after it.
 pub(crate) fn cut(bytes: &[u8], separator: u8) -> Option<(&[u8], &[u8])>
     ensures { option_map (λ parts. (parts.0.now, parts.1.now)) result ≡ split_once separator bytes.now }
 {
@@ -39,12 +39,12 @@ fn without_carriage_return(line: &[u8]) -> &[u8]
     ensures { result.now ≡ strip_carriage_return line.now }
 {
     match line {
-        [front @ .., b'\r'] => front,
+        [prefix @ .., b'\r'] => prefix,
         _ => line,
     }
 }
 
-/// The first line, without its end, and what stands behind that end. A line ends with LF or CR LF; the last one may have no
+/// The first line, without its end, and what stands after that end. A line ends with LF or CR LF; the last one may have no
 /// end.
 pub(crate) fn first_line(bytes: &[u8]) -> (&[u8], &[u8])
     requires { 0 < length bytes.now }
@@ -52,12 +52,12 @@ pub(crate) fn first_line(bytes: &[u8]) -> (&[u8], &[u8])
     ensures shorter { length result.1.now < length bytes.now }
 {
     match cut(bytes, b'\n') {
-        Some((line, behind)) => (without_carriage_return(line), behind),
+        Some((line, following)) => (without_carriage_return(line), following),
         None => (bytes, &[]),
     }
 }
 
-/// What stands behind `text`, with which the bytes have to begin.
+/// What stands after `text`, with which the bytes have to begin.
 pub(crate) fn strip_text<'a>(bytes: &'a [u8], text: &[u8]) -> Option<&'a [u8]>
     ensures { option_map (λ rest. rest.now) result ≡ after text.now bytes.now }
 {
@@ -91,7 +91,7 @@ fn trailing_blanks(bytes: &[u8]) -> usize
         .count()
 }
 
-/// The bytes without the blanks at the front.
+/// The bytes without the blanks at the start.
 pub(crate) fn without_leading_blanks(bytes: &[u8]) -> &[u8]
     ensures { result.now ≡ trim_start bytes.now }
 {

@@ -81,7 +81,7 @@ fn spreads_too_far(earlier: &[ImplicitRange], range: &ImplicitRange) -> bool
     last.saturating_sub(first) > MOST_OFFSET
 }
 
-/// Whether `range`, behind the earlier ones, has its ends in the wrong order, a base that is none, a code point that an
+/// Whether `range`, after the earlier ones, has its ends in the wrong order, a base that is none, a code point that an
 /// earlier one has, or leaves more code points under its base than the second weight of a pair can count.
 pub(crate) fn breaks_ranges(earlier: &[ImplicitRange], range: &ImplicitRange) -> bool
     ensures { result ≡ breaks_ranges earlier.now range.now }

@@ -3,7 +3,7 @@
 ghost use Rattle.std.specs.Prelude.{◌≡◌, None, IfOk, IfErr, OnOk};
 ghost use Rattle.collation_table.specs.WellFormed.{IsWellFormed};
 ghost use Rattle.collation_table.specs.Spelling.{line_form};
-ghost use Rattle.collation_table.specs.Faults.{forms_of, map_of, line_kind, fault_at, with_line, first_line_fault, table_fault, Spells, IsFaultOrMemory};
+ghost use Rattle.collation_table.specs.Faults.{forms_of, map_of, line_kind, fault_at_line, with_line, first_line_fault, table_fault, SpellsTable, IsFaultOrAllocationRefused};
 
 use crate::faults::TableFault;
 use crate::line_faults::line_fault;
@@ -14,37 +14,38 @@ use crate::rows::Rows;
 use crate::table::Table;
 use std::alloc::Global;
 
-/// Adds what the line with this number says, or tells its fault; where memory is refused, that is told at line 0.
-fn read_line(alloc: Global, rows: &mut Rows, number: u64, text: &[u8]) -> Result<(), TableFault>
-    ensures ok { OnOk result ((line_kind rows.old (line_form text.now) ≡ None) × (rows.new ≡ with_line rows.old (line_form text.now))) }
-    ensures fault { IfErr result (IsFaultOrMemory (fault_at number (line_kind rows.old (line_form text.now)))) }
+/// Adds what the line with this number says, or reports its fault; where memory is refused, that is reported at line 0.
+fn read_line(alloc: Global, rows: Rows, number: u64, text: &[u8]) -> Result<Rows, TableFault>
+    ensures right { OnOk result (line_kind rows (line_form text.now) ≡ None) }
+    ensures rows { IfOk result (λ new. new ≡ with_line rows (line_form text.now)) }
+    ensures fault { IfErr result (IsFaultOrAllocationRefused (fault_at_line number (line_kind rows (line_form text.now)))) }
 {
     let line = parse_line(alloc, text)?;
-    if let Some(kind) = line_fault(rows, &line) {
-        return Err(TableFault { line: number, kind });
+    match line_fault(&rows, &line) {
+        Some(kind) => return Err(TableFault { line: number, kind }),
+        None => {}
     }
     match line {
-        Some(Line::Range(range)) => rows.push_range(range)?,
-        Some(Line::Entry { key, row }) => rows.insert(key, row)?,
-        Some(Line::Empty | Line::Version) | None => {}
+        Some(Line::Range(range)) => Ok(rows.push_range(range)?),
+        Some(Line::Entry { string, row }) => Ok(rows.insert(alloc, string, row)?),
+        Some(Line::Empty | Line::Version) | None => Ok(rows),
     }
-    Ok(())
 }
 
 /// The rows and ranges of all lines, or the fault of the first line that has one.
 fn read_lines(alloc: Global, bytes: &[u8]) -> Result<Rows, TableFault>
     ensures ok { OnOk result (first_line_fault (forms_of bytes.now) ≡ None) }
     ensures rows { IfOk result (λ rows. rows ≡ map_of (forms_of bytes.now)) }
-    ensures fault { IfErr result (IsFaultOrMemory (first_line_fault (forms_of bytes.now))) }
+    ensures fault { IfErr result (IsFaultOrAllocationRefused (first_line_fault (forms_of bytes.now))) }
 {
     let mut rows = Rows::new(alloc);
     let mut rest = bytes;
     let mut number = 0;
     while !rest.is_empty() {
-        let (text, behind) = first_line(rest);
+        let (text, following) = first_line(rest);
         number += 1;
-        read_line(alloc, &mut rows, number, text)?;
-        rest = behind;
+        rows = read_line(alloc, rows, number, text)?;
+        rest = following;
     }
     Ok(rows)
 }
@@ -56,22 +57,22 @@ impl Table {
     /// of any bytes. The rest of a line has one of four forms:
     ///
     /// - nothing but blanks, each a space or a tab;
-    /// - `@version`, alone or with a blank and any bytes behind it, which is passed over;
+    /// - `@version`, alone or with a blank and any bytes after it, which is passed over;
     /// - `@implicitweights FIRST..LAST; BASE`, a range of implicit weights (UTS #10, section 10.1.3);
-    /// - `KEY ; ELEMENTS`, a row: one or more code points with blanks between them, and one or more collation elements as
-    ///   `[.1C00.0020.0002]`, where `*` in place of the first `.` marks a variable one.
+    /// - `CODE POINTS ; ELEMENTS`, a row: one or more code points with blanks between them, and one or more collation elements
+    ///   as `[.1C00.0020.0002]`, where `*` in place of the first `.` marks a variable one.
     ///
     /// A code point is four to six digits `0` to `9` and `A` to `F`, a weight is four. Blanks may stand at both ends of a line
     /// and between its parts, not inside an element. The forms may stand in any order.
     ///
     /// # Errors
     ///
-    /// The first line at fault is told, counted from 1, with the smallest kind of fault that it has:
+    /// The first line at fault is reported, counted from 1, with the smallest kind of fault that it has:
     ///
     /// - 1: it has none of the four forms;
     /// - 2: a code point is over 10FFFF;
-    /// - 3: an earlier line has the same key;
-    /// - 4: the key has more than 16 code points, or the row more than 32 elements;
+    /// - 3: an earlier line maps the same string;
+    /// - 4: the mapped string has more than 16 code points, or the row more than 32 elements;
     /// - 5: an element breaks WF1 (UTS #10, section 5); 7: one breaks WF3;
     /// - 10: a first weight FB00 to FBFF is not followed by an element `[.BBBB.0000.0000]` with BBBB from 8000 on, such an
     ///   element stands elsewhere, or a variable first weight is FB00 or more;
@@ -79,15 +80,15 @@ impl Table {
     ///   range, or the ranges of its base so far span more than 8000 (hexadecimal) code points;
     /// - 13: 1,048,576 rows, or 256 ranges, stand before it.
     ///
-    /// Where no line is at fault, line 0 is told with the first of these kinds that the table has: 12: it has no row;
+    /// Where no line is at fault, line 0 is reported with the first of these kinds that the table has: 12: it has no row;
     /// 6: it breaks WF2; 8: WF4; 9: WF5. Line 0 and kind 14 say that memory was refused.
     pub fn read(alloc: Global, bytes: &[u8]) -> Result<Table, TableFault>
         // A table comes from a file with no fault, and is what the file spells.
         ensures accepted { OnOk result (table_fault bytes.now ≡ None) }
-        ensures spelled { IfOk result (λ table. Spells bytes.now (⟦<Table as Weights>⟧.table table)) }
+        ensures spelled { IfOk result (λ table. SpellsTable bytes.now (⟦<Table as Weights>⟧.table table)) }
         ensures well_formed { IfOk result (λ table. IsWellFormed (⟦<Table as Weights>⟧.table table)) }
-        // The first fault is told, unless memory was refused.
-        ensures fault { IfErr result (IsFaultOrMemory (table_fault bytes.now)) }
+        // The first fault is reported, unless memory was refused.
+        ensures fault { IfErr result (IsFaultOrAllocationRefused (table_fault bytes.now)) }
     {
         let rows = read_lines(alloc, bytes)?;
         match Table::seal(rows) {

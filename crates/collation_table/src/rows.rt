@@ -1,34 +1,67 @@
 //! The rows and the implicit ranges of a table, as the lines of its file give them one by one.
-ghost use Rattle.std.specs.Prelude.{◌≡◌, [], ◌∷◌, ◌++◌, false, length, OnOk, OnErr, option_copied};
-ghost use Rattle.collation_table.specs.Table.{TableMap, row_of, is_key};
+ghost use Rattle.std.specs.Prelude.{◌≡◌, [], ◌∷◌, ◌++◌, false, length, OnOk, OnErr, IfOk, option_copied, ◌≤◌};
+ghost use Rattle.collation_table.specs.Table.{TableMap, BeginsNoLongerString, ContinuesNoString, row_of, is_mapped, longest_prefix, longest_mapped, most_elements};
+ghost use Rattle.collation_table.specs.Entries.{part};
 ghost use Rattle.collation_table.specs.WellFormed.{IsRowSound, breaks_ranges};
 
 use crate::elements::Element;
+use crate::pages::Place;
 use crate::ranges::{self, ImplicitRange};
-use indexmap::IndexMap;
+use crate::trie::Trie;
 use std::alloc::{AllocError, Global};
 use std::marker::Model;
 
 mod conditions;
 
-/// Rows by their keys, in the order in which they were inserted, and ranges of implicit weights. Each row and each range is
-/// known to meet the conditions on it; those on the whole table are decided by `Table::seal`.
+/// Where a row lies: its mapped string among the code points of all mapped strings, its elements among those of all rows.
+#[derive(Clone, Copy, PartialEq, Eq, Debug)]
+pub(crate) struct RowPlaces {
+    string: Place,
+    row: Place,
+}
+
+/// Rows in the order in which they were inserted, with an index of their mapped strings, and ranges of implicit weights. All
+/// elements lie in one vector, and so do the code points of all mapped strings. Each row and each range is known to meet the
+/// conditions on it; those on the whole table are decided by `Table::seal`.
 #[derive(Drop)]
 pub struct Rows {
-    rows: IndexMap<Vec<u32>, Vec<Element>>,
+    points: Vec<u32>,
+    elements: Vec<Element>,
+    places: Vec<RowPlaces>,
+    trie: Trie,
     ranges: Vec<ImplicitRange>,
+    longest: usize,
+    largest: usize,
 }
 
 impl Model for Rows {
     ghost use Rattle.collation_table.specs.Table.{TableMap};
     ghost use Rattle.collation_table.specs.WellFormed.{AreLinesSound};
-    ghost use Rattle.collation_table.specs.Entries.{rows_of};
+    ghost use Rattle.collation_table.specs.Entries.{rows_at, IsIndexed};
 
     ghost Value = { TableMap };
 
-    ghost view = { λ a. record { rows = rows_of a.rows.entries; ranges = a.ranges.items } };
+    ghost view = { λ a. record { rows = rows_at a.points.items a.elements.items a.places.items; ranges = a.ranges.items } };
 
-    ghost invariant = { λ a. AreLinesSound (record { rows = rows_of a.rows.entries; ranges = a.ranges.items }) };
+    ghost invariant = { λ a. AreLinesSound (record { rows = rows_at a.points.items a.elements.items a.places.items; ranges = a.ranges.items }) × IsIndexed a.points.items a.elements.items a.places.items a.trie a.longest a.largest };
+}
+
+/// The elements at a place.
+fn elements_at(elements: &[Element], place: Place) -> &[Element]
+    requires start { place.start ≤ place.end }
+    requires end { place.end ≤ length elements.now }
+    ensures { result.now ≡ part elements.now place }
+{
+    &elements[place.start..place.end]
+}
+
+/// The code points at a place.
+fn points_at(points: &[u32], place: Place) -> &[u32]
+    requires start { place.start ≤ place.end }
+    requires end { place.end ≤ length points.now }
+    ensures { result.now ≡ part points.now place }
+{
+    &points[place.start..place.end]
 }
 
 impl Rows {
@@ -37,44 +70,123 @@ impl Rows {
         ensures { result ≡ record { rows = []; ranges = [] } }
     {
         Rows {
-            rows: IndexMap::new(alloc),
+            points: Vec::new(alloc),
+            elements: Vec::new(alloc),
+            places: Vec::new(alloc),
+            trie: Trie::new(alloc),
             ranges: Vec::new(alloc),
+            longest: 0,
+            largest: 2,
         }
     }
 
-    /// The elements of the row with this key.
-    pub fn row(&self, key: &[u32]) -> Option<&[Element]>
-        ensures { option_copied result ≡ row_of self.now key.now }
+    /// The elements of the row of this string.
+    pub fn row(&self, string: &[u32]) -> Option<&[Element]>
+        ensures { option_copied result ≡ row_of self.now string.now }
     {
-        match self.rows.get(key) {
-            Some(row) => Some(row.as_slice()),
+        match self.trie.place(string) {
+            Some(place) => Some(elements_at(self.elements.as_slice(), place)),
             None => None,
         }
     }
 
-    /// Whether a row has this key.
-    pub fn has_key(&self, key: &[u32]) -> bool
-        ensures { result ≡ is_key self.now key.now }
+    /// Whether a row maps this string.
+    pub fn maps(&self, string: &[u32]) -> bool
+        ensures { result ≡ is_mapped self.now string.now }
     {
-        self.rows.contains_key(key)
+        self.trie.place(string).is_some()
     }
 
-    /// Adds a row behind the others. Where memory is refused, nothing has changed.
-    pub fn insert(&mut self, key: Vec<u32>, row: Vec<Element>) -> Result<(), AllocError>
-        requires absent { is_key self.old key.items ≡ false }
-        requires sound { IsRowSound key.items row.items }
-        ensures ok { OnOk result (self.new ≡ record self.old { rows = self.old.rows ++ (key.items, row.items) ∷ [] }) }
-        ensures err { OnErr result (self.new ≡ self.old) }
+    /// The greatest number of code points at which a prefix of `points` is mapped, and 0 if none is.
+    pub fn longest(&self, points: &[u32]) -> usize
+        ensures value { result ≡ longest_prefix self.now points.now }
+        ensures within { result ≤ length points.now }
     {
-        self.rows.insert(key, row)?;
-        Ok(())
+        self.trie.longest(points)
+    }
+
+    /// Whether a mapped string of two or more code points begins with `cp`.
+    pub fn begins_longer_string(&self, cp: u32) -> bool
+        ensures { result ≡ false → BeginsNoLongerString self.now cp }
+    {
+        self.trie.begins_longer_string(cp)
+    }
+
+    /// Whether `cp` stands after the first place in a mapped string.
+    pub fn continues_string(&self, cp: u32) -> bool
+        ensures { result ≡ false → ContinuesNoString self.now cp }
+    {
+        self.trie.continues_string(cp)
+    }
+
+    /// The rows with one more after the others.
+    pub fn insert(
+        self,
+        alloc: Global,
+        string: Vec<u32>,
+        row: Vec<Element>,
+    ) -> Result<Rows, AllocError>
+        requires absent { is_mapped self string.items ≡ false }
+        requires sound { IsRowSound string.items row.items }
+        ensures { IfOk result (λ rows. rows ≡ record self { rows = self.rows ++ (string.items, row.items) ∷ [] }) }
+    {
+        let Rows {
+            mut points,
+            mut elements,
+            mut places,
+            mut trie,
+            ranges,
+            longest,
+            largest,
+        } = self;
+        let string = string.as_slice();
+        let row = row.as_slice();
+        let string_start = points.len();
+        points.extend_from_slice(string)?;
+        let row_start = elements.len();
+        elements.extend_from_slice(row)?;
+        let place = Place {
+            start: row_start,
+            end: elements.len(),
+        };
+        places.push(RowPlaces {
+            string: Place {
+                start: string_start,
+                end: points.len(),
+            },
+            row: place,
+        })?;
+        trie.insert(alloc, string, place)?;
+        Ok(Rows {
+            points,
+            elements,
+            places,
+            trie,
+            ranges,
+            longest: longest.max(string.len()),
+            largest: largest.max(row.len()),
+        })
     }
 
     /// How many rows there are.
     pub fn row_count(&self) -> usize
         ensures { result ≡ length self.now.rows }
     {
-        self.rows.len()
+        self.places.len()
+    }
+
+    /// The number of code points of the longest mapped string.
+    pub fn longest_key(&self) -> usize
+        ensures { result ≡ longest_mapped self.now }
+    {
+        self.longest
+    }
+
+    /// The number of elements of the largest row, at least 2.
+    pub fn most_elements(&self) -> usize
+        ensures { result ≡ most_elements self.now }
+    {
+        self.largest
     }
 
     /// The ranges, in order.
@@ -91,13 +203,29 @@ impl Rows {
         ranges::breaks_ranges(self.ranges.as_slice(), range)
     }
 
-    /// Adds a range behind the others. Where memory is refused, nothing has changed.
-    pub fn push_range(&mut self, range: ImplicitRange) -> Result<(), AllocError>
-        requires { breaks_ranges self.old.ranges range ≡ false }
-        ensures ok { OnOk result (self.new ≡ record self.old { ranges = self.old.ranges ++ range ∷ [] }) }
-        ensures err { OnErr result (self.new ≡ self.old) }
+    /// The rows with one more range after the others.
+    pub fn push_range(self, range: ImplicitRange) -> Result<Rows, AllocError>
+        requires { breaks_ranges self.ranges range ≡ false }
+        ensures { IfOk result (λ rows. rows ≡ record self { ranges = self.ranges ++ range ∷ [] }) }
     {
-        self.ranges.push(range)?;
-        Ok(())
+        let Rows {
+            points,
+            elements,
+            places,
+            trie,
+            mut ranges,
+            longest,
+            largest,
+        } = self;
+        ranges.push(range)?;
+        Ok(Rows {
+            points,
+            elements,
+            places,
+            trie,
+            ranges,
+            longest,
+            largest,
+        })
     }
 }

@@ -1,8 +1,8 @@
-//! Code points, weights, collation elements and keys as a table file spells them (UTS #10, the form of allkeys.txt).
+//! Code points, weights, collation elements and mapped strings as a table file spells them (UTS #10, the form of allkeys.txt).
 
 ghost use Rattle.std.specs.Prelude.{◌≡◌, ◌^◌, ◌<◌, ◌≤◌, length, IfOk, IfSome, option_map};
 ghost use Rattle.std.specs.List.{list_all};
-ghost use Rattle.collation_table.specs.Spelling.{is_blank, hex_digit, hex_after, code_point_of, weight_of, mark_of, weights_of, element_of, bracketed_of, some_of, elements_of, key_of};
+ghost use Rattle.collation_table.specs.Spelling.{is_blank, hex_digit, hex_after, code_point_of, weight_of, mark_of, weights_of, element_of, bracketed_of, some_of, elements_of, string_of};
 
 use crate::elements::Element;
 use crate::pieces::{cut, is_blank_byte, is_blank_only, strip_text, without_leading_blanks};
@@ -90,7 +90,7 @@ fn marked_weights(inside: &[u8]) -> Option<Element>
     weights(is_variable_mark(*mark)?, text)
 }
 
-/// The element of which `text` has all but the `]`; blanks may stand in front.
+/// The element of which `text` has all but the `]`; blanks may stand before it.
 #[tactic(auto, unfolding(crate::specs::Spelling::bracketed_of))]
 fn bracketed(text: &[u8]) -> Option<Element>
     ensures { result ≡ bracketed_of text.now }
@@ -113,12 +113,12 @@ pub(crate) fn elements(alloc: Global, text: &[u8]) -> Result<Option<Vec<Element>
 {
     let mut elements = Vec::new(alloc);
     let mut rest = text;
-    while let Some((part, behind)) = cut(rest, b']') {
+    while let Some((part, following)) = cut(rest, b']') {
         let Some(element) = bracketed(part) else {
             return Ok(None);
         };
         elements.push(element)?;
-        rest = behind;
+        rest = following;
     }
     if !is_blank_only(rest) {
         return Ok(None);
@@ -127,11 +127,11 @@ pub(crate) fn elements(alloc: Global, text: &[u8]) -> Result<Option<Vec<Element>
 }
 
 /// The code points that `text` spells, one or more with blanks between them, or `None`.
-pub(crate) fn key(alloc: Global, text: &[u8]) -> Result<Option<Vec<u32>>, AllocError>
-    ensures value { IfOk result (λ found. option_map (λ key. key.items) found ≡ key_of text.now) }
-    ensures some { IfOk result (λ found. IfSome found (λ key. 0 < length key.items)) }
+pub(crate) fn string(alloc: Global, text: &[u8]) -> Result<Option<Vec<u32>>, AllocError>
+    ensures value { IfOk result (λ found. option_map (λ string. string.items) found ≡ string_of text.now) }
+    ensures some { IfOk result (λ found. IfSome found (λ string. 0 < length string.items)) }
 {
-    let mut key = Vec::new(alloc);
+    let mut string = Vec::new(alloc);
     for word in text.split(|byte| is_blank_byte(*byte)) {
         if word.is_empty() {
             continue;
@@ -139,7 +139,7 @@ pub(crate) fn key(alloc: Global, text: &[u8]) -> Result<Option<Vec<u32>>, AllocE
         let Some(point) = code_point(word) else {
             return Ok(None);
         };
-        key.push(point)?;
+        string.push(point)?;
     }
-    Ok(non_empty(key))
+    Ok(non_empty(string))
 }

@@ -17,7 +17,7 @@ pub struct Table {
     largest: usize,
     ghost well_formed: { IsWellFormed rows },
     ghost sizes: { HasSizes rows },
-    ghost longest_is: { longest ≡ map.longest_key rows },
+    ghost longest_is: { longest ≡ map.longest_mapped rows },
     ghost largest_is: { largest ≡ map.most_elements rows },
 }
 
@@ -46,19 +46,23 @@ impl Weights for Table {
     ghost table = { λ t. t.rows };
 
     fn longest(&self, points: &[u32]) -> usize {
-        let mut length = points.len().min(self.longest);
-        while length > 0 && !self.rows.has_key(&points[..length]) {
-            length -= 1;
-        }
-        length
+        self.rows.longest(points)
     }
 
-    fn row(&self, key: &[u32]) -> Option<&[Element]> {
-        self.rows.row(key)
+    fn row(&self, string: &[u32]) -> Option<&[Element]> {
+        self.rows.row(string)
     }
 
     fn implicit(&self, cp: u32) -> [Element; 2] {
         implicit::implicit_pair(self.rows.ranges(), cp)
+    }
+
+    fn begins_longer_string(&self, cp: u32) -> bool {
+        self.rows.begins_longer_string(cp)
+    }
+
+    fn continues_string(&self, cp: u32) -> bool {
+        self.rows.continues_string(cp)
     }
 
     fn longest_key(&self) -> usize {

@@ -53,7 +53,7 @@ fn fault_of(alloc: Global, file: &[u8]) -> Option<(u8, u64)> {
     }
 }
 
-/// How many code points the longest key of a file has, and how many elements the largest row.
+/// How many code points the longest mapped string of a file has, and how many elements the largest row.
 fn sizes_of(alloc: Global, file: &[u8]) -> Option<(usize, usize)> {
     match read_again(alloc, file) {
         Ok(table) => Some((table.longest_key(), table.most_elements())),
@@ -62,7 +62,7 @@ fn sizes_of(alloc: Global, file: &[u8]) -> Option<(usize, usize)> {
 }
 
 #[test]
-fn tells_a_malformed_line(rt: HostRuntime) {
+fn reports_a_malformed_line(rt: HostRuntime) {
     for (file, kind, line) in [
         ("61 ; [.1C00.0020.0002]", 1, 1),
         ("0000061 ; [.1C00.0020.0002]", 1, 1),
@@ -88,7 +88,7 @@ fn tells_a_malformed_line(rt: HostRuntime) {
 }
 
 #[test]
-fn tells_the_fault_of_a_row(rt: HostRuntime) {
+fn reports_the_fault_of_a_row(rt: HostRuntime) {
     for (file, kind, line) in [
         ("110000 ; [.1C00.0020.0002]", 2, 1),
         ("0061 ; [.1C00.0020.0002]\n000061 ; [.1C01.0020.0002]", 3, 2),
@@ -114,7 +114,7 @@ fn tells_the_fault_of_a_row(rt: HostRuntime) {
 }
 
 #[test]
-fn tells_the_fault_of_a_range(rt: HostRuntime) {
+fn reports_the_fault_of_a_range(rt: HostRuntime) {
     for (file, kind, line) in [
         ("@implicitweights 17000..110000; FB00", 2, 1),
         ("@implicitweights 17000..18AFF; FB40", 11, 1),
@@ -144,7 +144,7 @@ fn tells_the_fault_of_a_range(rt: HostRuntime) {
 }
 
 #[test]
-fn tells_the_smallest_kind_of_the_first_line(rt: HostRuntime) {
+fn reports_the_smallest_kind_of_the_first_line(rt: HostRuntime) {
     for (file, kind, line) in [
         ("110000 ; [.1C00.0000.0002]", 2, 1),
         ("0061 ; [.1C00.0000.0002]\n61 ; x", 5, 1),
@@ -160,7 +160,7 @@ fn tells_the_smallest_kind_of_the_first_line(rt: HostRuntime) {
 }
 
 #[test]
-fn tells_the_fault_of_a_table(rt: HostRuntime) {
+fn reports_the_fault_of_a_table(rt: HostRuntime) {
     for (file, kind) in [
         ("", 12),
         ("# only a comment", 12),
@@ -222,7 +222,7 @@ fn reads_bytes_that_are_no_text(rt: HostRuntime) {
     assert_eq!(rt; fault_of(rt.alloc(), lone_return), Some((1, 1)));
 }
 
-/// A line whose key has `points` code points, and whose row has `elements` elements.
+/// A line whose mapped string has `points` code points, and whose row has `elements` elements.
 fn line_of(alloc: Global, points: usize, elements: usize) -> Result<String, AllocError> {
     let mut line = String::new(alloc);
     for _ in 0..points {
@@ -339,4 +339,72 @@ fn weighs_what_has_no_row(rt: HostRuntime) {
             "{point:X}"
         );
     }
+}
+
+/// A row, and a comment line of so many letters between two others.
+fn commented(alloc: Global, letters: usize) -> Result<String, AllocError> {
+    let mut file = String::from_str(alloc, "0061 ; [.1C00.0020.0002]\n#")?;
+    for _ in 0..letters {
+        file.push_str("x")?;
+    }
+    file.push_str("\n0062 0063 ; [.1C10.0020.0002]")?;
+    for _ in 0..letters {
+        file.push_str(" ")?;
+    }
+    file.push_str("# x\n")?;
+    Ok(file)
+}
+
+#[test]
+fn reads_lines_of_any_length(rt: HostRuntime) -> Result<(), Fail> {
+    for letters in [5_000, 70_000] {
+        let file = commented(rt.alloc(), letters).or_else(|_| commented(rt.alloc(), letters))?;
+        assert_eq!(rt;
+            sizes_of(rt.alloc(), file.as_bytes()),
+            Some((2, 2)),
+            "{letters}"
+        );
+    }
+    Ok(())
+}
+
+/// The row with this number in a large table: code points of a plane without weights of their own, and after each tenth one
+/// a mapped string of two.
+fn many_rows(alloc: Global, rows: u32) -> Result<String, AllocError> {
+    let mut file = String::new(alloc);
+    for number in 0..rows {
+        let point = 0x30000 + number;
+        let weight = 1 + number % 0x7000;
+        writeln!(file, "{point:04X} ; [.{weight:04X}.0020.0002]")?;
+        if number % 10 == 0 {
+            writeln!(
+                file,
+                "{point:04X} 0061 ; [.{weight:04X}.0020.0002][.{weight:04X}.0020.0002]"
+            )?;
+        }
+    }
+    Ok(file)
+}
+
+#[test]
+fn answers_by_many_rows(rt: HostRuntime) -> Result<(), Fail> {
+    let rows = 100_000;
+    let file = many_rows(rt.alloc(), rows).or_else(|_| many_rows(rt.alloc(), rows))?;
+    let table = read_again(rt.alloc(), file.as_bytes())?;
+    assert_eq!(rt; table.longest_key(), 2);
+    for number in [0, 1, 9, 10, 28_671, 28_672, 65_536, 99_990, 99_999] {
+        let point = 0x30000 + number;
+        let lengths = if number % 10 == 0 { 2 } else { 1 };
+        assert_eq!(rt; table.longest(&[point, 0x61, 0x61]), lengths, "{number}");
+        let row = table.row(&[point]).ok_or("a row")?;
+        assert_eq!(rt; row.len(), 1, "{number}");
+        assert_eq!(rt; row[0].w1 as u32, 1 + number % 0x7000, "{number}");
+        assert_eq!(rt;
+            table.row(&[point, 0x61]).is_some(),
+            lengths == 2,
+            "{number}"
+        );
+    }
+    assert_eq!(rt; table.longest(&[0x30000 + rows, 0x61]), 0);
+    Ok(())
 }

@@ -22,7 +22,7 @@ pub fn breaks_wf3(row: &[Element]) -> bool
         .any(|element| element.is_variable && element.w1 == 0)
 }
 
-/// A lead has no follower behind it, a follower stands elsewhere, or a variable first weight is as high as a lead's.
+/// A lead has no follower after it, a follower stands elsewhere, or a variable first weight is as high as a lead's.
 pub fn breaks_pair_rule(row: &[Element]) -> bool
     ensures { result ≡ breaks_pair_rule row.now }
 {

@@ -1,8 +1,8 @@
 //! Worked tables: small files with their faults and sizes, and look-ups in them, as the definitions give them, proved by computing.
 
-ghost use Rattle.collation_table.specs.WorkedTables.{LineFaults, RowFaults, RangeFaults, TableFaults, AcceptedTables, Limits, ImplicitWeights, LongestFronts, Classes};
+ghost use Rattle.collation_table.specs.WorkedTables.{LineFaults, RowFaults, RangeFaults, TableFaults, AcceptedTables, Limits, ImplicitWeights, LongestPrefixes, Classes};
 
-/// Lines that can't be read, and which of several faults is told.
+/// Lines that can't be read, and which of several faults is reported.
 pub fn faults_of_lines()
     ensures { LineFaults }
 {}
@@ -22,12 +22,12 @@ pub fn faults_of_tables()
     ensures { TableFaults }
 {}
 
-/// Files with no fault, with the sizes of their longest key and largest row.
+/// Files with no fault, with the sizes of their longest mapped string and largest row.
 pub fn accepted_tables()
     ensures { AcceptedTables }
 {}
 
-/// The greatest numbers of code points of a key, of elements of a row, of rows and of ranges.
+/// The greatest numbers of code points of a mapped string, of elements of a row, of rows and of ranges.
 pub fn limits()
     ensures { Limits }
 {}
@@ -37,12 +37,12 @@ pub fn implicit_weights()
     ensures { ImplicitWeights }
 {}
 
-/// The longest front of a list of code points that is a key (UTS #10, S2.1).
-pub fn longest_fronts()
-    ensures { LongestFronts }
+/// The longest prefix of a list of code points that is mapped (UTS #10, S2.1).
+pub fn longest_prefixes()
+    ensures { LongestPrefixes }
 {}
 
-/// Canonical combining classes of code points of a key.
+/// Canonical combining classes of code points of a mapped string.
 pub fn classes()
     ensures { Classes }
 {}

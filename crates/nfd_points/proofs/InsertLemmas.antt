@@ -1,4 +1,4 @@
--- A non-starter that is put behind the waiting points of its class or a lower one stands in canonical order.
+-- A non-starter that is put after the waiting points of its class or a lower one stands in canonical order.
 use Rattle.std.proofs.Common.{◌≡◌, ℕ, ◌<◌, ◌≤◌, true, nat_le, List, [], ◌∷◌, ◌++◌, length, suc, refl, sym, ap, ◌∙◌, arith, inl, inr, le-leb, subst, if◌then◌else◌}
 use Rattle.std.proofs.lemmas.Bool.{cond-true, cond-false, cases_Bool, cases_lt, and_parts, not-true, lt-leb, eqb-false}
 use Rattle.std.proofs.lemmas.List.Folds.{length-prefix_len}
@@ -14,7 +14,7 @@ is_non_starter-above p h = let ne : p.ccc ≡ 0 → ⊥ = eqb-false p.ccc 0 (not
 abbrev pub place : ℕ → List Point → ℕ
 place class ws = prefix_len (λ q. nat_le q.ccc class) ws
 
--- behind each point of at most its class, up to the first of a greater one
+-- after each point of at most its class, up to the first of a greater one
 placed : Point → List Point → List Point
 placed p [] = p ∷ []
 placed p (q ∷ qs) = let later = q ∷ placed p qs in if nat_le q.ccc p.ccc then later else p ∷ q ∷ qs

@@ -1,4 +1,5 @@
 pub mod Computing
+pub mod CutLemmas
 pub mod DecompositionLemmas
 pub mod InsertLemmas
 pub mod OrderingLemmas
@@ -8,4 +9,5 @@ pub mod ReorderingLemmas
 pub mod RisingLemmas
 pub mod RunLemmas
 pub mod ShortRunLemmas
+pub mod SplitLemmas
 pub mod StepLemmas

@@ -1,4 +1,4 @@
--- Canonical ordering of points: a front may be put in order first, nothing sinks past a starter, the result is in order,
+-- Canonical ordering of points: a prefix may be put in order first, nothing sinks past a starter, the result is in order,
 -- and points in order are their own result. The steps are those of unicode_normalization's ordering of code points.
 use Rattle.std.proofs.Common.{◌≡◌, ◌<◌, ◌≤◌, ◌⊎◌, Bool, true, false, not, nat_lt, List, [], ◌∷◌, ◌++◌, length, suc, All, refl, sym, ap, ◌∙◌, arith, inl, inr, eqb-true, lt-ltb, le-ltb, ltb-true}
 use Rattle.std.proofs.lemmas.Bool.{cond-true, cond-false, cases_Bool, and_parts, and_cases, and_from, and_left, and_right, ltb-false, not-true, not_from_false}
@@ -118,8 +118,8 @@ sink_all-ordered [] zs = refl
 sink_all-ordered (x ∷ xs) zs = sink_all-sink x (ordered xs) zs ∙ ap (sink x) (sink_all-ordered xs zs)
 
 -- a first part may be put in order first
-pub ordered-front : (xs ys : List Point) → ordered (ordered xs ++ ys) ≡ ordered (xs ++ ys)
-ordered-front xs ys =
+pub ordered-prefix : (xs ys : List Point) → ordered (ordered xs ++ ys) ≡ ordered (xs ++ ys)
+ordered-prefix xs ys =
     ordered-append (ordered xs) ys ∙ sink_all-ordered xs (ordered ys) ∙ sym (ordered-append xs ys)
 
 -- ---- nothing sinks past a starter
@@ -174,16 +174,16 @@ ordered-ordered [] h = ordered-nil
 ordered-ordered (c ∷ cs) h =
     ordered-cons c cs ∙ ap (sink c) (ordered-ordered cs (is_in_order-tail c cs h)) ∙ sink-ordered c cs h
 
--- c sinks behind d, which it has passed
-is_in_order-behind : (d c : Point) (ds : List Point) → is_reorderable d c ≡ false → is_in_order (d ∷ ds) ≡ true → is_in_order (d ∷ sink c ds) ≡ true
-is_in_order-behind d c [] first h = ap (λ l. is_in_order (d ∷ l)) (sink-nil c) ∙ is_in_order-cons d c [] first (is_in_order-one c)
-is_in_order-behind d c (e ∷ es) first h =
+-- c sinks after d, which it has passed
+is_in_order-following : (d c : Point) (ds : List Point) → is_reorderable d c ≡ false → is_in_order (d ∷ ds) ≡ true → is_in_order (d ∷ sink c ds) ≡ true
+is_in_order-following d c [] first h = ap (λ l. is_in_order (d ∷ l)) (sink-nil c) ∙ is_in_order-cons d c [] first (is_in_order-one c)
+is_in_order-following d c (e ∷ es) first h =
     let parts = is_in_order-parts d e es h in
     elim (cases_Bool (is_reorderable c e)) [
       | inl past ↦
           let of_e = is_reorderable-true c e past in
           ap (λ l. is_in_order (d ∷ l)) (sink-past c e es past)
-          ∙ is_in_order-cons d e (sink c es) parts.0 (is_in_order-behind e c es (not_reorderable_rising e c (omega arith)) parts.1)
+          ∙ is_in_order-cons d e (sink c es) parts.0 (is_in_order-following e c es (not_reorderable_rising e c (omega arith)) parts.1)
       | inr stays ↦ ap (λ l. is_in_order (d ∷ l)) (sink-stays c e es stays) ∙ is_in_order-cons d c (e ∷ es) first (is_in_order-cons c e es stays parts.1)
     ]
 
@@ -193,7 +193,7 @@ is_in_order-sink c (d ∷ ds) h =
     elim (cases_Bool (is_reorderable c d)) [
       | inl past ↦
           let of_d = is_reorderable-true c d past in
-          ap is_in_order (sink-past c d ds past) ∙ is_in_order-behind d c ds (not_reorderable_rising d c (omega arith)) h
+          ap is_in_order (sink-past c d ds past) ∙ is_in_order-following d c ds (not_reorderable_rising d c (omega arith)) h
       | inr stays ↦ ap is_in_order (sink-stays c d ds stays) ∙ is_in_order-cons c d ds stays h
     ]
 

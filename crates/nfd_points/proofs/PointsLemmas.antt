@@ -14,7 +14,7 @@ use Rattle.unicode_normalization.specs.Order.{canonical_order, sink as sink_code
 use Rattle.unicode_normalization.proofs.OrderLemmas.{sink-past as sink-past_code, sink-stays as sink-stays_code}
 use Rattle.nfd_points.specs.declared.points.Point.{Point}
 use Rattle.nfd_points.specs.Points.{decomposition, byte_len, points_at, points_of, points_from, shifted, is_reorderable, sink, ordered, points, begins_with_starter}
-use Rattle.nfd_points.specs.Reordering.{codes, IsSound}
+use Rattle.nfd_points.specs.Reordering.{code_points, IsSoundPoint}
 use Rattle.nfd_points.proofs.DecompositionLemmas.{decomposition-decompose, decomposition-ascii, decomposition-scalars, class-ascii}
 use Rattle.nfd_points.proofs.OrderingLemmas.{ordered-nil, ordered-cons, ordered-parts, sink-past, sink-stays, All-ordered}
 
@@ -63,10 +63,10 @@ points_at-nil start is_first = refl
 
 -- ---- code points and classes
 
-pub codes-points_at : (start : ℕ) (is_first : Bool) (ds : List ℕ) → codes (points_at start is_first ds) ≡ ds
+pub code_points-points_at : (start : ℕ) (is_first : Bool) (ds : List ℕ) → code_points (points_at start is_first ds) ≡ ds
 unfolding points_at
-codes-points_at start is_first [] = refl
-codes-points_at start is_first (d ∷ ds) = ap (λ l. d ∷ l) (codes-points_at start false ds)
+code_points-points_at start is_first [] = refl
+code_points-points_at start is_first (d ∷ ds) = ap (λ l. d ∷ l) (code_points-points_at start false ds)
 
 abbrev pub HasClass : Point → Type 0
 HasClass p = p.ccc ≡ canonical_combining_class p.cp
@@ -87,47 +87,47 @@ HasClass-points cs = All-ordered HasClass _ (HasClass-points_from 0 cs)
 
 -- ---- the code points of the points are the NFD of the text
 
-codes-points_from : (start : ℕ) (cs : List ℕ) → codes (points_from start cs) ≡ flat_map (decompose Nfd) cs
+code_points-points_from : (start : ℕ) (cs : List ℕ) → code_points (points_from start cs) ≡ flat_map (decompose Nfd) cs
 unfolding points_from
-codes-points_from start [] = refl
-codes-points_from start (c ∷ cs) =
+code_points-points_from start [] = refl
+code_points-points_from start (c ∷ cs) =
     map-append (λ (p : Point). p.cp) (points_of start c) (points_from (start + len_utf8 c) cs)
-    ∙ ap₂ (λ a b. a ++ b) (codes-points_at start true (decomposition c) ∙ decomposition-decompose c) (codes-points_from (start + len_utf8 c) cs)
+    ∙ ap₂ (λ a b. a ++ b) (code_points-points_at start true (decomposition c) ∙ decomposition-decompose c) (code_points-points_from (start + len_utf8 c) cs)
 
-pub codes-points_parts : (start : ℕ) (cs : List ℕ) → codes (points_from start cs) ≡ flat_map decomposition cs
+pub code_points-points_parts : (start : ℕ) (cs : List ℕ) → code_points (points_from start cs) ≡ flat_map decomposition cs
 unfolding points_from
-codes-points_parts start [] = refl
-codes-points_parts start (c ∷ cs) =
+code_points-points_parts start [] = refl
+code_points-points_parts start (c ∷ cs) =
     map-append (λ (p : Point). p.cp) (points_of start c) (points_from (start + len_utf8 c) cs)
-    ∙ ap₂ (λ a b. a ++ b) (codes-points_at start true (decomposition c)) (codes-points_parts (start + len_utf8 c) cs)
+    ∙ ap₂ (λ a b. a ++ b) (code_points-points_at start true (decomposition c)) (code_points-points_parts (start + len_utf8 c) cs)
 
 same_test : (p q : Point) → HasClass p → HasClass q → is_reorderable p q ≡ is_reorderable_code p.cp q.cp
 unfolding is_reorderable is_reorderable_code
 same_test p q of_p of_q = rw (of_p, of_q) refl
 
-codes-sink : (p : Point) (qs : List Point) → HasClass p → All HasClass qs → codes (sink p qs) ≡ sink_code p.cp (codes qs)
+code_points-sink : (p : Point) (qs : List Point) → HasClass p → All HasClass qs → code_points (sink p qs) ≡ sink_code p.cp (code_points qs)
 unfolding sink sink_code
-codes-sink p [] of_p rest = refl
-codes-sink p (q ∷ qs) of_p rest =
+code_points-sink p [] of_p rest = refl
+code_points-sink p (q ∷ qs) of_p rest =
     let test = same_test p q of_p (All-head HasClass q qs rest) in
     elim (cases_Bool (is_reorderable p q)) [
       | inl past ↦
-          ap codes (sink-past p q qs past) ∙ ap (λ l. q.cp ∷ l) (codes-sink p qs of_p (All-tail HasClass q qs rest))
-          ∙ sym (sink-past_code p.cp q.cp (codes qs) (sym test ∙ past))
-      | inr stays ↦ ap codes (sink-stays p q qs stays) ∙ sym (sink-stays_code p.cp q.cp (codes qs) (sym test ∙ stays))
+          ap code_points (sink-past p q qs past) ∙ ap (λ l. q.cp ∷ l) (code_points-sink p qs of_p (All-tail HasClass q qs rest))
+          ∙ sym (sink-past_code p.cp q.cp (code_points qs) (sym test ∙ past))
+      | inr stays ↦ ap code_points (sink-stays p q qs stays) ∙ sym (sink-stays_code p.cp q.cp (code_points qs) (sym test ∙ stays))
     ]
 
-codes-ordered : (ps : List Point) → All HasClass ps → codes (ordered ps) ≡ canonical_order (codes ps)
+code_points-ordered : (ps : List Point) → All HasClass ps → code_points (ordered ps) ≡ canonical_order (code_points ps)
 unfolding canonical_order
-codes-ordered [] h = ap codes ordered-nil
-codes-ordered (p ∷ ps) h =
-    ap codes (ordered-cons p ps)
-    ∙ codes-sink p (ordered ps) (All-head HasClass p ps h) (All-ordered HasClass ps (All-tail HasClass p ps h))
-    ∙ ap (sink_code p.cp) (codes-ordered ps (All-tail HasClass p ps h))
+code_points-ordered [] h = ap code_points ordered-nil
+code_points-ordered (p ∷ ps) h =
+    ap code_points (ordered-cons p ps)
+    ∙ code_points-sink p (ordered ps) (All-head HasClass p ps h) (All-ordered HasClass ps (All-tail HasClass p ps h))
+    ∙ ap (sink_code p.cp) (code_points-ordered ps (All-tail HasClass p ps h))
 
-pub codes-points : (cs : List ℕ) → codes (points cs) ≡ nfd cs
+pub code_points-points : (cs : List ℕ) → code_points (points cs) ≡ nfd cs
 unfolding normalize decomposed
-codes-points cs = codes-ordered (points_from 0 cs) (HasClass-points_from 0 cs) ∙ ap canonical_order (codes-points_from 0 cs)
+code_points-points cs = code_points-ordered (points_from 0 cs) (HasClass-points_from 0 cs) ∙ ap canonical_order (code_points-points_from 0 cs)
 
 -- ---- offsets
 
@@ -170,21 +170,21 @@ points_of-ascii start c h =
 
 -- ---- sound points
 
-IsSound-points_at : (start : ℕ) (is_first : Bool) (ds : List ℕ) → All IsScalar ds → All IsSound (points_at start is_first ds)
+IsSoundPoint-points_at : (start : ℕ) (is_first : Bool) (ds : List ℕ) → All IsScalar ds → All IsSoundPoint (points_at start is_first ds)
 unfolding points_at
-IsSound-points_at start is_first [] h = All-nil IsSound
-IsSound-points_at start is_first (d ∷ ds) h =
-    All-cons IsSound _ _ (record { scalar = All-head IsScalar d ds h; in_range = scalar_below d (All-head IsScalar d ds h); class = refl }) (IsSound-points_at start false ds (All-tail IsScalar d ds h))
+IsSoundPoint-points_at start is_first [] h = All-nil IsSoundPoint
+IsSoundPoint-points_at start is_first (d ∷ ds) h =
+    All-cons IsSoundPoint _ _ (record { scalar = All-head IsScalar d ds h; in_range = scalar_below d (All-head IsScalar d ds h); class = refl }) (IsSoundPoint-points_at start false ds (All-tail IsScalar d ds h))
 
-IsSound-points_from : (start : ℕ) (cs : List ℕ) → All IsScalar cs → All IsSound (points_from start cs)
+IsSoundPoint-points_from : (start : ℕ) (cs : List ℕ) → All IsScalar cs → All IsSoundPoint (points_from start cs)
 unfolding points_from
-IsSound-points_from start [] h = All-nil IsSound
-IsSound-points_from start (c ∷ cs) h =
-    All-append IsSound _ _ (IsSound-points_at start true (decomposition c) (decomposition-scalars c (All-head IsScalar c cs h)))
-    (IsSound-points_from (start + len_utf8 c) cs (All-tail IsScalar c cs h))
+IsSoundPoint-points_from start [] h = All-nil IsSoundPoint
+IsSoundPoint-points_from start (c ∷ cs) h =
+    All-append IsSoundPoint _ _ (IsSoundPoint-points_at start true (decomposition c) (decomposition-scalars c (All-head IsScalar c cs h)))
+    (IsSoundPoint-points_from (start + len_utf8 c) cs (All-tail IsScalar c cs h))
 
-pub IsSound-points : (cs : List ℕ) → All IsScalar cs → All IsSound (points cs)
-IsSound-points cs h = All-ordered IsSound _ (IsSound-points_from 0 cs h)
+pub IsSoundPoint-points : (cs : List ℕ) → All IsScalar cs → All IsSoundPoint (points cs)
+IsSoundPoint-points cs h = All-ordered IsSoundPoint _ (IsSoundPoint-points_from 0 cs h)
 
 -- ---- two texts
 

@@ -1,21 +1,22 @@
 -- What a code point that is no fault does to what waits, and what the clauses of `push` say of it.
-use Rattle.std.proofs.Common.{◌≡◌, ℕ, ◌+◌, ◌<◌, Bool, true, false, not, List, [], ◌∷◌, ◌++◌, length, drop, get_or, None, sym, ap, ap₂, subst, ◌∙◌, eq-eqb}
+use Rattle.std.proofs.Common.{◌≡◌, ℕ, ◌+◌, ◌<◌, Bool, true, false, not, List, [], ◌∷◌, ◌++◌, length, drop, get_or, None, refl, sym, ap, ap₂, subst, ◌∙◌, eq-eqb}
 use borrow.Table.Char.{scalar_below}
 use Rattle.std.proofs.lemmas.Bool.{and_parts}
-use Rattle.std.proofs.lemmas.List.{append-nil, drop_more}
+use Rattle.std.proofs.lemmas.List.{append-nil, drop_more, nil_from_length}
 use Rattle.std.specs.Char.{IsScalar}
+use Rattle.unicode_normalization.specs.Lookups.{canonical_combining_class}
 use Rattle.unicode_normalization.specs.Order.{is_nonstarter}
 use Rattle.unicode_normalization.specs.StreamSafe.{has_short_runs}
 use Rattle.nfd_points.specs.declared.points.Point.{Point}
-use Rattle.nfd_points.specs.Points.{decomposition, byte_len, points_of, ordered}
-use Rattle.nfd_points.specs.PointFaults.{run_after, fault_at}
-use Rattle.nfd_points.specs.Reordering.{Waiting, codes, IsSound, IsHeld, is_closed, HasReordered}
+use Rattle.nfd_points.specs.Points.{ascii_point, decomposition, byte_len, points_at, points_of, ordered}
+use Rattle.nfd_points.specs.PointFaults.{run_after, fault_of_code_point}
+use Rattle.nfd_points.specs.Reordering.{Waiting, IsSoundPoint, IsHeld, is_closed, HasReordered}
 use Rattle.nfd_points.proofs.DecompositionLemmas.{decomposition-ascii, class-ascii}
-use Rattle.nfd_points.proofs.OrderingLemmas.{ordered-ordered}
-use Rattle.nfd_points.proofs.PointsLemmas.{codes-points_at}
-use Rattle.nfd_points.proofs.RunLemmas.{run_after-append, short-append, short-starter, short-nil, fault_at-none}
-use Rattle.nfd_points.proofs.ReorderingLemmas.{is_closed-nil, carries}
-use Rattle.nfd_points.proofs.StepLemmas.{code_at_place}
+use Rattle.nfd_points.proofs.OrderingLemmas.{ordered-ordered, ordered-nil}
+use Rattle.nfd_points.proofs.PointsLemmas.{points_of-ascii}
+use Rattle.nfd_points.proofs.RunLemmas.{run_after-append, run_after-starter, run_after-nil, short-append, short-starter, short-nil, fault_of_code_point-none}
+use Rattle.nfd_points.proofs.ReorderingLemmas.{is_closed-nil, carries, take-starter}
+use Rattle.nfd_points.proofs.StepLemmas.{points_at-more}
 
 -- ---- what `push` does
 
@@ -26,14 +27,12 @@ pub record IsPushed (old : List Point) (start c : ℕ) (new out : List Point) : 
   pub held : IsHeld new
   pub run : length new ≡ run_after (length old) (decomposition c)
 
-pub IsPushed-points : (old new cleared out points : List Point) (start c : ℕ) → cleared ≡ [] → points ≡ points_of start c → IsHeld new → ((rest : List Point) → cleared ++ ordered (old ++ (points ++ rest)) ≡ out ++ ordered (new ++ rest)) → (is_closed cleared ≡ true → is_closed out ≡ true) → length new ≡ run_after (length old) (codes points) → IsPushed old start c new out
-IsPushed-points old new cleared out points start c empty same held moved closed run = record {
-  moved =
-      λ rest.
-      ap₂ (λ l ps. l ++ ordered (old ++ (ps ++ rest))) (sym empty) (sym same) ∙ moved rest;
+pub IsPushed-parts : (old new cleared out : List Point) (parts : List ℕ) (start c : ℕ) → cleared ≡ [] → parts ≡ decomposition c → IsHeld new → ((rest : List Point) → cleared ++ ordered (old ++ (points_at start true parts ++ rest)) ≡ out ++ ordered (new ++ rest)) → (is_closed cleared ≡ true → is_closed out ≡ true) → length new ≡ run_after (length old) parts → IsPushed old start c new out
+IsPushed-parts old new cleared out parts start c empty same held moved closed run = record {
+  moved = λ rest. ap₂ (λ l ds. l ++ ordered (old ++ (points_at start true ds ++ rest))) (sym empty) (sym same) ∙ moved rest;
   closed = closed (ap is_closed empty ∙ is_closed-nil);
   held = held;
-  run = run ∙ ap (run_after (length old)) (ap codes same ∙ codes-points_at start true (decomposition c));
+  run = run ∙ ap (run_after (length old)) same;
 }
 
 pub IsPushed-all : (old new out : List Point) (start c : ℕ) → IsPushed old start c new out → out ++ new ≡ ordered (old ++ points_of start c)
@@ -41,7 +40,7 @@ IsPushed-all old new out start c h =
     ap (λ l. out ++ l) (sym (ap ordered (append-nil new) ∙ ordered-ordered new h.held.in_order)) ∙ sym (h.moved [])
     ∙ ap (λ l. ordered (old ++ l)) (append-nil (points_of start c))
 
-pub IsPushed-carries : (old new : Waiting) (out : List Point) (start c : ℕ) → IsPushed old.held start c new.held out → fault_at (length old.held) c ≡ None → (taken : List ℕ) (given : List Point) → HasReordered old taken given → start ≡ byte_len taken → HasReordered new (taken ++ c ∷ []) (given ++ out)
+pub IsPushed-carries : (old new : Waiting) (out : List Point) (start c : ℕ) → IsPushed old.held start c new.held out → fault_of_code_point (length old.held) c ≡ None → (taken : List ℕ) (given : List Point) → HasReordered old taken given → start ≡ byte_len taken → HasReordered new (taken ++ c ∷ []) (given ++ out)
 IsPushed-carries old new out start c h none taken given before at =
     let here : IsPushed old.held (byte_len taken) c new.held out = subst (λ n. IsPushed old.held n c new.held out) at h in
     carries old new taken given c out before none here.held here.closed here.run here.moved
@@ -54,29 +53,39 @@ ascii-starter c h = ap not (eq-eqb _ 0 (class-ascii c h))
 pub ascii-short : (run c : ℕ) → c < 128 → has_short_runs run (c ∷ []) ≡ true
 ascii-short run c h = short-starter run c [] (ascii-starter c h) ∙ short-nil 0
 
-pub ascii-fault : (run c : ℕ) → c < 128 → fault_at run c ≡ None
-ascii-fault run c h = fault_at-none run c (ap (has_short_runs run) (decomposition-ascii c h) ∙ ascii-short run c h)
+pub ascii-fault : (run c : ℕ) → c < 128 → fault_of_code_point run c ≡ None
+ascii-fault run c h = fault_of_code_point-none run c (ap (has_short_runs run) (decomposition-ascii c h) ∙ ascii-short run c h)
 
-pub ascii-sound : (c start : ℕ) → IsScalar c → c < 128 → IsSound (record { cp = c; ccc = 0; offset = start; first = true })
+pub ascii-sound : (c start : ℕ) → IsScalar c → c < 128 → IsSoundPoint (ascii_point start c)
 ascii-sound c start scalar h = record { scalar = scalar; in_range = scalar_below c scalar; class = sym (class-ascii c h) }
+
+pub ascii-pushed : (old new cleared out : List Point) (start c : ℕ) → c < 128 → cleared ≡ [] → IsHeld new → ((rest : List Point) → cleared ++ ordered (old ++ ascii_point start c ∷ rest) ≡ out ++ ordered (new ++ rest)) → (is_closed cleared ≡ true → is_closed out ≡ true) → length new ≡ run_after (length old) (c ∷ []) → IsPushed old start c new out
+ascii-pushed old new cleared out start c low empty held moved closed run = record {
+  moved = λ rest. ap₂ (λ l ps. l ++ ordered (old ++ (ps ++ rest))) (sym empty) (points_of-ascii start c low) ∙ moved rest;
+  closed = closed (ap is_closed empty ∙ is_closed-nil);
+  held = held;
+  run = run ∙ ap (run_after (length old)) (sym (decomposition-ascii c low));
+}
+
+-- the points that waited, and then the character itself
+pub ascii-given : (old new out : List Point) (start c : ℕ) → c < 128 → IsHeld old → IsPushed old start c new out → out ≡ old ++ ascii_point start c ∷ []
+ascii-given old new out start c low held p =
+    let none : new ≡ [] = nil_from_length new (p.run ∙ ap (run_after (length old)) (decomposition-ascii c low) ∙ run_after-starter (length old) c [] (ascii-starter c low) ∙ run_after-nil 0) in
+    let point : Point = ascii_point start c in
+    sym (append-nil out) ∙ ap (λ l. out ++ l) (sym none) ∙ IsPushed-all old new out start c p ∙ ap (λ ps. ordered (old ++ ps)) (points_of-ascii start c low)
+    ∙ take-starter old point [] held.in_order refl ∙ ap (λ l. (old ++ point ∷ []) ++ l) ordered-nil ∙ append-nil (old ++ point ∷ [])
 
 -- ---- the steps of `take_all`
 
-pub short-here : (run : ℕ) (points : List Point) (i : ℕ) (d : Point) → i < length points → has_short_runs run (codes (drop i points)) ≡ true → (has_short_runs run ((get_or points i d).cp ∷ []) ≡ true) × (has_short_runs (run_after run ((get_or points i d).cp ∷ [])) (codes (drop (i + 1) points)) ≡ true)
-short-here run points i d lt h =
+pub short-here : (run : ℕ) (parts : List ℕ) (i d : ℕ) → i < length parts → has_short_runs run (drop i parts) ≡ true → (has_short_runs run (get_or parts i d ∷ []) ≡ true) × (has_short_runs (run_after run (get_or parts i d ∷ [])) (drop (i + 1) parts) ≡ true)
+short-here run parts i d lt h =
     and_parts _ _
-    (sym (short-append run ((get_or points i d).cp ∷ []) (codes (drop (i + 1) points))) ∙ sym (ap (has_short_runs run) (code_at_place points i d lt)) ∙ h)
+    (sym (short-append run (get_or parts i d ∷ []) (drop (i + 1) parts)) ∙ sym (ap (has_short_runs run) (drop_more parts i d lt)) ∙ h)
 
-pub run-here : (run : ℕ) (points : List Point) (i : ℕ) (d : Point) → i < length points → run_after (run_after run ((get_or points i d).cp ∷ [])) (codes (drop (i + 1) points)) ≡ run_after run (codes (drop i points))
-run-here run points i d lt =
-    sym (ap (run_after run) (code_at_place points i d lt) ∙ run_after-append run ((get_or points i d).cp ∷ []) (codes (drop (i + 1) points)))
+pub run-here : (run : ℕ) (parts : List ℕ) (i d : ℕ) → i < length parts → run_after (run_after run (get_or parts i d ∷ [])) (drop (i + 1) parts) ≡ run_after run (drop i parts)
+run-here run parts i d lt =
+    sym (ap (run_after run) (drop_more parts i d lt) ∙ run_after-append run (get_or parts i d ∷ []) (drop (i + 1) parts))
 
-pub moved-here : (held out held' out' points : List Point) (i : ℕ) (d : Point) → i < length points → ((rest : List Point) → out ++ ordered (held ++ get_or points i d ∷ rest) ≡ out' ++ ordered (held' ++ rest)) → (rest : List Point) → out ++ ordered (held ++ (drop i points ++ rest)) ≡ out' ++ ordered (held' ++ (drop (i + 1) points ++ rest))
-moved-here held out held' out' points i d lt moved rest =
-    ap (λ l. out ++ ordered (held ++ (l ++ rest))) (drop_more points i d lt) ∙ moved (drop (i + 1) points ++ rest)
-
--- ---- whether there is room
-
-pub room-is : (held : List Point) (run : ℕ) (points slice : List Point) (start c : ℕ) (answer : Bool) → run ≡ length held → slice ≡ points → points ≡ points_of start c → answer ≡ has_short_runs run (codes slice) → has_short_runs (length held) (decomposition c) ≡ answer
-room-is held run points slice start c answer same lent made says =
-    ap₂ has_short_runs (sym same) (sym (ap codes (lent ∙ made) ∙ codes-points_at start true (decomposition c))) ∙ sym says
+pub moved-here : (held out held' out' : List Point) (start : ℕ) (is_first : Bool) (parts : List ℕ) (i d : ℕ) → i < length parts → ((rest : List Point) → out ++ ordered (held ++ record { cp = get_or parts i d; ccc = canonical_combining_class (get_or parts i d); offset = start; first = is_first } ∷ rest) ≡ out' ++ ordered (held' ++ rest)) → (rest : List Point) → out ++ ordered (held ++ (points_at start is_first (drop i parts) ++ rest)) ≡ out' ++ ordered (held' ++ (points_at start false (drop (i + 1) parts) ++ rest))
+moved-here held out held' out' start is_first parts i d lt moved rest =
+    ap (λ l. out ++ ordered (held ++ (l ++ rest))) (points_at-more start is_first parts i d lt) ∙ moved (points_at start false (drop (i + 1) parts) ++ rest)

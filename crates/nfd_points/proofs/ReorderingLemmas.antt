@@ -10,16 +10,16 @@ use Rattle.std.specs.List.{take_while, insert, list_all}
 use Rattle.unicode_normalization.specs.StreamSafe.{has_short_runs}
 use Rattle.nfd_points.specs.declared.points.Point.{Point}
 use Rattle.nfd_points.specs.Points.{decomposition, byte_len, points_of, points_from, points, is_starter, is_in_order, ordered}
-use Rattle.nfd_points.specs.PointFaults.{run_after, fault_at, fault_from, point_fault}
-use Rattle.nfd_points.specs.Reordering.{Waiting, IsSound, IsHeld, is_non_starter, is_closed, HasReordered, keep_up_to, up_to_last_starter}
-use Rattle.nfd_points.proofs.OrderingLemmas.{ordered-front, ordered-at_starter, ordered-ordered, is_in_order-nil, is_in_order-ordered, list_all-ordered, length-ordered, All-ordered}
+use Rattle.nfd_points.specs.PointFaults.{run_after, fault_of_code_point, fault_from, point_fault}
+use Rattle.nfd_points.specs.Reordering.{Waiting, IsSoundPoint, IsHeld, is_non_starter, is_closed, HasReordered, keep_up_to, up_to_last_starter}
+use Rattle.nfd_points.proofs.OrderingLemmas.{ordered-prefix, ordered-at_starter, ordered-ordered, is_in_order-nil, is_in_order-ordered, list_all-ordered, length-ordered, All-ordered}
 use Rattle.nfd_points.proofs.InsertLemmas.{ordered-insert}
 use Rattle.nfd_points.proofs.PointsLemmas.{byte_len-append, byte_len-cons, byte_len-nil, points_from-cons, points_from-nil}
 use Rattle.nfd_points.proofs.RunLemmas.{run_after-append, run_after-nil, fault_from-good, fault_from-here, fault_from-later, fault_from-nil}
 use Rattle.nfd_points.proofs.StepLemmas.{room-one_mark}
 
 pub IsHeld-nil : IsHeld []
-IsHeld-nil = record { non_starters = refl; in_order = is_in_order-nil; few = omega arith; sound = All-nil IsSound }
+IsHeld-nil = record { non_starters = refl; in_order = is_in_order-nil; few = omega arith; sound = All-nil IsSoundPoint }
 
 pub is_closed-nil : is_closed [] ≡ true
 unfolding is_closed
@@ -49,7 +49,7 @@ take-starter held p rest sorted starter =
 
 -- a non-starter is put among them
 pub take-mark : (held : List Point) (p : Point) (rest : List Point) → ordered (held ++ p ∷ rest) ≡ ordered (ordered (held ++ p ∷ []) ++ rest)
-take-mark held p rest = ap ordered (sym (append_assoc held (p ∷ []) rest)) ∙ sym (ordered-front (held ++ p ∷ []) rest)
+take-mark held p rest = ap ordered (sym (append_assoc held (p ∷ []) rest)) ∙ sym (ordered-prefix (held ++ p ∷ []) rest)
 
 -- ---- a text
 
@@ -72,17 +72,17 @@ flat_map-more taken c =
 run-more : (taken : List ℕ) (c : ℕ) → run_after 0 (flat_map decomposition (taken ++ c ∷ [])) ≡ run_after (run_after 0 (flat_map decomposition taken)) (decomposition c)
 run-more taken c = ap (run_after 0) (flat_map-more taken c) ∙ run_after-append 0 (flat_map decomposition taken) (decomposition c)
 
--- the first fault behind what was taken
+-- the first fault after what was taken
 pub fault-next : (w : Waiting) (taken : List ℕ) (given : List Point) (cs : List ℕ) → HasReordered w taken given → point_fault (taken ++ cs) ≡ fault_from (byte_len taken) (length w.held) cs
 fault-next w taken given cs h =
     fault_from-good 0 0 taken cs h.good ∙ ap₂ (λ m n. fault_from m n cs) (omega arith) h.run
 
 -- a code point that is at fault
-pub stops : (w : Waiting) (taken : List ℕ) (given : List Point) (c kind : ℕ) (rest : List ℕ) → HasReordered w taken given → fault_at (length w.held) c ≡ Some kind → point_fault (taken ++ c ∷ rest) ≡ Some (byte_len taken, kind)
+pub stops : (w : Waiting) (taken : List ℕ) (given : List Point) (c kind : ℕ) (rest : List ℕ) → HasReordered w taken given → fault_of_code_point (length w.held) c ≡ Some kind → point_fault (taken ++ c ∷ rest) ≡ Some (byte_len taken, kind)
 stops w taken given c kind rest h at = fault-next w taken given (c ∷ rest) h ∙ fault_from-here (byte_len taken) (length w.held) c kind rest at
 
 -- a code point that went in, and the points that came out
-pub carries : (old new : Waiting) (taken : List ℕ) (given : List Point) (c : ℕ) (out : List Point) → HasReordered old taken given → fault_at (length old.held) c ≡ None → IsHeld new.held → is_closed out ≡ true → length new.held ≡ run_after (length old.held) (decomposition c) → ((rest : List Point) → ordered (old.held ++ (points_of (byte_len taken) c ++ rest)) ≡ out ++ ordered (new.held ++ rest)) → HasReordered new (taken ++ c ∷ []) (given ++ out)
+pub carries : (old new : Waiting) (taken : List ℕ) (given : List Point) (c : ℕ) (out : List Point) → HasReordered old taken given → fault_of_code_point (length old.held) c ≡ None → IsHeld new.held → is_closed out ≡ true → length new.held ≡ run_after (length old.held) (decomposition c) → ((rest : List Point) → ordered (old.held ++ (points_of (byte_len taken) c ++ rest)) ≡ out ++ ordered (new.held ++ rest)) → HasReordered new (taken ++ c ∷ []) (given ++ out)
 carries old new taken given c out h none held closed run moved = record {
   continues =
       λ rest.
@@ -112,14 +112,14 @@ starter-moved out held mid final none p sorted zero given pushed empty rest =
 pub starter-closed : (mid final : List Point) (p : Point) → p.ccc ≡ 0 → final ≡ mid ++ p ∷ [] → is_closed final ≡ true
 starter-closed mid final p zero pushed = ap is_closed pushed ∙ is_closed-end mid p (eq-eqb p.ccc 0 zero)
 
-pub starter-sound : (out held mid final : List Point) (p : Point) → IsHeld held → IsSound p → mid ≡ out ++ held → final ≡ mid ++ p ∷ [] → All IsSound out → All IsSound final
+pub starter-sound : (out held mid final : List Point) (p : Point) → IsHeld held → IsSoundPoint p → mid ≡ out ++ held → final ≡ mid ++ p ∷ [] → All IsSoundPoint out → All IsSoundPoint final
 starter-sound out held mid final p h sound given pushed before =
-    All-same IsSound _ _ pushed (All-push IsSound mid p (All-same IsSound _ _ given (All-append IsSound out held before h.sound)) sound)
+    All-same IsSoundPoint _ _ pushed (All-push IsSoundPoint mid p (All-same IsSoundPoint _ _ given (All-append IsSoundPoint out held before h.sound)) sound)
 
 pub mark-inserted : (held : List Point) (p : Point) (at : ℕ) → IsHeld held → at ≡ length (take_while (λ q. nat_le q.ccc p.ccc) held) → p.ccc ≢ 0 → insert held at p ≡ ordered (held ++ p ∷ [])
 mark-inserted held p at h here ne = ordered-insert held p at here h.non_starters h.in_order (omega (arith, ne))
 
-pub IsHeld-insert : (held : List Point) (p : Point) (at : ℕ) → IsHeld held → IsSound p → at ≡ length (take_while (λ q. nat_le q.ccc p.ccc) held) → p.ccc ≢ 0 → has_short_runs (length held) (p.cp ∷ []) ≡ true → IsHeld (insert held at p)
+pub IsHeld-insert : (held : List Point) (p : Point) (at : ℕ) → IsHeld held → IsSoundPoint p → at ≡ length (take_while (λ q. nat_le q.ccc p.ccc) held) → p.ccc ≢ 0 → has_short_runs (length held) (p.cp ∷ []) ≡ true → IsHeld (insert held at p)
 IsHeld-insert held p at h sound here ne short =
     subst IsHeld (sym (mark-inserted held p at h here ne))
     (record {
@@ -128,7 +128,7 @@ IsHeld-insert held p at h sound here ne short =
           (list_all-append is_non_starter held (p ∷ []) ∙ and_from _ _ h.non_starters (and_from _ _ (not_from_false _ (ne_eqb p.ccc 0 ne)) refl));
       in_order = is_in_order-ordered (held ++ p ∷ []);
       few = omega (arith, length-ordered (held ++ p ∷ []), length-append held (p ∷ []), room-one_mark (length held) p sound ne short);
-      sound = All-ordered IsSound _ (All-push IsSound held p h.sound sound);
+      sound = All-ordered IsSoundPoint _ (All-push IsSoundPoint held p h.sound sound);
     })
 
 pub mark-moved : (out held held' : List Point) (p : Point) (at : ℕ) → IsHeld held → at ≡ length (take_while (λ q. nat_le q.ccc p.ccc) held) → p.ccc ≢ 0 → held' ≡ insert held at p → (rest : List Point) → out ++ ordered (held ++ p ∷ rest) ≡ out ++ ordered (held' ++ rest)

@@ -45,17 +45,17 @@ rises-order class (p ∷ q ∷ qs) h =
     let next = and_parts (nat_le p.ccc q.ccc) (rises_from q.ccc qs) (sym (rises_from-cons p.ccc q qs) ∙ parts.1) in
     is_in_order-cons p q qs (not_reorderable_rising p q (leb-true p.ccc q.ccc next.0)) (rises-order p.ccc (q ∷ qs) parts.1)
 
-rises-behind : (p : Point) (ps : List Point) → list_all is_non_starter ps ≡ true → is_in_order (p ∷ ps) ≡ true → rises_from p.ccc ps ≡ true
-rises-behind p [] marks sorted = rises_from-nil p.ccc
-rises-behind p (q ∷ qs) marks sorted =
+rises-following : (p : Point) (ps : List Point) → list_all is_non_starter ps ≡ true → is_in_order (p ∷ ps) ≡ true → rises_from p.ccc ps ≡ true
+rises-following p [] marks sorted = rises_from-nil p.ccc
+rises-following p (q ∷ qs) marks sorted =
     let of_q = and_parts (is_non_starter q) (list_all is_non_starter qs) marks in
     let above = is_non_starter-above q of_q.0 in
     let order = is_in_order-parts p q qs sorted in
     let le : p.ccc ≤ q.ccc = elim (is_reorderable-false p q order.0) [ inl starter ↦ absurd (omega arith) | inr rising ↦ rising ] in
-    rises_from-cons p.ccc q qs ∙ and_from _ _ (le-leb p.ccc q.ccc le) (rises-behind q qs of_q.1 order.1)
+    rises_from-cons p.ccc q qs ∙ and_from _ _ (le-leb p.ccc q.ccc le) (rises-following q qs of_q.1 order.1)
 
 pub rises-held : (ps : List Point) → list_all is_non_starter ps ≡ true → is_in_order ps ≡ true → rises_from 1 ps ≡ true
 rises-held [] marks sorted = rises_from-nil 1
 rises-held (p ∷ ps) marks sorted =
     let of_p = and_parts (is_non_starter p) (list_all is_non_starter ps) marks in
-    rises_from-cons 1 p ps ∙ and_from _ _ (le-leb 1 p.ccc (is_non_starter-above p of_p.0)) (rises-behind p ps of_p.1 sorted)
+    rises_from-cons 1 p ps ∙ and_from _ _ (le-leb 1 p.ccc (is_non_starter-above p of_p.0)) (rises-following p ps of_p.1 sorted)

@@ -1,12 +1,12 @@
 -- Runs of non-starters and faults of two parts of a text.
-use Rattle.std.proofs.Common.{◌≡◌, ℕ, ◌+◌, ◌≤◌, ◌⊎◌, Bool, true, false, ◌&&◌, nat_lt, List, [], ◌∷◌, ◌++◌, length, flat_map, Option, Some, None, refl, sym, ap, ap₂, ◌∙◌, arith, inl, inr, le-ltb, ltb-true}
+use Rattle.std.proofs.Common.{◌≡◌, ℕ, ◌+◌, ◌≤◌, ◌⊎◌, Bool, true, false, ◌&&◌, nat_lt, List, [], ◌∷◌, ◌++◌, length, flat_map, Option, Some, None, refl, sym, ap, ap₂, ◌∙◌, arith, inl, inr, le-ltb, ltb-true, ltb-false}
 use Rattle.std.proofs.lemmas.Bool.{cond-true, cond-false, cases_Bool, and_parts}
 use Rattle.std.proofs.Math.Bool.{and_assoc}
 use Rattle.std.specs.Char.{len_utf8}
 use Rattle.unicode_normalization.specs.Order.{is_nonstarter}
 use Rattle.unicode_normalization.specs.StreamSafe.{has_short_runs}
 use Rattle.nfd_points.specs.Points.{decomposition, byte_len}
-use Rattle.nfd_points.specs.PointFaults.{run_after, fault_at, fault_from}
+use Rattle.nfd_points.specs.PointFaults.{run_after, fault_of_code_point, fault_from, part_fault}
 use Rattle.nfd_points.proofs.DecompositionLemmas.{length-decomposition}
 use Rattle.nfd_points.proofs.PointsLemmas.{byte_len-cons, byte_len-nil}
 
@@ -72,31 +72,46 @@ run_after-few run (d ∷ ds) le h =
 
 -- ---- the fault at a code point
 
-pub fault_at-none : (run c : ℕ) → has_short_runs run (decomposition c) ≡ true → fault_at run c ≡ None
-unfolding fault_at
-fault_at-none run c h =
+pub fault_of_code_point-parts : (run c : ℕ) → fault_of_code_point run c ≡ part_fault run (decomposition c)
+unfolding fault_of_code_point
+fault_of_code_point-parts run c = refl
+
+-- a decomposition without a fault
+pub part_fault-none : (run : ℕ) (ds : List ℕ) → part_fault run ds ≡ None → (length ds ≤ 4) × (has_short_runs run ds ≡ true)
+part_fault-none run ds h =
+    elim (cases_Bool (nat_lt 4 (length ds))) [
+      | inl long ↦ let some : ◌≡◌ {A = Option ℕ} (Some 33) None = sym (cond-true _ _ _ long) ∙ h in cc
+      | inr few ↦ elim (cases_Bool (has_short_runs run ds)) [
+        | inl short ↦ (ltb-false 4 (length ds) few, short)
+        | inr over ↦ let some : ◌≡◌ {A = Option ℕ} (Some 32) None = sym (cond-false _ _ _ few ∙ cond-false _ _ _ over) ∙ h in cc
+      ]
+    ]
+
+pub fault_of_code_point-none : (run c : ℕ) → has_short_runs run (decomposition c) ≡ true → fault_of_code_point run c ≡ None
+unfolding fault_of_code_point
+fault_of_code_point-none run c h =
     cond-false _ _ _ (le-ltb 4 (length (decomposition c)) (length-decomposition c)) ∙ cond-true _ _ _ h
 
-pub fault_at-run : (run c : ℕ) → has_short_runs run (decomposition c) ≡ false → fault_at run c ≡ Some 32
-unfolding fault_at
-fault_at-run run c h =
+pub fault_of_code_point-run : (run c : ℕ) → has_short_runs run (decomposition c) ≡ false → fault_of_code_point run c ≡ Some 32
+unfolding fault_of_code_point
+fault_of_code_point-run run c h =
     cond-false _ _ _ (le-ltb 4 (length (decomposition c)) (length-decomposition c)) ∙ cond-false _ _ _ h
 
-pub fault_at-kind : (run c kind : ℕ) → fault_at run c ≡ Some kind → kind ≡ 32
-fault_at-kind run c kind h =
+pub fault_of_code_point-kind : (run c kind : ℕ) → fault_of_code_point run c ≡ Some kind → kind ≡ 32
+fault_of_code_point-kind run c kind h =
     elim (cases_Bool (has_short_runs run (decomposition c))) [
-      | inl short ↦ let clash = sym h ∙ fault_at-none run c short in cc
-      | inr long ↦ let same = sym h ∙ fault_at-run run c long in cc
+      | inl short ↦ let clash = sym h ∙ fault_of_code_point-none run c short in cc
+      | inr long ↦ let same = sym h ∙ fault_of_code_point-run run c long in cc
     ]
 
 -- ---- the first fault of a list
 
-pub fault_from-here : (start run c kind : ℕ) (cs : List ℕ) → fault_at run c ≡ Some kind → fault_from start run (c ∷ cs) ≡ Some (start, kind)
+pub fault_from-here : (start run c kind : ℕ) (cs : List ℕ) → fault_of_code_point run c ≡ Some kind → fault_from start run (c ∷ cs) ≡ Some (start, kind)
 unfolding fault_from
 fault_from-here start run c kind cs h =
     ap (λ (k : Option ℕ). elim k as (λ _. Option (ℕ × ℕ)) [ Some n ↦ Some (start, n) | None ↦ fault_from (start + len_utf8 c) (run_after run (decomposition c)) cs ]) h
 
-pub fault_from-later : (start run c : ℕ) (cs : List ℕ) → fault_at run c ≡ None → fault_from start run (c ∷ cs) ≡ fault_from (start + len_utf8 c) (run_after run (decomposition c)) cs
+pub fault_from-later : (start run c : ℕ) (cs : List ℕ) → fault_of_code_point run c ≡ None → fault_from start run (c ∷ cs) ≡ fault_from (start + len_utf8 c) (run_after run (decomposition c)) cs
 unfolding fault_from
 fault_from-later start run c cs h =
     ap (λ (k : Option ℕ). elim k as (λ _. Option (ℕ × ℕ)) [ Some n ↦ Some (start, n) | None ↦ fault_from (start + len_utf8 c) (run_after run (decomposition c)) cs ]) h
@@ -109,12 +124,12 @@ cases_fault : (o : Option ℕ) → (o ≡ None) ⊎ ((kind : ℕ) × (o ≡ Some
 cases_fault None = inl refl
 cases_fault (Some kind) = inr (kind, refl)
 
--- where the front has no fault, the first fault is that of the rest
+-- where the prefix has no fault, the first fault is that of the rest
 pub fault_from-good : (start run : ℕ) (xs ys : List ℕ) → fault_from start run xs ≡ None → fault_from start run (xs ++ ys) ≡ fault_from (start + byte_len xs) (run_after run (flat_map decomposition xs)) ys
 fault_from-good start run [] ys h =
     ap₂ (λ m n. fault_from m n ys) (omega (arith, byte_len-nil)) (sym (run_after-nil run))
 fault_from-good start run (x ∷ xs) ys h =
-    elim (cases_fault (fault_at run x)) [
+    elim (cases_fault (fault_of_code_point run x)) [
       | inr at ↦ let clash = sym h ∙ fault_from-here start run x at.0 xs at.1 in cc
       | inl none ↦
           fault_from-later start run x (xs ++ ys) none
@@ -123,13 +138,13 @@ fault_from-good start run (x ∷ xs) ys h =
           (sym (run_after-append run (decomposition x) (flat_map decomposition xs)))
     ]
 
--- a fault of the front is the first fault of the whole
-pub fault_from-front : (start run : ℕ) (xs ys : List ℕ) (fault : ℕ × ℕ) → fault_from start run xs ≡ Some fault → fault_from start run (xs ++ ys) ≡ Some fault
-fault_from-front start run [] ys fault h = let clash = sym (fault_from-nil start run) ∙ h in cc
-fault_from-front start run (x ∷ xs) ys fault h =
-    elim (cases_fault (fault_at run x)) [
+-- a fault of the prefix is the first fault of the whole
+pub fault_from-prefix : (start run : ℕ) (xs ys : List ℕ) (fault : ℕ × ℕ) → fault_from start run xs ≡ Some fault → fault_from start run (xs ++ ys) ≡ Some fault
+fault_from-prefix start run [] ys fault h = let clash = sym (fault_from-nil start run) ∙ h in cc
+fault_from-prefix start run (x ∷ xs) ys fault h =
+    elim (cases_fault (fault_of_code_point run x)) [
       | inr at ↦ fault_from-here start run x at.0 (xs ++ ys) at.1 ∙ sym (fault_from-here start run x at.0 xs at.1) ∙ h
       | inl none ↦
           fault_from-later start run x (xs ++ ys) none
-          ∙ fault_from-front (start + len_utf8 x) (run_after run (decomposition x)) xs ys fault (sym (fault_from-later start run x xs none) ∙ h)
+          ∙ fault_from-prefix (start + len_utf8 x) (run_after run (decomposition x)) xs ys fault (sym (fault_from-later start run x xs none) ∙ h)
     ]

@@ -5,33 +5,44 @@ use Rattle.std.specs.List.{list_all}
 use Rattle.unicode_normalization.specs.Forms.{nfd}
 use Rattle.unicode_normalization.specs.Lookups.{canonical_combining_class}
 use Rattle.unicode_normalization.specs.StreamSafe.{has_short_runs}
+use Rattle.nfd_points.specs.declared.limits.TheConstants.{MOST_WAITING, MOST_DECOMPOSITION, MOST_GIVEN}
 use Rattle.nfd_points.specs.declared.points.Point.{Point}
-use Rattle.nfd_points.specs.Points.{decomposition, byte_len, points_of, points_from, points, begins_with_starter, is_in_order, ordered, shifted}
-use Rattle.nfd_points.specs.PointFaults.{run_after, fault_at, fault_from, point_fault}
-use Rattle.nfd_points.specs.Reordering.{Waiting, codes, IsSound, HasReordered, up_to_last_starter}
+use Rattle.nfd_points.specs.Points.{ascii_point, decomposition, byte_len, points_of, points_from, points, is_starter, begins_with_starter, is_in_order, ordered, shifted}
+use Rattle.nfd_points.specs.PointFaults.{run_after, fault_of_code_point, fault_from, point_fault}
+use Rattle.nfd_points.specs.Reordering.{Waiting, code_points, IsSoundPoint, HasReordered, up_to_last_starter}
+
+-- ---- numbers of points
+
+pub record Limits : Type 0 where
+  pub waiting : MOST_WAITING ≡ 30
+  pub decomposition : MOST_DECOMPOSITION ≡ 4
+  pub given : MOST_GIVEN ≡ MOST_WAITING + MOST_DECOMPOSITION
 
 -- ---- decompositions
 
 -- UAX #15 has 4 as the greatest expansion
 abbrev pub DecompositionsAreShort : Type 0
-DecompositionsAreShort = (c : ℕ) → (1 ≤ length (decomposition c)) × (length (decomposition c) ≤ 4)
+DecompositionsAreShort = (c : ℕ) → (1 ≤ length (decomposition c)) × (length (decomposition c) ≤ MOST_DECOMPOSITION)
 
 abbrev pub OthersAreStarters : Type 0
 OthersAreStarters = (c : ℕ) → ¬ (IsScalar c) → (decomposition c ≡ c ∷ []) × (canonical_combining_class c ≡ 0)
 
 abbrev pub AsciiIsItself : Type 0
-AsciiIsItself = (start c : ℕ) → c < 128 → points_of start c ≡ record { cp = c; ccc = 0; offset = start; first = true } ∷ []
+AsciiIsItself = (start c : ℕ) → c < 128 → points_of start c ≡ ascii_point start c ∷ []
 
 -- ---- points
 
 abbrev pub CodesAreNfd : Type 0
-CodesAreNfd = (cs : List ℕ) → codes (points cs) ≡ nfd cs
+CodesAreNfd = (cs : List ℕ) → code_points (points cs) ≡ nfd cs
 
 abbrev pub PointsAreSound : Type 0
-PointsAreSound = (cs : List ℕ) → All IsScalar cs → All IsSound (points cs)
+PointsAreSound = (cs : List ℕ) → All IsScalar cs → All IsSoundPoint (points cs)
 
 abbrev pub BytesAreCounted : Type 0
 BytesAreCounted = (cs : List ℕ) → byte_len cs ≡ length (encode_utf8_all cs)
+
+abbrev pub BytesOfParts : Type 0
+BytesOfParts = (xs ys : List ℕ) → byte_len (xs ++ ys) ≡ byte_len xs + byte_len ys
 
 abbrev pub PointsOfParts : Type 0
 PointsOfParts = (start : ℕ) (xs ys : List ℕ) → points_from start (xs ++ ys) ≡ points_from start xs ++ points_from (start + byte_len xs) ys
@@ -39,10 +50,26 @@ PointsOfParts = (start : ℕ) (xs ys : List ℕ) → points_from start (xs ++ ys
 abbrev pub PointsAreShifted : Type 0
 PointsAreShifted = (by start : ℕ) (cs : List ℕ) → points_from (by + start) cs ≡ map (shifted by) (points_from start cs)
 
--- where the second text begins with a starter, its points are its own, behind the bytes of the first
+-- where the second text begins with a starter, its points are its own, after the bytes of the first
 abbrev pub TextsPart : Type 0
 TextsPart =
     (xs ys : List ℕ) → begins_with_starter (points_from 0 ys) ≡ true → points (xs ++ ys) ≡ points xs ++ map (shifted (byte_len xs)) (points ys)
+
+-- a text that is cut before the code point of the point s: the points before s are those of the first part, and s and those
+-- after it are those of the second one
+pub record IsTextCut (cs : List ℕ) (prefix : List Point) (s : Point) (later : List Point) : Type 0 where
+  pub before : List ℕ
+  pub c : ℕ
+  pub following : List ℕ
+  pub text : cs ≡ before ++ c ∷ following
+  pub points_before : points before ≡ prefix
+  pub points_after : map (shifted (byte_len before)) (points (c ∷ following)) ≡ s ∷ later
+  pub offset : s.offset ≡ byte_len before
+
+-- a point that is a starter, and the first of its code point's decomposition, cuts the text
+abbrev pub TextsAreCut : Type 0
+TextsAreCut =
+    (cs : List ℕ) (prefix : List Point) (s : Point) (later : List Point) → is_starter s ≡ true → s.first ≡ true → points cs ≡ prefix ++ s ∷ later → IsTextCut cs prefix s later
 
 -- ---- canonical ordering
 
@@ -52,9 +79,9 @@ OrderingIsInOrder = (ps : List Point) → is_in_order (ordered ps) ≡ true
 abbrev pub OrderedStays : Type 0
 OrderedStays = (ps : List Point) → is_in_order ps ≡ true → ordered ps ≡ ps
 
--- a front may be put in order first
-abbrev pub OrderingOfFronts : Type 0
-OrderingOfFronts = (xs ys : List Point) → ordered (ordered xs ++ ys) ≡ ordered (xs ++ ys)
+-- a prefix may be put in order first
+abbrev pub OrderingOfPrefixes : Type 0
+OrderingOfPrefixes = (xs ys : List Point) → ordered (ordered xs ++ ys) ≡ ordered (xs ++ ys)
 
 abbrev pub OrderingStopsAtStarters : Type 0
 OrderingStopsAtStarters = (xs ys : List Point) → begins_with_starter ys ≡ true → ordered (xs ++ ys) ≡ ordered xs ++ ordered ys
@@ -68,25 +95,35 @@ OrderingKeeps = (test : Point → Bool) (ps : List Point) → list_all test ps �
 abbrev pub OrderingCounts : Type 0
 OrderingCounts = (ps : List Point) → length (ordered ps) ≡ length ps
 
+-- points that a starter s cuts into two parts, which are put in order apart
+abbrev pub IsCut : List Point → List Point → Point → List Point → Type 0
+IsCut ps before s following =
+    (xs : List Point) × (ys : List Point) × (ps ≡ xs ++ s ∷ ys) × (ordered xs ≡ before) × (ordered ys ≡ following)
+
+-- a starter among ordered points stood there before they were put in order
+abbrev pub StartersStay : Type 0
+StartersStay =
+    (ps before : List Point) (s : Point) (following : List Point) → is_starter s ≡ true → ordered ps ≡ before ++ s ∷ following → IsCut ps before s following
+
 -- ---- faults
 
--- behind a front without a fault, the first fault is that of the rest
-abbrev pub FaultBehind : Type 0
-FaultBehind =
+-- after a prefix without a fault, the first fault is that of the rest
+abbrev pub FaultAfter : Type 0
+FaultAfter =
     (start run : ℕ) (xs ys : List ℕ) → fault_from start run xs ≡ None → fault_from start run (xs ++ ys) ≡ fault_from (start + byte_len xs) (run_after run (flat_map decomposition xs)) ys
 
--- the fault of a front is the first fault of the whole
-abbrev pub FaultInFront : Type 0
-FaultInFront =
+-- the fault of a prefix is the first fault of the whole
+abbrev pub FaultInPrefix : Type 0
+FaultInPrefix =
     (start run : ℕ) (xs ys : List ℕ) (fault : ℕ × ℕ) → fault_from start run xs ≡ Some fault → fault_from start run (xs ++ ys) ≡ Some fault
 
 -- 33 stands nowhere
 abbrev pub FaultsAreRuns : Type 0
-FaultsAreRuns = (run c kind : ℕ) → fault_at run c ≡ Some kind → kind ≡ 32
+FaultsAreRuns = (run c kind : ℕ) → fault_of_code_point run c ≡ Some kind → kind ≡ 32
 
 -- where there is no fault, no more than 30 non-starters follow each other
 abbrev pub GoodRunsAreShort : Type 0
-GoodRunsAreShort = (cs : List ℕ) → point_fault cs ≡ None → has_short_runs 0 (codes (points cs)) ≡ true
+GoodRunsAreShort = (cs : List ℕ) → point_fault cs ≡ None → has_short_runs 0 (code_points (points cs)) ≡ true
 
 -- and where no more than 30 non-starters follow each other in the joined decompositions, there is no fault
 abbrev pub ShortRunsAreGood : Type 0

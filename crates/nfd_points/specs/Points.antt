@@ -25,6 +25,10 @@ points_at start is_first (d ∷ ds) =
 abbrev pub points_of : ℕ → ℕ → List Point
 points_of start c = points_at start true (decomposition c)
 
+-- the one point of a code point below 80 hex
+abbrev pub ascii_point : ℕ → ℕ → Point
+ascii_point start c = record { cp = c; ccc = 0; offset = start; first = true }
+
 -- the points of a list of code points that begins at an offset, before they are put in order
 unfoldable pub points_from : ℕ → List ℕ → List Point
 points_from start [] = []
@@ -59,7 +63,7 @@ unfoldable pub ordered : List Point → List Point
 ordered [] = []
 ordered (p ∷ ps) = sink p (ordered ps)
 
--- a point of a text behind so many bytes
+-- a point of a text after so many bytes
 abbrev pub shifted : ℕ → Point → Point
 shifted by p = record p { offset = by + p.offset }
 

@@ -3,6 +3,7 @@ use Rattle.std.specs.Prelude.{◌≡◌, ℕ, ◌<◌, ◌≤◌, Bool, true, no
 use Rattle.std.specs.Char.{IsScalar}
 use Rattle.std.specs.List.{list_all}
 use Rattle.unicode_normalization.specs.Lookups.{canonical_combining_class}
+use Rattle.nfd_points.specs.declared.limits.TheConstants.{MOST_WAITING}
 use Rattle.nfd_points.specs.declared.points.Point.{Point}
 use Rattle.nfd_points.specs.Points.{decomposition, byte_len, points_from, points, is_starter, is_in_order, ordered}
 use Rattle.nfd_points.specs.PointFaults.{run_after, point_fault}
@@ -14,21 +15,21 @@ pub record Waiting : Type 0 where
 abbrev pub is_non_starter : Point → Bool
 is_non_starter p = not (is_starter p)
 
-abbrev pub codes : List Point → List ℕ
-codes = map (λ p. p.cp)
+abbrev pub code_points : List Point → List ℕ
+code_points = map (λ p. p.cp)
 
 -- a scalar value with its class
-pub record IsSound (p : Point) : Type 0 where
+pub record IsSoundPoint (p : Point) : Type 0 where
   pub scalar : IsScalar p.cp
   pub in_range : p.cp < 0x11_0000
   pub class : p.ccc ≡ canonical_combining_class p.cp
 
--- what may wait: at most 30 non-starters, in canonical order
+-- what may wait: non-starters in canonical order, no more than may stand in a row
 pub record IsHeld (ps : List Point) : Type 0 where
   pub non_starters : list_all is_non_starter ps ≡ true
   pub in_order : is_in_order ps ≡ true
-  pub few : length ps ≤ 30
-  pub sound : All IsSound ps
+  pub few : length ps ≤ MOST_WAITING
+  pub sound : All IsSoundPoint ps
 
 -- each point has at least the class of the one before it, and the first at least `class`
 unfoldable pub rises_from : ℕ → List Point → Bool
@@ -41,7 +42,7 @@ is_closed [] = true
 is_closed (p ∷ []) = is_starter p
 is_closed (p ∷ q ∷ qs) = is_closed (q ∷ qs)
 
--- the points from the front on up to the last starter, that one included, or none where there is no starter
+-- the points from the first on up to the last starter, that one included, or none where there is no starter
 abbrev pub keep_up_to : Point → List Point → List Point
 keep_up_to p [] = if is_starter p then p ∷ [] else []
 keep_up_to p (q ∷ qs) = p ∷ q ∷ qs

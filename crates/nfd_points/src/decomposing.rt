@@ -1,53 +1,23 @@
-//! The points of one code point, and whether a run of non-starters has room for them.
-ghost use Rattle.std.specs.Prelude.{◌≡◌, ◌↔◌, ◌≤◌, length, All, IsOk, IfOk, IfErr};
+//! Whether the decomposition of one code point is at fault, with the run of non-starters before it.
+ghost use Rattle.std.specs.Prelude.{◌≡◌, ◌≤◌};
+ghost use Rattle.std.specs.Option.{option_map};
 ghost use Rattle.unicode_normalization.specs.StreamSafe.{has_short_runs};
-ghost use Rattle.nfd_points.specs.Points.{decomposition, points_of};
-ghost use Rattle.nfd_points.specs.Reordering.{codes, IsSound};
+ghost use Rattle.nfd_points.specs.PointFaults.{part_fault};
 
 use crate::faults::PointFault;
-use crate::points::Point;
-use arrayvec::ArrayVec;
-use unicode_normalization::Form;
-use unicode_normalization::char::decomposition;
+use crate::limits::{MOST_DECOMPOSITION, MOST_WAITING};
+use unicode_normalization::char::canonical_combining_class;
 
-/// The most non-starters in a row (UAX #15, Stream-Safe Text).
-pub(crate) const MOST_WAITING: usize = 30;
-
-/// The most code points of a canonical decomposition.
-pub(crate) const MOST_DECOMPOSED: usize = 4;
-
-/// The points of the canonical decomposition of `c`, which stands at the byte `offset`.
-pub(crate) fn decomposed(
-    c: char,
-    offset: u64,
-) -> Result<ArrayVec<Point, MOST_DECOMPOSED>, PointFault>
-    ensures variant { IsOk result ↔ (length (decomposition c) ≤ 4) }
-    ensures points { IfOk result (λ ps. ps.items ≡ points_of offset c) }
-    ensures sound { IfOk result (λ ps. All IsSound ps.items) }
-    ensures kind { IfErr result (λ f. f.kind ≡ 33) }
+/// Whether no run of non-starters gets longer than `MOST_WAITING` by these code points, with `run` of them before.
+fn has_room(mut run: usize, parts: &[char]) -> bool
+    requires { run ≤ MOST_WAITING }
+    ensures { result ≡ has_short_runs run parts.now }
 {
-    let mut room = [c; 3];
-    let parts = decomposition(c, Form::Nfd, &mut room);
-    if parts.len() > MOST_DECOMPOSED {
-        return Err(PointFault {
-            kind: PointFault::LONG_DECOMPOSITION,
-        });
+    if parts.len() <= MOST_WAITING - run {
+        return true;
     }
-    let mut points = ArrayVec::new();
-    for d in parts {
-        points.push(Point::new(*d, offset, points.is_empty()));
-    }
-    Ok(points)
-}
-
-/// Whether no run of non-starters gets longer than `MOST_WAITING` by the points, with `run` of them before.
-pub(crate) fn has_room(mut run: usize, points: &[Point]) -> bool
-    requires few { run ≤ 30 }
-    requires sound { All IsSound points.now }
-    ensures { result ≡ has_short_runs run (codes points.now) }
-{
-    for point in points {
-        if point.ccc == 0 {
+    for part in parts {
+        if canonical_combining_class(*part) == 0 {
             run = 0;
         } else if run < MOST_WAITING {
             run += 1;
@@ -56,4 +26,19 @@ pub(crate) fn has_room(mut run: usize, points: &[Point]) -> bool
         }
     }
     true
+}
+
+/// The fault of a code point with this decomposition, where `run` non-starters stand before it.
+pub(crate) fn fault_of(run: usize, parts: &[char]) -> Option<PointFault>
+    requires { run ≤ MOST_WAITING }
+    ensures { option_map (λ f. f.kind) result ≡ part_fault run parts.now }
+{
+    let kind = if parts.len() > MOST_DECOMPOSITION {
+        PointFault::LONG_DECOMPOSITION
+    } else if !has_room(run, parts) {
+        PointFault::LONG_RUN
+    } else {
+        return None;
+    };
+    Some(PointFault { kind })
 }

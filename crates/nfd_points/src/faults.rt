@@ -4,7 +4,7 @@ use thiserror::Error;
 
 /// A code point that a text may not have where it stands.
 ///
-/// No fault tells of want of memory, for no call of this crate takes any.
+/// No fault reports want of memory, for no call of this crate takes any.
 #[derive(Clone, Copy, Debug, PartialEq, Eq, Error)]
 #[error("fault {kind} of a code point")]
 pub struct PointFault {

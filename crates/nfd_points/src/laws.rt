@@ -1,7 +1,12 @@
 //! Laws of points and of their faults, each the promise of a function that does nothing.
 //!
 //! They hold for every list of code points, also for numbers that are no scalar values.
-ghost use Rattle.nfd_points.specs.Laws.{DecompositionsAreShort, OthersAreStarters, AsciiIsItself, CodesAreNfd, PointsAreSound, BytesAreCounted, PointsOfParts, PointsAreShifted, TextsPart, OrderingIsInOrder, OrderedStays, OrderingOfFronts, OrderingStopsAtStarters, OrderingIsShifted, OrderingKeeps, OrderingCounts, FaultBehind, FaultInFront, FaultsAreRuns, GoodRunsAreShort, ShortRunsAreGood, LongRunsAreFaults, GivenAreFinal, GivenBegin, WaitingAreOthers};
+ghost use Rattle.nfd_points.specs.Laws.{Limits, DecompositionsAreShort, OthersAreStarters, AsciiIsItself, CodesAreNfd, PointsAreSound, BytesAreCounted, BytesOfParts, PointsOfParts, PointsAreShifted, TextsPart, TextsAreCut, OrderingIsInOrder, OrderedStays, OrderingOfPrefixes, OrderingStopsAtStarters, StartersStay, OrderingIsShifted, OrderingKeeps, OrderingCounts, FaultAfter, FaultInPrefix, FaultsAreRuns, GoodRunsAreShort, ShortRunsAreGood, LongRunsAreFaults, GivenAreFinal, GivenBegin, WaitingAreOthers};
+
+/// The most points that wait, of one decomposition, and that one call gives.
+pub fn limits()
+    ensures { Limits }
+{}
 
 /// What the decomposition of one code point is.
 pub fn laws_of_decompositions()
@@ -15,17 +20,20 @@ pub fn laws_of_points()
     ensures nfd { CodesAreNfd }
     ensures sound { PointsAreSound }
     ensures bytes { BytesAreCounted }
+    ensures bytes_of_parts { BytesOfParts }
     ensures parts { PointsOfParts }
     ensures shifted { PointsAreShifted }
     ensures texts { TextsPart }
+    ensures cuts { TextsAreCut }
 {}
 
 /// What canonical ordering does, and that it does not cross a starter.
 pub fn laws_of_ordering()
     ensures in_order { OrderingIsInOrder }
     ensures stays { OrderedStays }
-    ensures fronts { OrderingOfFronts }
+    ensures prefixes { OrderingOfPrefixes }
     ensures at_starters { OrderingStopsAtStarters }
+    ensures starters { StartersStay }
     ensures shifted { OrderingIsShifted }
     ensures keeps { OrderingKeeps }
     ensures counts { OrderingCounts }
@@ -33,8 +41,8 @@ pub fn laws_of_ordering()
 
 /// The first fault of a text, by its parts, and by the runs of non-starters in its joined decompositions.
 pub fn laws_of_faults()
-    ensures behind { FaultBehind }
-    ensures in_front { FaultInFront }
+    ensures following { FaultAfter }
+    ensures in_prefix { FaultInPrefix }
     ensures runs { FaultsAreRuns }
     ensures short { GoodRunsAreShort }
     ensures good { ShortRunsAreGood }

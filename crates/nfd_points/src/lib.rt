@@ -5,12 +5,14 @@
 #![tactic(auto)]
 
 pub use crate::faults::PointFault;
+pub use crate::limits::{MOST_DECOMPOSITION, MOST_GIVEN, MOST_WAITING};
 pub use crate::points::Point;
-pub use crate::reordering::{MOST_GIVEN, Reorder};
+pub use crate::reordering::Reorder;
 
 mod decomposing;
 mod faults;
 pub mod laws;
+mod limits;
 mod points;
 mod reordering;
 #[cfg(test)]

@@ -1,7 +1,8 @@
 //! A point: one code point of a decomposed text, and where it comes from.
-ghost use Rattle.std.specs.Prelude.{◌≡◌};
+ghost use Rattle.std.specs.Prelude.{◌≡◌, ◌<◌};
 ghost use Rattle.unicode_normalization.specs.Lookups.{canonical_combining_class};
-ghost use Rattle.nfd_points.specs.Reordering.{IsSound};
+ghost use Rattle.nfd_points.specs.Points.{ascii_point};
+ghost use Rattle.nfd_points.specs.Reordering.{IsSoundPoint};
 
 use unicode_normalization::char::canonical_combining_class;
 
@@ -22,13 +23,27 @@ impl Point {
     /// The point `c`, with its class, of the code point at the byte `offset`.
     pub fn new(c: char, offset: u64, first: bool) -> Self
         ensures value { result ≡ record { cp = c; ccc = canonical_combining_class c; offset = offset; first = first } }
-        ensures sound { IsSound result }
+        ensures sound { IsSoundPoint result }
     {
         Point {
             cp: c as u32,
             ccc: canonical_combining_class(c),
             offset,
             first,
+        }
+    }
+
+    /// The point of a character below 80 hex, which is its own decomposition and a starter.
+    #[inline(always)]
+    pub(crate) fn ascii(c: char, offset: u64) -> Self
+        requires { c < 128 }
+        ensures { result ≡ ascii_point offset c }
+    {
+        Point {
+            cp: c as u32,
+            ccc: 0,
+            offset,
+            first: true,
         }
     }
 }

@@ -1,24 +1,24 @@
 //! The reorderer: code points go in one at a time, points in canonical order come out.
-ghost use Rattle.std.specs.Prelude.{◌≡◌, ◌↔◌, ℕ, ◌+◌, ◌<◌, ◌≤◌, nat_le, true, take_while, List, [], ◌∷◌, ◌++◌, length, All, None, Some, OnOk, OnErr, IfErr, MatchResult, IsTrue};
+ghost use Rattle.std.specs.Prelude.{◌≡◌, ◌↔◌, ℕ, ◌+◌, ◌<◌, ◌≤◌, nat_le, true, take_while, List, [], ◌∷◌, ◌++◌, length, All, None, Some, OnOk, OnErr, IfErr, MatchResult, Ok, IsTrue};
 ghost use Rattle.arrayvec.specs.ArrayVec.{array_vec_len};
 ghost use Rattle.unicode_normalization.specs.StreamSafe.{has_short_runs};
-ghost use Rattle.nfd_points.specs.Points.{byte_len, points_of, points, ordered};
-ghost use Rattle.nfd_points.specs.PointFaults.{run_after, fault_at, point_fault};
-ghost use Rattle.nfd_points.specs.Reordering.{codes, IsSound, IsHeld, is_closed, HasReordered, rises_from};
+ghost use Rattle.nfd_points.specs.Points.{ascii_point, byte_len, points_at, points_of, points, ordered};
+ghost use Rattle.nfd_points.specs.PointFaults.{run_after, fault_of_code_point, point_fault};
+ghost use Rattle.nfd_points.specs.Reordering.{Waiting, IsSoundPoint, IsHeld, is_closed, HasReordered, rises_from};
 
-use crate::decomposing::{MOST_WAITING, decomposed, has_room};
+use crate::decomposing::fault_of;
 use crate::faults::PointFault;
+use crate::limits::{MOST_GIVEN, MOST_WAITING};
 use crate::points::Point;
 use arrayvec::ArrayVec;
 use std::alloc::Global;
 use std::marker::Model;
-
-/// The most points that one call gives: those that wait, and those of one code point.
-pub const MOST_GIVEN: usize = 34;
+use unicode_normalization::Form;
+use unicode_normalization::char::decomposition;
 
 /// Puts the code points of a text, one at a time, into the points of its NFD (UAX #15).
 ///
-/// It holds the non-starters since the last starter, at most 30. No call takes memory.
+/// It holds the non-starters since the last starter, at most `MOST_WAITING`. No call takes memory.
 #[derive(Debug, Drop)]
 pub struct Reorder {
     waiting: ArrayVec<Point, MOST_WAITING>,
@@ -50,7 +50,7 @@ impl Reorder {
     /// Takes the code point `c`, which stands at the byte `offset` of the text, counted from 0.
     ///
     /// `out` is emptied, and then holds the points that became final: where the decomposition of `c` has a starter,
-    /// the points up to the last such starter, in canonical order.
+    /// the points up to the last such starter, in canonical order. A code point below 80 hex is never at fault.
     ///
     /// # Errors
     ///
@@ -62,44 +62,36 @@ impl Reorder {
         out: &mut ArrayVec<Point, MOST_GIVEN>,
     ) -> Result<(), PointFault>
         // a fault is answered exactly where one stands at `c`, with its kind
-        ensures fault { MatchResult result
-            (λ _. fault_at (length self.old.held) c ≡ None)
-            (λ f. fault_at (length self.old.held) c ≡ Some f.kind) }
+        ensures fault { MatchResult result (λ _. fault_of_code_point (length self.old.held) c ≡ None)
+            (λ f. fault_of_code_point (length self.old.held) c ≡ Some f.kind) }
+        ensures ascii { c < 128 → result ≡ Ok tt }
+        ensures ascii_given { c < 128 → out.new.items ≡ self.old.held ++ ascii_point offset c ∷ [] }
         ensures pushed { OnOk result (out.new.items ++ self.new.held ≡ ordered (self.old.held ++ points_of offset c)) }
         ensures closed { is_closed out.new.items ≡ true }
         ensures held { IsHeld self.new.held }
-        ensures sound { All IsSound out.new.items }
-        ensures unchanged { OnErr result (self.new ≡ self.old) }
-        ensures emptied { OnErr result (out.new.items ≡ []) }
-        ensures few { length out.new.items ≤ 34 }
-        // what it did with the text so far, it has now done with `c` behind it
+        ensures sound { All IsSoundPoint out.new.items }
+        ensures unchanged { OnErr result ((self.new ≡ self.old) × (out.new.items ≡ [])) }
+        ensures few { length out.new.items ≤ MOST_GIVEN }
+        // what it did with the text so far, it has now done with `c` after it
         ensures carries { (taken : List ℕ) (given : List Point) →
             HasReordered self.old taken given → offset ≡ byte_len taken →
             OnOk result (HasReordered self.new (taken ++ c ∷ []) (given ++ out.new.items)) }
         // the fault is the first one of the text, however it goes on
-        ensures stops { (taken : List ℕ) (given : List Point) (rest : List ℕ) →
-            HasReordered self.old taken given →
+        ensures stops { (taken : List ℕ) (given : List Point) (rest : List ℕ) → HasReordered self.old taken given →
             IfErr result (λ f. point_fault (taken ++ c ∷ rest) ≡ Some (byte_len taken, f.kind)) }
     {
         out.clear();
         let run = self.waiting.len();
         if c.is_ascii() {
-            let point = Point {
-                cp: c as u32,
-                ccc: 0,
-                offset,
-                first: true,
-            };
-            self.take(point, out);
+            self.take(Point::ascii(c, offset), out);
             return Ok(());
         }
-        let points = decomposed(c, offset)?;
-        if !has_room(run, points.as_slice()) {
-            return Err(PointFault {
-                kind: PointFault::LONG_RUN,
-            });
+        let mut room = [c; 3];
+        let parts = decomposition(c, Form::Nfd, &mut room);
+        if let Some(fault) = fault_of(run, parts) {
+            return Err(fault);
         }
-        self.take_all(points.as_slice(), out);
+        self.take_all(parts, offset, out);
         Ok(())
     }
 
@@ -109,8 +101,8 @@ impl Reorder {
     pub fn finish(&mut self, out: &mut ArrayVec<Point, MOST_GIVEN>)
         ensures given { out.new.items ≡ self.old.held }
         ensures held { self.new.held ≡ [] }
-        ensures few { length out.new.items ≤ 30 }
-        ensures sound { All IsSound out.new.items }
+        ensures few { length out.new.items ≤ MOST_WAITING }
+        ensures sound { All IsSoundPoint out.new.items }
         // with those given before, these are all points of the text
         ensures rest { (taken : List ℕ) (given : List Point) →
             HasReordered self.old taken given → points taken ≡ given ++ out.new.items }
@@ -127,57 +119,61 @@ impl Reorder {
         self.waiting.as_slice()
     }
 
-    /// Whether these points may wait: at most 30 non-starters, and no class below the one before it.
+    /// Whether these points may wait: at most `MOST_WAITING` non-starters, and no class below the one before it.
     pub fn may_wait(points: &[Point]) -> bool
-        requires { All IsSound points.now }
+        requires { All IsSoundPoint points.now }
         ensures { IsTrue result ↔ IsHeld points.now }
     {
         points.len() <= MOST_WAITING && rises_from(1, points)
     }
 
-    /// The reorderer in which these points wait.
+    /// The reorderer in which these points wait, as [`waiting`](Reorder::waiting) told them of another.
     pub fn restore(_alloc: Global, waiting: &[Point]) -> Self
         requires { IsHeld waiting.now }
-        ensures { result.held ≡ waiting.now }
+        ensures held { result.held ≡ waiting.now }
+        ensures stands_for { (w : Waiting) (taken : List ℕ) (given : List Point) →
+            HasReordered w taken given → w.held ≡ waiting.now → HasReordered result taken given }
     {
         let mut held = ArrayVec::new();
         held.try_extend_from_slice(waiting).unwrap();
         Reorder { waiting: held }
     }
 
-    /// Takes the points of one code point.
-    fn take_all(&mut self, points: &[Point], out: &mut ArrayVec<Point, MOST_GIVEN>)
-        requires room { array_vec_len out.old + length self.old.held + length points.now ≤ 34 }
-        requires short { has_short_runs (length self.old.held) (codes points.now) ≡ true }
-        requires sound { All IsSound points.now }
+    /// Takes the decomposition of one code point, which stands at the byte `offset`.
+    fn take_all(&mut self, parts: &[char], offset: u64, out: &mut ArrayVec<Point, MOST_GIVEN>)
+        requires room { array_vec_len out.old + length self.old.held + length parts.now ≤ MOST_GIVEN }
+        requires short { has_short_runs (length self.old.held) parts.now ≡ true }
         requires held { IsHeld self.old.held }
         ensures held { IsHeld self.new.held }
         ensures moved { (rest : List Point) →
-            out.old.items ++ ordered (self.old.held ++ (points.now ++ rest)) ≡
+            out.old.items ++ ordered (self.old.held ++ (points_at offset true parts.now ++ rest)) ≡
             out.new.items ++ ordered (self.new.held ++ rest) }
         ensures closed { is_closed out.old.items ≡ true → is_closed out.new.items ≡ true }
-        ensures sound { All IsSound out.old.items → All IsSound out.new.items }
+        ensures sound { All IsSoundPoint out.old.items → All IsSoundPoint out.new.items }
         ensures len { array_vec_len out.new + length self.new.held ≡
-            array_vec_len out.old + length self.old.held + length points.now }
-        ensures run { length self.new.held ≡ run_after (length self.old.held) (codes points.now) }
+            array_vec_len out.old + length self.old.held + length parts.now }
+        ensures run { length self.new.held ≡ run_after (length self.old.held) parts.now }
     {
-        for point in points {
-            self.take(*point, out);
+        let mut is_first = true;
+        for part in parts {
+            self.take(Point::new(*part, offset, is_first), out);
+            is_first = false;
         }
     }
 
-    /// Takes one point: a starter sends out the points that wait and then itself, a non-starter waits behind those of
+    /// Takes one point: a starter sends out the points that wait and then itself, a non-starter waits after those of
     /// its class or a lower one.
+    #[inline(always)]
     fn take(&mut self, point: Point, out: &mut ArrayVec<Point, MOST_GIVEN>)
-        requires room { array_vec_len out.old + length self.old.held < 34 }
+        requires room { array_vec_len out.old + length self.old.held < MOST_GIVEN }
         requires short { has_short_runs (length self.old.held) (point.cp ∷ []) ≡ true }
-        requires sound { IsSound point }
+        requires sound { IsSoundPoint point }
         ensures held { IsHeld self.new.held }
         ensures moved { (rest : List Point) →
             out.old.items ++ ordered (self.old.held ++ point ∷ rest) ≡
             out.new.items ++ ordered (self.new.held ++ rest) }
         ensures closed { is_closed out.old.items ≡ true → is_closed out.new.items ≡ true }
-        ensures sound { All IsSound out.old.items → All IsSound out.new.items }
+        ensures sound { All IsSoundPoint out.old.items → All IsSoundPoint out.new.items }
         ensures len { array_vec_len out.new + length self.new.held ≡
             array_vec_len out.old + length self.old.held + 1 }
         ensures run { length self.new.held ≡ run_after (length self.old.held) (point.cp ∷ []) }
@@ -186,25 +182,28 @@ impl Reorder {
             self.release(out);
             out.push(point);
         } else {
-            let place = place_behind(self.waiting.as_slice(), point.ccc);
+            let place = place_after(self.waiting.as_slice(), point.ccc);
             self.waiting.insert(place, point);
         }
     }
 
     /// Appends the points that wait to `out`, so that none waits.
+    #[inline]
     fn release(&mut self, out: &mut ArrayVec<Point, MOST_GIVEN>)
-        requires { length self.old.held ≤ 30 → array_vec_len out.old + length self.old.held ≤ 34 }
+        requires { length self.old.held ≤ MOST_WAITING → array_vec_len out.old + length self.old.held ≤ MOST_GIVEN }
         ensures given { out.new.items ≡ out.old.items ++ self.old.held }
         ensures held { self.new.held ≡ [] }
         ensures was { IsHeld self.old.held }
     {
-        out.try_extend_from_slice(self.waiting.as_slice()).unwrap();
-        self.waiting.clear();
+        if !self.waiting.is_empty() {
+            out.try_extend_from_slice(self.waiting.as_slice()).unwrap();
+            self.waiting.clear();
+        }
     }
 }
 
-/// The place behind the points from the front on whose class is at most `class`.
-fn place_behind(waiting: &[Point], class: u8) -> usize
+/// The place after the points from the first on whose class is at most `class`.
+fn place_after(waiting: &[Point], class: u8) -> usize
     ensures value { result ≡ length (take_while (λ q. nat_le q.ccc class) waiting.now) }
     ensures fits { result ≤ length waiting.now }
 {

@@ -8,6 +8,7 @@ ghost use Rattle.nfd_points.specs.WorkedPoints.{worked_point};
 
 use crate::laws::{
     laws_of_decompositions, laws_of_faults, laws_of_ordering, laws_of_points, laws_of_reordering,
+    limits,
 };
 use crate::{MOST_GIVEN, Point, PointFault, Reorder};
 use arrayvec::ArrayVec;
@@ -47,6 +48,7 @@ fn worked_points()
 #[test]
 fn definitions_compute() {
     worked_points();
+    limits();
     laws_of_decompositions();
     laws_of_points();
     laws_of_ordering();
@@ -66,6 +68,11 @@ fn points(alloc: Global, text: &str) -> Result<Vec<Point>, Fail> {
     reorder.finish(&mut out);
     all.extend_from_slice(out.as_slice())?;
     Ok(all)
+}
+
+#[test]
+fn a_blank_point(rt: HostRuntime) {
+    assert_eq!(rt; Point::default(), point(0, 0, 0, false));
 }
 
 #[test]
@@ -166,6 +173,11 @@ fn composed_and_decomposed(rt: HostRuntime) -> Result<(), Fail> {
     ];
     assert_eq!(rt; above_first.as_slice(), in_order.as_slice());
 
+    Ok(())
+}
+
+#[test]
+fn partly_composed_and_hangul(rt: HostRuntime) -> Result<(), Fail> {
     let half = points(rt.alloc(), "\u{EA}\u{323}")?;
     let below_first = [
         point(0x65, 0, 0, true),
@@ -228,7 +240,7 @@ fn restored(rt: HostRuntime) -> Result<(), Fail> {
     Ok(())
 }
 
-/// Each code point that decomposes or has a class, behind a letter.
+/// Each code point that decomposes or has a class, after a letter.
 fn changing_code_points(alloc: Global) -> Result<Vec<char>, Fail> {
     let mut chars = Vec::new(alloc);
     for code in 0..0x11_0000u32 {
@@ -245,9 +257,13 @@ fn changing_code_points(alloc: Global) -> Result<Vec<char>, Fail> {
 }
 
 /// Appends the code points of points, and the offsets where they come from.
-fn append(points: &[Point], codes: &mut Vec<char>, offsets: &mut Vec<u64>) -> Result<(), Fail> {
+fn append(
+    points: &[Point],
+    code_points: &mut Vec<char>,
+    offsets: &mut Vec<u64>,
+) -> Result<(), Fail> {
     for point in points {
-        codes.push(char::from_u32(point.cp).ok_or("a point is a scalar value")?)?;
+        code_points.push(char::from_u32(point.cp).ok_or("a point is a scalar value")?)?;
         offsets.push(point.offset)?;
     }
     Ok(())

@@ -31,24 +31,24 @@ module _ (bytes whole rest : List ℕ) (s : Split bytes whole rest) where
   pub Split-end : characters_end bytes ≡ length whole
   Split-end = ap utf8_valid_len s.parts ∙ split_end whole rest s.text s.no_char
 
-  pub Split-front : take (characters_end bytes) bytes ≡ whole
-  Split-front = ap (λ n. take n bytes) Split-end ∙ ap (take (length whole)) s.parts ∙ take_at whole rest (length whole) refl
+  pub Split-prefix : take (characters_end bytes) bytes ≡ whole
+  Split-prefix = ap (λ n. take n bytes) Split-end ∙ ap (take (length whole)) s.parts ∙ take_at whole rest (length whole) refl
 
   pub Split-after : after_characters bytes ≡ rest
   Split-after = ap (λ n. drop n bytes) Split-end ∙ ap (drop (length whole)) s.parts ∙ drop_at whole rest (length whole) refl
 
   pub Split-characters : (from : ℕ) → characters_from from bytes ≡ with_offsets from (chars whole)
-  Split-characters from = ap (λ w. with_offsets from (chars w)) Split-front
+  Split-characters from = ap (λ w. with_offsets from (chars w)) Split-prefix
 
 -- ---- each list is so
 
-valid_front_by : (bytes : List ℕ) (m n : ℕ) → IsUtf8 (take n bytes) → (t : Bool) → is_utf8 (take m bytes) ≡ t → IsUtf8 (take (cond t m n) bytes)
-valid_front_by bytes m n u true e = IsUtf8-from_is_utf8 (take m bytes) e
-valid_front_by bytes m n u false e = u
+valid_prefix_by : (bytes : List ℕ) (m n : ℕ) → IsUtf8 (take n bytes) → (t : Bool) → is_utf8 (take m bytes) ≡ t → IsUtf8 (take (cond t m n) bytes)
+valid_prefix_by bytes m n u true e = IsUtf8-from_is_utf8 (take m bytes) e
+valid_prefix_by bytes m n u false e = u
 
-valid_front : (bytes : List ℕ) (m : ℕ) → IsUtf8 (take (valid_len_up_to bytes m) bytes)
-valid_front bytes zero = IsUtf8-nil
-valid_front bytes (suc m) = valid_front_by bytes (suc m) (valid_len_up_to bytes m) (valid_front bytes m) (is_utf8 (take (suc m) bytes)) refl
+valid_prefix : (bytes : List ℕ) (m : ℕ) → IsUtf8 (take (valid_len_up_to bytes m) bytes)
+valid_prefix bytes zero = IsUtf8-nil
+valid_prefix bytes (suc m) = valid_prefix_by bytes (suc m) (valid_len_up_to bytes m) (valid_prefix bytes m) (is_utf8 (take (suc m) bytes)) refl
 
 valid_longest_by : (bytes : List ℕ) (m n k : ℕ) → (n < k → k ≤ m → ⊥) → (t : Bool) → is_utf8 (take (suc m) bytes) ≡ t → cond t (suc m) n < k → k ≤ suc m → is_utf8 (take k bytes) ≡ true → ⊥
 valid_longest_by bytes m n k below true e l h u = omega arith
@@ -64,7 +64,7 @@ valid_longest bytes (suc m) k l h u =
 
 pub split_of : (bytes : List ℕ) → Split bytes (take (characters_end bytes) bytes) (after_characters bytes)
 unfolding utf8_valid_len
-split_of bytes = record { parts = sym (take-append-drop (characters_end bytes) bytes); text = valid_front bytes (length bytes); no_char = none }
+split_of bytes = record { parts = sym (take-append-drop (characters_end bytes) bytes); text = valid_prefix bytes (length bytes); no_char = none }
   where
     none : StartsWithNoChar (after_characters bytes)
     none c rest s e =
@@ -75,7 +75,7 @@ split_of bytes = record { parts = sym (take-append-drop (characters_end bytes) b
         let fits : end + n ≤ length bytes = omega (arith, length-drop end bytes, ap length e, length-append (encode c) rest) in
         let whole : take (end + n) bytes ≡ take end bytes ++ encode c = take-add end n bytes ∙ ap (λ l. take end bytes ++ l) (ap (take n) e ∙ take_at (encode c) rest n refl) in
         valid_longest bytes (length bytes) (end + n) (omega arith) fits
-        (is_utf8-from_IsUtf8 _ (subst IsUtf8 (sym whole) (IsUtf8-append _ _ (valid_front bytes (length bytes)) (IsUtf8-encode c s))))
+        (is_utf8-from_IsUtf8 _ (subst IsUtf8 (sym whole) (IsUtf8-append _ _ (valid_prefix bytes (length bytes)) (IsUtf8-encode c s))))
 
 -- ---- offsets
 
@@ -85,10 +85,10 @@ with_offsets-append from (c ∷ cs) ds =
     let n : from + len_utf8 c + length (encodes cs) ≡ from + length (encodes (c ∷ cs)) = omega (arith, length-append (encode c) (encodes cs), length-encode c) in
     ap (λ l. (c, from) ∷ l) (with_offsets-append (from + len_utf8 c) cs ds ∙ ap (λ k. with_offsets (from + len_utf8 c) cs ++ with_offsets k ds) n)
 
--- ---- bytes behind whole characters
+-- ---- bytes after whole characters
 
-pub behind_text : (whole bytes : List ℕ) → IsUtf8 whole → Split (whole ++ bytes) (whole ++ take (characters_end bytes) bytes) (after_characters bytes)
-behind_text whole bytes u =
+pub after_text : (whole bytes : List ℕ) → IsUtf8 whole → Split (whole ++ bytes) (whole ++ take (characters_end bytes) bytes) (after_characters bytes)
+after_text whole bytes u =
     let s = split_of bytes in
     record { parts = ap (λ l. whole ++ l) s.parts ∙ sym (append_assoc whole _ _); text = IsUtf8-append _ _ u s.text; no_char = s.no_char }
 
@@ -96,7 +96,7 @@ pub characters_from-append : (from : ℕ) (whole bytes : List ℕ) → IsUtf8 wh
     → characters_from from (whole ++ bytes) ≡ with_offsets from (chars whole) ++ characters_from (from + length whole) bytes
 characters_from-append from whole bytes u =
     let s = split_of bytes in
-    Split-characters _ _ _ (behind_text whole bytes u) from
+    Split-characters _ _ _ (after_text whole bytes u) from
     ∙ ap (λ cs. with_offsets from cs) (chars-append _ _ u)
     ∙ with_offsets-append from (chars whole) _
     ∙ ap (λ w. with_offsets from (chars whole) ++ with_offsets (from + length w) (chars (take (characters_end bytes) bytes))) (encodes-chars whole u)
@@ -111,8 +111,8 @@ characters_from-encode from c s =
 
 -- ---- a text
 
-pub text_front : (bytes : List ℕ) → IsUtf8 bytes → take (characters_end bytes) bytes ≡ bytes
-text_front bytes u = Split-front _ _ _ (split_whole bytes u)
+pub text_prefix : (bytes : List ℕ) → IsUtf8 bytes → take (characters_end bytes) bytes ≡ bytes
+text_prefix bytes u = Split-prefix _ _ _ (split_whole bytes u)
 
 pub text_fault : (bytes : List ℕ) → IsUtf8 bytes → first_fault bytes ≡ None
 text_fault bytes u = rw (eq-eqb _ _ (Split-end _ _ _ (split_whole bytes u)))
@@ -120,24 +120,24 @@ text_fault bytes u = rw (eq-eqb _ _ (Split-end _ _ _ (split_whole bytes u)))
 -- ---- a text before bytes
 
 module _ (text bytes : List ℕ) (u : IsUtf8 text) where
-  pub end_behind : characters_end (text ++ bytes) ≡ length text + characters_end bytes
-  end_behind =
-      omega (arith, Split-end _ _ _ (behind_text text bytes u), length-append text (take (characters_end bytes) bytes), Split-end _ _ _ (split_of bytes))
+  pub end_after : characters_end (text ++ bytes) ≡ length text + characters_end bytes
+  end_after =
+      omega (arith, Split-end _ _ _ (after_text text bytes u), length-append text (take (characters_end bytes) bytes), Split-end _ _ _ (split_of bytes))
 
-  pub rest_behind : after_characters (text ++ bytes) ≡ after_characters bytes
-  rest_behind = Split-after _ _ _ (behind_text text bytes u)
+  pub rest_after : after_characters (text ++ bytes) ≡ after_characters bytes
+  rest_after = Split-after _ _ _ (after_text text bytes u)
 
-  pub fault_behind : first_fault (text ++ bytes) ≡ option_map (λ at. length text + at) (first_fault bytes)
-  fault_behind =
+  pub fault_after : first_fault (text ++ bytes) ≡ option_map (λ at. length text + at) (first_fault bytes)
+  fault_after =
       let long = length-append text bytes in
       elim (cases_eq (characters_end bytes) (length bytes)) [
-        | inl e ↦ rw (eq-eqb _ _ e, eq-eqb (characters_end (text ++ bytes)) (length (text ++ bytes)) (omega (arith, end_behind)))
-        | inr n ↦ rw (ne_eqb _ _ n, ne_eqb (characters_end (text ++ bytes)) (length (text ++ bytes)) (omega (arith, end_behind)), end_behind)
+        | inl e ↦ rw (eq-eqb _ _ e, eq-eqb (characters_end (text ++ bytes)) (length (text ++ bytes)) (omega (arith, end_after)))
+        | inr n ↦ rw (ne_eqb _ _ n, ne_eqb (characters_end (text ++ bytes)) (length (text ++ bytes)) (omega (arith, end_after)), end_after)
       ]
 
-pub characters_behind : (from : ℕ) (text bytes : List ℕ) → IsUtf8 text
+pub characters_after : (from : ℕ) (text bytes : List ℕ) → IsUtf8 text
     → characters_from from (text ++ bytes) ≡ characters_from from text ++ characters_from (from + length text) bytes
-characters_behind from text bytes u =
+characters_after from text bytes u =
     characters_from-append from text bytes u
     ∙ ap (λ cs. cs ++ characters_from (from + length text) bytes) (sym (Split-characters _ _ _ (split_whole text u) from))
 

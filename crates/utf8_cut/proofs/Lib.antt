@@ -1,3 +1,4 @@
+pub mod AsciiLemmas
 pub mod CharactersLemmas
 pub mod PushLemmas
 pub mod TableLemmas

@@ -1,25 +1,21 @@
 -- What a push makes of what a cutter stands for, and what any further bytes do.
-use Rattle.std.proofs.Common.{◌≡◌, ℕ, ◌+◌, ◌<◌, Bool, true, false, List, [], ◌∷◌, ◌++◌, length, take, refl, sym, ap, ◌∙◌, subst, arith, append_assoc, append-nil, length-append, ne_eqb}
+use Rattle.std.proofs.Common.{◌≡◌, ℕ, suc, ◌+◌, ◌-◌, ◌<◌, Bool, true, false, List, [], ◌∷◌, ◌++◌, length, take, refl, sym, ap, ◌∙◌, subst, arith, add-zero, append_assoc, append-nil, length-append, length-drop, ne_eqb}
 use Rattle.std.specs.Prelude.{None, Some, IsTrue, not, cond}
-use Rattle.std.proofs.lemmas.Bool.{false≢true}
-use Rattle.std.proofs.lemmas.Str.{IsUtf8-append, IsUtf8-encode, IsUtf8-nil, chars-nil, length-encode, encode_ascii}
+use Rattle.std.proofs.lemmas.Bool.{not-true}
+use Rattle.std.proofs.lemmas.Str.{IsUtf8-append, IsUtf8-encode, IsUtf8-nil, chars-nil, length-encode, encode_ascii, len_utf8_ascii, utf8_valid_len_le}
 use Rattle.std.proofs.lemmas.List.{nil_from_length}
 use Rattle.std.specs.Char.{len_utf8}
-use Rattle.std.specs.Str.{IsUtf8, StartsWithNoChar}
+use Rattle.std.specs.Str.{IsAscii, IsUtf8, StartsWithNoChar}
 use Rattle.utf8_cut.specs.declared.Cutting.{Cutting}
 use Rattle.utf8_cut.specs.declared.Cutting.TheVariants.{More, Char, Bad}
-use Rattle.utf8_cut.specs.Characters.{is_cut_or_empty, is_open, ill_formed_at, characters_end, after_characters, with_offsets, characters_from, characters, first_fault}
+use Rattle.utf8_cut.specs.Characters.{is_incomplete_or_empty, is_utf8_prefix, ill_formed_at, characters_end, after_characters, with_offsets, characters_from, characters, first_fault}
 use Rattle.utf8_cut.specs.Sequences.{IsIllFormed}
 use Rattle.utf8_cut.specs.State.{StandsFor, IsPushed, IfChar, state_after, character_given, bad_given}
-use Rattle.utf8_cut.specs.Value.{CutState, IsSound, IsSoundWhen}
-use Rattle.utf8_cut.proofs.TableLemmas.{held_no_char, cut_is_held, ill_stays, ill_some}
-use Rattle.utf8_cut.proofs.CharactersLemmas.{Split, Split-end, Split-after, Split-characters, split_of, split_whole, characters_from-append, characters_from-encode, fault_behind}
+use Rattle.utf8_cut.specs.Value.{CutState, between_characters, IsSoundCut, IsSoundWhen}
+use Rattle.utf8_cut.proofs.TableLemmas.{held_no_char, incomplete_is_held, ill_stays, ill_some}
+use Rattle.utf8_cut.proofs.CharactersLemmas.{Split, Split-end, Split-after, Split-characters, split_of, split_whole, characters_from-append, characters_from-encode, fault_after}
 use Rattle.std.specs.Option.{option_map}
 use lib.Utf8.{encode, low_scalar}
-
-not_true : (b : Bool) → not b ≡ true → b ≡ false
-not_true true e = absurd (false≢true e)
-not_true false e = refl
 
 not_not : (b : Bool) → not (not b) ≡ b
 not_not true = refl
@@ -43,11 +39,11 @@ module _ (old : CutState) (taken : List ℕ) (given : List (ℕ × ℕ)) (stands
 
   rest_ill : old.is_bad ≡ true → IsIllFormed rest
   rest_ill e =
-      let closed : not (is_open taken) ≡ true = sym stands.bad ∙ e in
-      ((split_of taken).no_char, not_true _ closed)
+      let closed : not (is_utf8_prefix taken) ≡ true = sym stands.bad ∙ e in
+      ((split_of taken).no_char, not-true _ closed)
 
   -- where no character comes, with b whether the sequence is ill-formed
-  stays : (byte : ℕ) (b : Bool) (held : List ℕ) → StartsWithNoChar (rest ++ byte ∷ []) → is_cut_or_empty (rest ++ byte ∷ []) ≡ not b → held ≡ cond b [] (rest ++ byte ∷ [])
+  stays : (byte : ℕ) (b : Bool) (held : List ℕ) → StartsWithNoChar (rest ++ byte ∷ []) → is_incomplete_or_empty (rest ++ byte ∷ []) ≡ not b → held ≡ cond b [] (rest ++ byte ∷ [])
       → StandsFor (record { held = held; start = old.start; count = old.count + 1; is_bad = b }) (taken ++ byte ∷ []) given
   stays byte b held n t h =
       let now = taken ++ byte ∷ [] in
@@ -58,13 +54,13 @@ module _ (old : CutState) (taken : List ℕ) (given : List (ℕ × ℕ)) (stands
         count = omega (arith, length-append taken (byte ∷ []));
         start = stands.start ∙ Split-end _ _ _ (split_of taken) ∙ sym (Split-end _ _ _ s);
         held = h ∙ ap (λ l. cond b [] l) (sym (Split-after _ _ _ s));
-        bad = sym (ap not (ap (λ l. is_cut_or_empty l) (Split-after _ _ _ s) ∙ t) ∙ not_not b);
+        bad = sym (ap not (ap (λ l. is_incomplete_or_empty l) (Split-after _ _ _ s) ∙ t) ∙ not_not b);
       }
 
   more_stands : (byte : ℕ) → IsPushed old byte More → StandsFor (state_after old byte More) (taken ++ byte ∷ []) given
   more_stands byte p =
       let held : old.held ++ byte ∷ [] ≡ rest ++ byte ∷ [] = ap (λ l. l ++ byte ∷ []) (held_is p.0) in
-      let cut : IsTrue (is_cut_or_empty (rest ++ byte ∷ [])) = ap (λ l. is_cut_or_empty l) (sym held) ∙ cut_is_held (old.held ++ byte ∷ []) p.1 in
+      let cut : IsTrue (is_incomplete_or_empty (rest ++ byte ∷ [])) = ap (λ l. is_incomplete_or_empty l) (sym held) ∙ incomplete_is_held (old.held ++ byte ∷ []) p.1 in
       stays byte false _ (held_no_char _ cut) cut held
 
   joined_ill : (byte : ℕ) → (b : Bool) → old.is_bad ≡ b → (old.is_bad ≡ false → IsIllFormed (old.held ++ byte ∷ [])) → IsIllFormed (rest ++ byte ∷ [])
@@ -99,7 +95,7 @@ module _ (old : CutState) (taken : List ℕ) (given : List (ℕ × ℕ)) (stands
         count = long;
         start = long ∙ sym (Split-end _ _ _ s);
         held = sym (Split-after _ _ _ s);
-        bad = ap (λ l. not (is_cut_or_empty l)) (sym (Split-after _ _ _ s));
+        bad = ap (λ l. not (is_incomplete_or_empty l)) (sym (Split-after _ _ _ s));
       }
 
 -- a push carries on what the cutter stands for
@@ -117,7 +113,7 @@ by_open false n m e = refl
 -- what a value that stands for some bytes says of their fault
 pub ill_formed_by : (cut : CutState) (taken : List ℕ) (given : List (ℕ × ℕ)) → StandsFor cut taken given → ill_formed_at taken ≡ cond cut.is_bad (Some cut.start) None
 ill_formed_by cut taken given s =
-    let opened : is_open taken ≡ not cut.is_bad = sym (not_not (is_open taken)) ∙ ap not (sym s.bad) in
+    let opened : is_utf8_prefix taken ≡ not cut.is_bad = sym (not_not (is_utf8_prefix taken)) ∙ ap not (sym s.bad) in
     ap (λ b. cond b None (Some (characters_end taken))) opened ∙ by_open cut.is_bad _ _ (sym s.start)
 
 pushed_fault : (old : CutState) (byte : ℕ) (out : Cutting) → IsPushed old byte out → let new = state_after old byte out in bad_given out ≡ cond new.is_bad (Some new.start) None
@@ -125,7 +121,7 @@ pushed_fault old byte More p = refl
 pushed_fault old byte (Char c at) p = refl
 pushed_fault old byte (Bad at) p = ap (λ n. Some n) p.0
 
--- and a push tells it
+-- and a push reports it
 pub pushed_bad : (old : CutState) (byte : ℕ) (out : Cutting) → IsPushed old byte out → (taken : List ℕ) (given : List (ℕ × ℕ)) → StandsFor old taken given
     → bad_given out ≡ ill_formed_at (taken ++ byte ∷ [])
 pushed_bad old byte out p taken given s =
@@ -162,14 +158,14 @@ new_stands =
       count = refl;
       start = sym (Split-end _ _ _ s);
       held = sym (Split-after _ _ _ s);
-      bad = sym (ap (λ l. not (is_cut_or_empty l)) (Split-after _ _ _ s));
+      bad = sym (ap (λ l. not (is_incomplete_or_empty l)) (Split-after _ _ _ s));
     }
 
-sound_open : (cut : CutState) → IsSound cut → cut.is_bad ≡ false → IsTrue (is_cut_or_empty cut.held) × (cut.start + length cut.held ≡ cut.count)
+sound_open : (cut : CutState) → IsSoundCut cut → cut.is_bad ≡ false → IsTrue (is_incomplete_or_empty cut.held) × (cut.start + length cut.held ≡ cut.count)
 sound_open cut s e = subst (λ b. IsSoundWhen b cut) e s
 
 -- a character ends where the bytes do
-pub pushed_end : (old : CutState) (byte : ℕ) (out : Cutting) → IsSound old → IsPushed old byte out → IfChar out (λ c at. at + len_utf8 c ≡ (state_after old byte out).count)
+pub pushed_end : (old : CutState) (byte : ℕ) (out : Cutting) → IsSoundCut old → IsPushed old byte out → IfChar out (λ c at. at + len_utf8 c ≡ (state_after old byte out).count)
 pushed_end old byte More s p = tt
 pushed_end old byte (Char c at) s p =
     let counted = (sound_open old s p.0).1 in
@@ -181,7 +177,7 @@ open_when : (b : Bool) (cut : CutState) → IsSoundWhen b cut → cut.start ≡ 
 open_when true cut s e = let less = s.1 in absurd (omega arith)
 open_when false cut s e = refl
 
-module _ (old : CutState) (byte : ℕ) (sound : IsSound old) (between : old.start ≡ old.count) (ascii : byte < 128) where
+module _ (old : CutState) (byte : ℕ) (sound : IsSoundCut old) (between : old.start ≡ old.count) (ascii : byte < 128) where
   ascii_open : old.is_bad ≡ false
   ascii_open = open_when old.is_bad old sound between
 
@@ -211,7 +207,7 @@ module _ (cut : CutState) (taken : List ℕ) (given : List (ℕ × ℕ)) (more :
   pub stays_bad : cut.is_bad ≡ true → ill_formed_at (taken ++ more) ≡ Some cut.start
   stays_bad e =
       let p = bad_more e in
-      let closed : is_open (taken ++ more) ≡ false = ap (λ l. is_cut_or_empty l) (Split-after _ _ _ p.0) ∙ p.1.1 in
+      let closed : is_utf8_prefix (taken ++ more) ≡ false = ap (λ l. is_incomplete_or_empty l) (Split-after _ _ _ p.0) ∙ p.1.1 in
       ap (λ b. cond b None (Some (characters_end (taken ++ more)))) closed
       ∙ ap (λ n. Some n) (Split-end _ _ _ p.0 ∙ sym (Split-end _ _ _ (split_of taken)) ∙ sym stands.start)
 
@@ -227,5 +223,43 @@ module _ (cut : CutState) (taken : List ℕ) (given : List (ℕ × ℕ)) (more :
       let t = split_of taken in
       let start : length (whole cut taken given stands) ≡ cut.start = omega (arith, Split-end _ _ _ t, stands.start) in
       ap (λ l. first_fault l) (ap (λ l. l ++ more) t.parts ∙ append_assoc _ _ more)
-      ∙ fault_behind _ (after_characters taken ++ more) t.text
+      ∙ fault_after _ (after_characters taken ++ more) t.text
       ∙ (λ i. option_map (λ at. start i + at) (first_fault (sym (held_is cut taken given stands e) i ++ more)))
+
+-- ---- ASCII bytes between characters
+
+pub ascii_taken : (bytes : List ℕ) → IsAscii bytes → (at : ℕ) (taken : List ℕ) (given : List (ℕ × ℕ)) → StandsFor (between_characters at) taken given
+    → StandsFor (between_characters (at + length bytes)) (taken ++ bytes) (given ++ with_offsets at bytes)
+ascii_taken [] h at taken given s =
+    subst (λ t. StandsFor (between_characters (at + 0)) t (given ++ [])) (sym (append-nil taken))
+    (subst (λ g. StandsFor (between_characters (at + 0)) taken g) (sym (append-nil given))
+    (subst (λ n. StandsFor (between_characters n) taken given) (sym (add-zero at)) s))
+ascii_taken (b ∷ bs) h at taken given s =
+    let low : b < 128 = h 0 in
+    let one = pushed_stands (between_characters at) b (Char b at) (refl, refl, (low_scalar b (omega arith), sym (encode_ascii b low))) taken given s in
+    let all = ascii_taken bs (λ i. h (suc i)) (at + 1) (taken ++ b ∷ []) (given ++ (b, at) ∷ []) one in
+    let far : at + 1 + length bs ≡ at + length (b ∷ bs) = omega arith in
+    let next : at + 1 ≡ at + len_utf8 b = omega (arith, len_utf8_ascii b low) in
+    let given_is : (given ++ (b, at) ∷ []) ++ with_offsets (at + 1) bs ≡ given ++ with_offsets at (b ∷ bs) =
+    append_assoc given ((b, at) ∷ []) (with_offsets (at + 1) bs) ∙ ap (λ n. given ++ (b, at) ∷ with_offsets n bs) next in
+    subst (λ n. StandsFor (between_characters n) (taken ++ b ∷ bs) (given ++ with_offsets at (b ∷ bs))) far
+    (subst (λ t. StandsFor (between_characters (at + 1 + length bs)) t (given ++ with_offsets at (b ∷ bs))) (append_assoc taken (b ∷ []) bs)
+    (subst (λ g. StandsFor (between_characters (at + 1 + length bs)) ((taken ++ b ∷ []) ++ bs) g) given_is all))
+
+-- a cutter whose start is its count holds nothing and has met nothing
+pub between_is : (cut : CutState) → IsSoundCut cut → cut.start ≡ cut.count → cut ≡ between_characters cut.count
+between_is cut s e =
+    let open_text = open_when cut.is_bad cut s e in
+    let counted = (sound_open cut s open_text).1 in
+    let empty = nil_from_length cut.held (omega arith) in
+    λ i. record { held = empty i; start = e i; count = cut.count; is_bad = open_text i }
+
+-- ---- a value that was read out, and one made of what was read
+
+pub restored_stands : (cut : CutState) (taken : List ℕ) (given : List (ℕ × ℕ)) → StandsFor cut taken given → cut.is_bad ≡ false → (held : List ℕ) (count : ℕ) → cut.held ≡ held → cut.count ≡ count
+    → StandsFor (record { held = held; start = count - length held; count = count; is_bad = false }) taken given
+restored_stands cut taken given s none held count same counted =
+    let rest = held_is cut taken given s none in
+    let start : cut.start ≡ count - length held =
+    omega (arith, s.start, s.count, counted, ap length same, ap length rest, length-drop (characters_end taken) taken, utf8_valid_len_le taken) in
+    subst (λ c. StandsFor c taken given) (λ i. record { held = same i; start = start i; count = counted i; is_bad = none i }) s

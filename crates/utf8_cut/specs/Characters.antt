@@ -2,11 +2,12 @@
 -- A list may hold any numbers: one above 255 is in no well-formed sequence, and so is ill-formed where it stands.
 use Rattle.std.specs.Prelude.{ℕ, ◌+◌, Bool, true, false, ◌&&◌, List, [], ◌∷◌, length, take, drop, ◌==◌, if◌then◌else◌, Option, None, Some}
 use Rattle.std.specs.Int.{is_in_range}
-use Rattle.std.specs.Char.{len_utf8, encode_utf8}
+use Rattle.std.specs.List.{prefix_len}
+use Rattle.std.specs.Char.{is_ascii, len_utf8, encode_utf8}
 use Rattle.std.specs.Str.{chars, is_utf8}
 use Rattle.std.specs.Str.Lossy.{utf8_valid_len, second_byte_min, second_byte_max}
 
--- where the whole characters end: the length of the longest front that is UTF-8
+-- where the whole characters end: the length of the longest prefix that is UTF-8
 abbrev pub characters_end : List ℕ → ℕ
 characters_end bytes = utf8_valid_len bytes
 
@@ -27,29 +28,34 @@ abbrev pub characters : List ℕ → List (ℕ × ℕ)
 characters bytes = characters_from 0 bytes
 
 -- one to three bytes that begin a character and lack some of it (table 3-7: the first byte, the range of the second, the later ones)
-abbrev pub is_cut_character : List ℕ → Bool
-is_cut_character [] = false
-is_cut_character (x ∷ []) = is_in_range 0xC2 0xF4 x
-is_cut_character (x ∷ y ∷ []) = is_in_range 0xE0 0xF4 x && is_in_range (second_byte_min x) (second_byte_max x) y
-is_cut_character (x ∷ y ∷ z ∷ []) = is_in_range 0xF0 0xF4 x && (is_in_range (second_byte_min x) (second_byte_max x) y && is_in_range 0x80 0xBF z)
-is_cut_character _ = false
+abbrev pub is_incomplete_sequence : List ℕ → Bool
+is_incomplete_sequence [] = false
+is_incomplete_sequence (x ∷ []) = is_in_range 0xC2 0xF4 x
+is_incomplete_sequence (x ∷ y ∷ []) = is_in_range 0xE0 0xF4 x && is_in_range (second_byte_min x) (second_byte_max x) y
+is_incomplete_sequence (x ∷ y ∷ z ∷ []) = is_in_range 0xF0 0xF4 x && (is_in_range (second_byte_min x) (second_byte_max x) y && is_in_range 0x80 0xBF z)
+is_incomplete_sequence _ = false
 
--- no bytes, or a cut character
-abbrev pub is_cut_or_empty : List ℕ → Bool
-is_cut_or_empty [] = true
-is_cut_or_empty (x ∷ bytes) = is_cut_character (x ∷ bytes)
+-- no bytes, or an incomplete sequence
+abbrev pub is_incomplete_or_empty : List ℕ → Bool
+is_incomplete_or_empty [] = true
+is_incomplete_or_empty (x ∷ bytes) = is_incomplete_sequence (x ∷ bytes)
 
--- whole characters, and behind them nothing or a cut character; how many bytes there are, and which characters, is not asked
-abbrev pub is_open : List ℕ → Bool
-is_open bytes = is_cut_or_empty (after_characters bytes)
+-- whole characters, and after them nothing or an incomplete sequence; how many bytes there are, and which characters, is not
+-- asked
+abbrev pub is_utf8_prefix : List ℕ → Bool
+is_utf8_prefix bytes = is_incomplete_or_empty (after_characters bytes)
 
 -- the offset of the first ill-formed sequence
 abbrev pub ill_formed_at : List ℕ → Option ℕ
-ill_formed_at bytes = if is_open bytes then None else Some (characters_end bytes)
+ill_formed_at bytes = if is_utf8_prefix bytes then None else Some (characters_end bytes)
 
--- the offset of the first sequence that is ill-formed, or that the end of the bytes cuts
+-- the offset of the first sequence that is ill-formed, or incomplete at the end of the bytes
 abbrev pub first_fault : List ℕ → Option ℕ
 first_fault bytes = if characters_end bytes == length bytes then None else Some (characters_end bytes)
+
+-- how many bytes there are before the first one that is no ASCII (80 hex or more), or all of them
+abbrev pub ascii_prefix_len : List ℕ → ℕ
+ascii_prefix_len bytes = prefix_len is_ascii bytes
 
 -- `unfolding computing` under a statement on bytes that are written out lets it compute.
 unfoldable pub computing : Unit {0}

@@ -4,21 +4,21 @@ use Rattle.std.specs.Char.{IsScalar, encode_utf8}
 use Rattle.std.specs.Str.{StartsWithNoChar}
 use Rattle.utf8_cut.specs.declared.sequence.Form.{Form}
 use Rattle.utf8_cut.specs.declared.sequence.Form.TheVariants.{WellFormed, Incomplete, IllFormed}
-use Rattle.utf8_cut.specs.Characters.{is_cut_character, is_cut_or_empty}
+use Rattle.utf8_cut.specs.Characters.{is_incomplete_sequence, is_incomplete_or_empty}
 
 -- the bytes are the character c
-abbrev pub Spells : List ℕ → ℕ → Type 0
-Spells bytes c = IsScalar c × (bytes ≡ encode_utf8 c)
+abbrev pub SpellsCharacter : List ℕ → ℕ → Type 0
+SpellsCharacter bytes c = IsScalar c × (bytes ≡ encode_utf8 c)
 
 -- no character begins the bytes, and the bytes begin none
 abbrev pub IsIllFormed : List ℕ → Type 0
-IsIllFormed bytes = StartsWithNoChar bytes × (is_cut_or_empty bytes ≡ false)
+IsIllFormed bytes = StartsWithNoChar bytes × (is_incomplete_or_empty bytes ≡ false)
 
 abbrev pub IsForm : List ℕ → Form → Type 0
-IsForm bytes (WellFormed c) = Spells bytes c
-IsForm bytes Incomplete = IsTrue (is_cut_character bytes)
+IsForm bytes (WellFormed c) = SpellsCharacter bytes c
+IsForm bytes Incomplete = IsTrue (is_incomplete_sequence bytes)
 IsForm bytes IllFormed = IsIllFormed bytes
 
 -- the bytes, one at least, with further bytes, one at least, are a character
 abbrev pub BeginsCharacter : List ℕ → Type 0
-BeginsCharacter bytes = (0 < length bytes) × (more : List ℕ) × (c : ℕ) × (0 < length more) × Spells (bytes ++ more) c
+BeginsCharacter bytes = (0 < length bytes) × (more : List ℕ) × (c : ℕ) × (0 < length more) × SpellsCharacter (bytes ++ more) c

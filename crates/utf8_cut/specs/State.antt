@@ -2,8 +2,8 @@
 use Rattle.std.specs.Prelude.{◌≡◌, ℕ, ◌+◌, ◌++◌, IsTrue, true, false, List, [], ◌∷◌, length, Option, None, Some, not, if◌then◌else◌}
 use Rattle.utf8_cut.specs.declared.Cutting.{Cutting}
 use Rattle.utf8_cut.specs.declared.Cutting.TheVariants.{More, Char, Bad}
-use Rattle.utf8_cut.specs.Characters.{is_cut_character, characters, characters_end, after_characters, is_open}
-use Rattle.utf8_cut.specs.Sequences.{Spells, IsIllFormed}
+use Rattle.utf8_cut.specs.Characters.{is_incomplete_sequence, characters, characters_end, after_characters, is_utf8_prefix}
+use Rattle.utf8_cut.specs.Sequences.{SpellsCharacter, IsIllFormed}
 use Rattle.utf8_cut.specs.Value.{CutState}
 
 -- The bytes taken are those that were pushed, and given are the characters that the pushes gave, each with its offset.
@@ -12,11 +12,11 @@ pub record StandsFor (cut : CutState) (taken : List ℕ) (given : List (ℕ × �
   pub count : cut.count ≡ length taken
   pub start : cut.start ≡ characters_end taken
   pub held : cut.held ≡ (if cut.is_bad then [] else after_characters taken)
-  pub bad : cut.is_bad ≡ not (is_open taken)
+  pub bad : cut.is_bad ≡ not (is_utf8_prefix taken)
 
 -- the first list begins the second
-abbrev pub IsFront : List (ℕ × ℕ) → List (ℕ × ℕ) → Type 0
-IsFront front all = (rest : List (ℕ × ℕ)) × (all ≡ front ++ rest)
+abbrev pub IsPrefix : List (ℕ × ℕ) → List (ℕ × ℕ) → Type 0
+IsPrefix prefix all = (rest : List (ℕ × ℕ)) × (all ≡ prefix ++ rest)
 
 -- the character that a push gave, with its offset
 abbrev pub character_given : Cutting → List (ℕ × ℕ)
@@ -24,7 +24,7 @@ character_given More = []
 character_given (Char c at) = (c, at) ∷ []
 character_given (Bad at) = []
 
--- the offset of the ill-formed sequence that a push told
+-- the offset of the ill-formed sequence that a push reported
 abbrev pub bad_given : Cutting → Option ℕ
 bad_given More = None
 bad_given (Char c at) = None
@@ -48,14 +48,14 @@ OnMore More P = P
 OnMore (Char c at) P = Unit {0}
 OnMore (Bad at) P = Unit {0}
 
--- a fact of a push that told an ill-formed sequence at an offset
+-- a fact of a push that reported an ill-formed sequence at an offset
 abbrev pub IfBad : Cutting → (ℕ → Type 0) → Type 0
 IfBad More P = Unit {0}
 IfBad (Char c at) P = Unit {0}
 IfBad (Bad at) P = P at
 
--- What a push says of the bytes held, with the byte b: they are a cut character, the character given, or ill-formed.
+-- What a push says of the bytes held, with the byte b: they are an incomplete sequence, the character given, or ill-formed.
 abbrev pub IsPushed : CutState → ℕ → Cutting → Type 0
-IsPushed cut b More = (cut.is_bad ≡ false) × IsTrue (is_cut_character (cut.held ++ b ∷ []))
-IsPushed cut b (Char c at) = (cut.is_bad ≡ false) × (at ≡ cut.start) × Spells (cut.held ++ b ∷ []) c
+IsPushed cut b More = (cut.is_bad ≡ false) × IsTrue (is_incomplete_sequence (cut.held ++ b ∷ []))
+IsPushed cut b (Char c at) = (cut.is_bad ≡ false) × (at ≡ cut.start) × SpellsCharacter (cut.held ++ b ∷ []) c
 IsPushed cut b (Bad at) = (at ≡ cut.start) × (cut.is_bad ≡ false → IsIllFormed (cut.held ++ b ∷ []))

@@ -3,16 +3,16 @@
 ghost use Rattle.std.specs.Prelude.{◌≡◌, ℕ, ◌+◌, ◌<◌, ◌≤◌, ◌↔◌, List, [], ◌++◌, length, take, Some, IsTrue, if◌then◌else◌};
 ghost use Rattle.std.specs.Option.{option_map};
 ghost use Rattle.std.specs.Str.{IsUtf8};
-ghost use Rattle.utf8_cut.specs.Characters.{after_characters, characters, characters_end, characters_from, first_fault, ill_formed_at, is_cut_character, is_open};
+ghost use Rattle.utf8_cut.specs.Characters.{after_characters, characters, characters_end, characters_from, first_fault, ill_formed_at, is_incomplete_sequence, is_utf8_prefix};
 ghost use Rattle.utf8_cut.specs.Sequences.{BeginsCharacter};
-ghost use Rattle.utf8_cut.specs.State.{StandsFor, IsFront};
+ghost use Rattle.utf8_cut.specs.State.{StandsFor, IsPrefix};
 ghost use Rattle.utf8_cut.specs.Value.{CutState};
 
 /// What a [`Cut`](crate::Cut) gave begins the characters of the bytes pushed, whatever bytes
 /// follow, and what it holds says the other characters and the fault.
 pub fn any_bytes_may_follow()
     ensures begins { (cut : CutState) (taken more : List ℕ) (given : List (ℕ × ℕ))
-        → StandsFor cut taken given → IsFront given (characters (taken ++ more)) }
+        → StandsFor cut taken given → IsPrefix given (characters (taken ++ more)) }
     ensures characters { (cut : CutState) (taken more : List ℕ) (given : List (ℕ × ℕ))
         → StandsFor cut taken given
         → characters (taken ++ more)
@@ -27,7 +27,7 @@ pub fn any_bytes_may_follow()
         → ill_formed_at (taken ++ more) ≡ Some cut.start }
 {}
 
-/// The characters of a text with bytes behind it are those of the text and those of the bytes.
+/// The characters of a text with bytes after it are those of the text and those of the bytes.
 pub fn text_may_stand_before()
     ensures characters { (from : ℕ) (text bytes : List ℕ) → IsUtf8 text
         → characters_from from (text ++ bytes)
@@ -48,7 +48,7 @@ pub fn whole_characters_are_the_longest_text()
     ensures within { (bytes : List ℕ) → characters_end bytes ≤ length bytes }
 {}
 
-/// A cut character is what some bytes, one at least, make a character.
-pub fn cut_characters_begin_characters()
-    ensures { (bytes : List ℕ) → IsTrue (is_cut_character bytes) ↔ BeginsCharacter bytes }
+/// An incomplete sequence is what some bytes, one at least, make a character.
+pub fn incomplete_sequences_begin_characters()
+    ensures { (bytes : List ℕ) → IsTrue (is_incomplete_sequence bytes) ↔ BeginsCharacter bytes }
 {}

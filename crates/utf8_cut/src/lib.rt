@@ -9,7 +9,7 @@
 //! It stands on `simdutf8`, which tests a slice, and on `arrayvec`, which holds the bytes.
 //!
 //! Proved, for every list of bytes pushed: the characters and offsets given are those of the
-//! longest front of whole characters, a fault is told at the first byte that shows it, with the
+//! longest prefix of whole characters, a fault is reported at the first byte that shows it, with the
 //! start of its sequence, and the laws of this crate say what any further bytes do. A caller
 //! carries `StandsFor` of `specs/State.antt` along, which `new` and `push` give.
 #![tactic(auto)]
@@ -21,12 +21,15 @@ use arrayvec::ArrayVec;
 use sequence::Form;
 use std::marker::Model;
 
+mod ascii;
 mod laws;
+mod reading;
 mod sequence;
 mod slice;
 
+pub use ascii::ascii_len;
 pub use laws::{
-    any_bytes_may_follow, cut_characters_begin_characters, text_may_stand_before,
+    any_bytes_may_follow, incomplete_sequences_begin_characters, text_may_stand_before,
     whole_characters_are_the_longest_text,
 };
 pub use slice::front;
@@ -70,14 +73,15 @@ impl Model for Cut {
 impl Cut {
     ghost use Rattle.std.specs.Prelude.{◌≡◌, ℕ, ◌+◌, ◌^◌, ◌<◌, ◌≤◌, List, [], ◌∷◌, ◌++◌, length, Option, None, Some, IsTrue, ◌==◌, if◌then◌else◌, true, false};
     ghost use Rattle.std.specs.Char.{len_utf8};
-    ghost use Rattle.utf8_cut.specs.Characters.{characters_end, ill_formed_at, first_fault, is_cut_character};
-    ghost use Rattle.utf8_cut.specs.Sequences.{Spells, IsIllFormed};
-    ghost use Rattle.utf8_cut.specs.Value.{IsSound};
+    ghost use Rattle.std.specs.Str.{IsAscii};
+    ghost use Rattle.utf8_cut.specs.Characters.{ill_formed_at, with_offsets};
+    ghost use Rattle.utf8_cut.specs.Sequences.{SpellsCharacter, IsIllFormed};
+    ghost use Rattle.utf8_cut.specs.Value.{between_characters};
     ghost use Rattle.utf8_cut.specs.State.{StandsFor, IsPushed, IfChar, IfBad, OnMore, state_after, character_given, bad_given};
 
     /// Holds nothing, before the first byte.
     pub fn new() -> Cut
-        ensures empty { result ≡ record { held = []; start = 0; count = 0; is_bad = false } }
+        ensures empty { result ≡ between_characters 0 }
         ensures stands_for { StandsFor result [] [] }
     {
         Cut {
@@ -86,16 +90,6 @@ impl Cut {
             count: 0,
             is_bad: false,
         }
-    }
-
-    /// How many bytes were pushed.
-    pub fn count(&self) -> u64
-        ensures value { result ≡ self.now.count }
-        ensures stands_for { (taken : List ℕ) (given : List (ℕ × ℕ))
-            → StandsFor self.now taken given → result ≡ length taken }
-        ensures sound { IsSound self.now }
-    {
-        self.count
     }
 
     /// Takes the next byte. Once an ill-formed sequence was met, each push gives its offset again.
@@ -108,11 +102,9 @@ impl Cut {
         ensures bad { (taken : List ℕ) (given : List (ℕ × ℕ)) → StandsFor self.old taken given
             → bad_given result ≡ ill_formed_at (taken ++ byte ∷ []) }
         ensures state { self.new ≡ state_after self.old byte result }
-        ensures count { self.new.count ≡ self.old.count + 1 }
-        ensures character { IfChar result (λ c at. Spells (self.old.held ++ byte ∷ []) c) }
+        ensures character { IfChar result (λ c at. SpellsCharacter (self.old.held ++ byte ∷ []) c) }
         ensures char_start { IfChar result (λ c at. at ≡ self.old.start) }
         ensures char_end { IfChar result (λ c at. at + len_utf8 c ≡ self.new.count) }
-        ensures more { OnMore result (IsTrue (is_cut_character self.new.held)) }
         ensures bad_start { IfBad result (λ at. at ≡ self.old.start) }
         ensures ill_formed { IfBad result (λ at. self.old.is_bad ≡ false
             → IsIllFormed (self.old.held ++ byte ∷ [])) }
@@ -127,6 +119,24 @@ impl Cut {
         self.push_in_sequence(byte)
     }
 
+    /// Takes `n` bytes below 80 hex at once, and leaves the value that as many pushes of them leave.
+    ///
+    /// Asked where no character is held and no ill-formed sequence was met, which is where
+    /// [`held_start`](Cut::held_start) is [`count`](Cut::count).
+    #[inline]
+    pub fn take_ascii(&mut self, n: u64)
+        requires between { self.old.start ≡ self.old.count }
+        requires fits { self.old.count + n ≤ 2 ^ 62 }
+        ensures state { self.new ≡ between_characters (self.old.count + n) }
+        ensures stands_for { (taken bytes : List ℕ) (given : List (ℕ × ℕ))
+            → StandsFor self.old taken given → length bytes ≡ n → IsAscii bytes
+            → StandsFor self.new (taken ++ bytes) (given ++ with_offsets self.old.count bytes) }
+    {
+        let end = self.count + n;
+        self.start = end;
+        self.count = end;
+    }
+
     // Takes any byte. `push` has a shorter way for ASCII between characters.
     fn push_in_sequence(&mut self, byte: u8) -> Cutting
         requires { self.old.count < 2 ^ 62 }
@@ -136,7 +146,7 @@ impl Cut {
         let start = self.start;
         if self.is_bad {
             self.count += 1;
-            return Cutting::Bad(start);
+            return Cutting::Bad(self.start);
         }
         let form = sequence::continued(&self.held, byte);
         self.count += 1;
@@ -155,32 +165,6 @@ impl Cut {
                 self.is_bad = true;
                 Cutting::Bad(start)
             }
-        }
-    }
-
-    /// The offset of the character that is held or, once an ill-formed sequence was met, of that
-    /// sequence, else the count.
-    pub fn held_start(&self) -> u64
-        ensures value { result ≡ self.now.start }
-        ensures within { result ≤ self.now.count }
-        ensures stands_for { (taken : List ℕ) (given : List (ℕ × ℕ))
-            → StandsFor self.now taken given → result ≡ characters_end taken }
-    {
-        self.start
-    }
-
-    /// Where the bytes end here, the offset of a character that the end cuts, or of the
-    /// ill-formed sequence that was met.
-    pub fn finish(&self) -> Option<u64>
-        ensures value { result
-            ≡ (if self.now.start == self.now.count then None else Some self.now.start) }
-        ensures stands_for { (taken : List ℕ) (given : List (ℕ × ℕ))
-            → StandsFor self.now taken given → result ≡ first_fault taken }
-    {
-        if self.start == self.count {
-            None
-        } else {
-            Some(self.start)
         }
     }
 }

@@ -3,8 +3,8 @@
 ghost use Rattle.std.specs.Prelude.{◌≡◌, ◌<◌, ◌≤◌, [], ◌∷◌, ◌++◌, length, IsTrue};
 ghost use Rattle.std.specs.Int.{is_in_range};
 ghost use Rattle.std.specs.Str.Lossy.{second_byte_min, second_byte_max};
-ghost use Rattle.utf8_cut.specs.Characters.{is_cut_character, is_cut_or_empty};
-ghost use Rattle.utf8_cut.specs.Sequences.{IsForm, Spells};
+ghost use Rattle.utf8_cut.specs.Characters.{is_incomplete_sequence, is_incomplete_or_empty};
+ghost use Rattle.utf8_cut.specs.Sequences.{IsForm, SpellsCharacter};
 
 /// What the bytes of a sequence are.
 #[derive(Clone, Copy, Debug, PartialEq, Eq)]
@@ -19,7 +19,7 @@ pub(crate) enum Form {
 
 /// What the held bytes are with one more.
 pub(crate) fn continued(held: &[u8], byte: u8) -> Form
-    requires { IsTrue (is_cut_or_empty held.now) }
+    requires { IsTrue (is_incomplete_or_empty held.now) }
     ensures { IsForm (held.now ++ byte ∷ []) result }
 {
     match *held {
@@ -28,6 +28,21 @@ pub(crate) fn continued(held: &[u8], byte: u8) -> Form
         [first, second] => of_three(first, second, byte),
         [first, second, third] => of_four(first, second, third, byte),
         _ => Form::IllFormed,
+    }
+}
+
+/// Whether the bytes are none, or begin a character and lack some of it.
+pub(crate) fn is_incomplete_or_empty(bytes: &[u8]) -> bool
+    ensures { result ≡ is_incomplete_or_empty bytes.now }
+{
+    match *bytes {
+        [] => true,
+        [first] => matches!(first, 0xC2..=0xF4),
+        [first, second] => matches!(first, 0xE0..=0xF4) && may_be_second(first, second),
+        [first, second, third] => {
+            matches!(first, 0xF0..=0xF4) && may_be_second(first, second) && is_continuation(third)
+        }
+        _ => false,
     }
 }
 
@@ -41,7 +56,7 @@ fn of_one(first: u8) -> Form
     }
 }
 
-/// Whether a byte may stand second behind this first one.
+/// Whether a byte may stand second after this first one.
 fn may_be_second(first: u8, second: u8) -> bool
     ensures { result ≡ is_in_range (second_byte_min first) (second_byte_max first) second }
 {
@@ -61,7 +76,7 @@ fn is_continuation(byte: u8) -> bool
 }
 
 fn of_two(first: u8, second: u8) -> Form
-    requires { IsTrue (is_cut_character (first ∷ [])) }
+    requires { IsTrue (is_incomplete_sequence (first ∷ [])) }
     ensures { IsForm (first ∷ second ∷ []) result }
 {
     if !may_be_second(first, second) {
@@ -74,7 +89,7 @@ fn of_two(first: u8, second: u8) -> Form
 }
 
 fn of_three(first: u8, second: u8, third: u8) -> Form
-    requires { IsTrue (is_cut_character (first ∷ second ∷ [])) }
+    requires { IsTrue (is_incomplete_sequence (first ∷ second ∷ [])) }
     ensures { IsForm (first ∷ second ∷ third ∷ []) result }
 {
     if !is_continuation(third) {
@@ -87,7 +102,7 @@ fn of_three(first: u8, second: u8, third: u8) -> Form
 }
 
 fn of_four(first: u8, second: u8, third: u8, fourth: u8) -> Form
-    requires { IsTrue (is_cut_character (first ∷ second ∷ third ∷ [])) }
+    requires { IsTrue (is_incomplete_sequence (first ∷ second ∷ third ∷ [])) }
     ensures { IsForm (first ∷ second ∷ third ∷ fourth ∷ []) result }
 {
     if is_continuation(fourth) {
@@ -100,7 +115,7 @@ fn of_four(first: u8, second: u8, third: u8, fourth: u8) -> Form
 fn char_of_two(first: u8, second: u8) -> char
     requires first { (194 ≤ first) × (first < 224) }
     requires second { IsTrue (is_in_range (second_byte_min first) (second_byte_max first) second) }
-    ensures { Spells (first ∷ second ∷ []) result }
+    ensures { SpellsCharacter (first ∷ second ∷ []) result }
 {
     let code = (u32::from(first) - 0xC0) * 0x40 + (u32::from(second) - 0x80);
     char::from_u32(code).unwrap()
@@ -110,7 +125,7 @@ fn char_of_three(first: u8, second: u8, third: u8) -> char
     requires first { (224 ≤ first) × (first < 240) }
     requires second { IsTrue (is_in_range (second_byte_min first) (second_byte_max first) second) }
     requires third { (128 ≤ third) × (third < 192) }
-    ensures { Spells (first ∷ second ∷ third ∷ []) result }
+    ensures { SpellsCharacter (first ∷ second ∷ third ∷ []) result }
 {
     let high = (u32::from(first) - 0xE0) * 0x40 + (u32::from(second) - 0x80);
     let code = high * 0x40 + (u32::from(third) - 0x80);
@@ -122,7 +137,7 @@ fn char_of_four(first: u8, second: u8, third: u8, fourth: u8) -> char
     requires second { IsTrue (is_in_range (second_byte_min first) (second_byte_max first) second) }
     requires third { (128 ≤ third) × (third < 192) }
     requires fourth { (128 ≤ fourth) × (fourth < 192) }
-    ensures { Spells (first ∷ second ∷ third ∷ fourth ∷ []) result }
+    ensures { SpellsCharacter (first ∷ second ∷ third ∷ fourth ∷ []) result }
 {
     let high = (u32::from(first) - 0xF0) * 0x40 + (u32::from(second) - 0x80);
     let code = (high * 0x40 + (u32::from(third) - 0x80)) * 0x40 + (u32::from(fourth) - 0x80);

@@ -3,8 +3,8 @@ ghost use Rattle.std.specs.Prelude.{◌≡◌, take};
 ghost use Rattle.std.specs.Str.{chars};
 ghost use Rattle.utf8_cut.specs.Characters.{characters, characters_end, first_fault, with_offsets};
 
-/// The longest front of whole characters, as text, and the offset of what follows it: of an
-/// ill-formed sequence or of a character that the end of the slice cuts.
+/// The longest prefix of whole characters, as text, and the offset of what follows it: of an
+/// ill-formed sequence or of an incomplete sequence at the end of the slice.
 pub fn front(bytes: &[u8]) -> (&str, Option<u64>)
     ensures text { result.0.now ≡ take (characters_end bytes.now) bytes.now }
     ensures characters { with_offsets 0 (chars result.0.now) ≡ characters bytes.now }

@@ -2,10 +2,10 @@
 // and a `Cut` agree on many bytes. Expected values come from the Unicode Standard, table 3-7, or
 // from `std`.
 ghost use Rattle.std.specs.Prelude.{◌≡◌, ℕ, ◌<◌, List, [], ◌∷◌, Some, None, length, IsTrue, true, false};
-ghost use Rattle.utf8_cut.specs.Characters.{characters, first_fault, ill_formed_at, is_open, is_cut_character};
+ghost use Rattle.utf8_cut.specs.Characters.{characters, first_fault, ill_formed_at, is_utf8_prefix, is_incomplete_sequence, ascii_prefix_len};
 
 use super::{
-    Cut, Cutting, any_bytes_may_follow, cut_characters_begin_characters, front,
+    Cut, Cutting, any_bytes_may_follow, ascii_len, front, incomplete_sequences_begin_characters,
     text_may_stand_before, whole_characters_are_the_longest_text,
 };
 use std::alloc::{AllocError, Global};
@@ -35,17 +35,19 @@ fn worked_rows()
     ensures overlong_four { ill_formed_at (0xF0 ∷ 0x8F ∷ []) ≡ Some 0 }
     ensures too_great { ill_formed_at (0xC3 ∷ 0xA9 ∷ 0xF4 ∷ 0x90 ∷ []) ≡ Some 2 }
     ensures above_a_byte { ill_formed_at (0x61 ∷ 0x100 ∷ 0x61 ∷ []) ≡ Some 1 }
-    ensures cut_fault { first_fault (0x61 ∷ 0xC3 ∷ []) ≡ Some 1 }
-    ensures cut_is_open { IsTrue (is_open (0x61 ∷ 0xC3 ∷ [])) }
-    ensures cut_is_not_ill_formed { ill_formed_at (0x61 ∷ 0xC3 ∷ []) ≡ None }
-    ensures three_bytes_cut { IsTrue (is_cut_character (0xF0 ∷ 0x9F ∷ 0x98 ∷ [])) }
-    ensures whole_is_not_cut { is_cut_character (0xC3 ∷ 0xA9 ∷ []) ≡ false }
+    ensures incomplete_fault { first_fault (0x61 ∷ 0xC3 ∷ []) ≡ Some 1 }
+    ensures incomplete_is_utf8_prefix { IsTrue (is_utf8_prefix (0x61 ∷ 0xC3 ∷ [])) }
+    ensures incomplete_is_not_ill_formed { ill_formed_at (0x61 ∷ 0xC3 ∷ []) ≡ None }
+    ensures three_bytes_incomplete { IsTrue (is_incomplete_sequence (0xF0 ∷ 0x9F ∷ 0x98 ∷ [])) }
+    ensures whole_is_not_incomplete { is_incomplete_sequence (0xC3 ∷ 0xA9 ∷ []) ≡ false }
     ensures least_and_greatest { characters (0x7F ∷ 0xC2 ∷ 0x80 ∷ 0xDF ∷ 0xBF ∷ 0xE0 ∷ 0xA0 ∷ 0x80 ∷ [])
         ≡ (0x7F, 0) ∷ (0x80, 1) ∷ (0x7FF, 3) ∷ (0x800, 5) ∷ [] }
     ensures beside_surrogates { characters (0xED ∷ 0x9F ∷ 0xBF ∷ 0xEE ∷ 0x80 ∷ 0x80 ∷ [])
         ≡ (0xD7FF, 0) ∷ (0xE000, 3) ∷ [] }
     ensures past_three_bytes { characters (0xEF ∷ 0xBF ∷ 0xBF ∷ 0xF0 ∷ 0x90 ∷ 0x80 ∷ 0x80 ∷ [])
         ≡ (0xFFFF, 0) ∷ (0x10000, 3) ∷ [] }
+    ensures ascii_before_a_byte { ascii_prefix_len (0x61 ∷ 0x7F ∷ 0x80 ∷ 0x61 ∷ []) ≡ 2 }
+    ensures no_ascii { ascii_prefix_len (0xFF ∷ []) ≡ 0 }
     ensures greatest { characters (0xF4 ∷ 0x8F ∷ 0xBF ∷ 0xBF ∷ []) ≡ (0x10FFFF, 0) ∷ [] }
 {}
 
@@ -55,7 +57,7 @@ fn definitions_compute() {
     any_bytes_may_follow();
     text_may_stand_before();
     whole_characters_are_the_longest_text();
-    cut_characters_begin_characters();
+    incomplete_sequences_begin_characters();
 }
 
 #[test]
@@ -72,7 +74,7 @@ fn a_character_comes_with_its_last_byte(rt: HostRuntime) -> Result<(), Fail> {
 }
 
 #[test]
-fn a_fault_is_told_at_the_start_of_its_sequence(rt: HostRuntime) -> Result<(), Fail> {
+fn a_fault_is_reported_at_the_start_of_its_sequence(rt: HostRuntime) -> Result<(), Fail> {
     let (out, cut) = answers(rt.alloc(), &[0xE2, 0x28])?;
     assert_eq!(rt; out.as_slice(), [Cutting::More, Cutting::Bad(0)].as_slice());
     assert_eq!(rt; cut.finish(), Some(0));
@@ -84,7 +86,7 @@ fn a_fault_is_told_at_the_start_of_its_sequence(rt: HostRuntime) -> Result<(), F
 }
 
 #[test]
-fn a_fault_is_told_again(rt: HostRuntime) -> Result<(), Fail> {
+fn a_fault_is_reported_again(rt: HostRuntime) -> Result<(), Fail> {
     let (out, cut) = answers(rt.alloc(), &[0x61, 0xFF, 0x62, 0xC3, 0xA9])?;
     let bad = Cutting::Bad(1);
     assert_eq!(rt;
@@ -98,7 +100,7 @@ fn a_fault_is_told_again(rt: HostRuntime) -> Result<(), Fail> {
 }
 
 #[test]
-fn the_end_cuts_a_character(rt: HostRuntime) -> Result<(), Fail> {
+fn the_end_leaves_a_sequence_incomplete(rt: HostRuntime) -> Result<(), Fail> {
     let (out, cut) = answers(rt.alloc(), &[0x61, 0xC3])?;
     assert_eq!(rt;
         out.as_slice(),
@@ -180,7 +182,8 @@ fn ill_formed_starts(rt: HostRuntime) {
     }
 }
 
-// Whether `front` and a `Cut` that is pushed the bytes one by one tell the same characters and fault.
+// Whether `front` and a `Cut` that is pushed the bytes one by one give the same characters and
+// fault.
 fn front_agrees(bytes: &[u8]) -> bool
     requires { length bytes.now < 1000 }
 {
@@ -211,7 +214,7 @@ fn front_gives_text_and_fault(rt: HostRuntime) {
     assert_eq!(rt; front(&[0xFF, 0x61]), ("", Some(0)));
 }
 
-// Mostly whole characters, so that most faults stand behind some text.
+// Mostly whole characters, so that most faults stand after some text.
 static PIECES: [&[u8]; 16] = [
     b"a",
     b"a long run of ASCII letters",
@@ -249,4 +252,69 @@ fn front_agrees_with_single_pushes(rt: HostRuntime) -> Result<(), Fail> {
         assert!(rt; front_agrees(&bytes));
     }
     Ok(())
+}
+
+#[test]
+fn ascii_prefixes(rt: HostRuntime) {
+    assert_eq!(rt; ascii_len(b""), 0);
+    assert_eq!(rt; ascii_len(&[0xFF]), 0);
+    let mut letters = [b'a'; 32];
+    letters[31] = 0x80;
+    assert_eq!(rt; ascii_len(&letters), 31);
+    let mut letters = [b'a'; 65];
+    letters[64] = 0xC3;
+    assert_eq!(rt; ascii_len(&letters), 64);
+    assert_eq!(rt; ascii_len(&[b'a'; 4096]), 4096);
+}
+
+// Each length up to some blocks, from each place of a block.
+#[test]
+fn ascii_prefixes_of_each_length(rt: HostRuntime) {
+    for start in 0..32usize {
+        for len in 0..=200usize {
+            let mut bytes = [b'z'; 300];
+            bytes[start + len] = 0x80;
+            assert_eq!(rt; ascii_len(&bytes[start..]), len);
+            assert_eq!(rt; ascii_len(&bytes[start..start + len]), len);
+        }
+    }
+}
+
+#[test]
+fn ascii_is_taken_at_once(rt: HostRuntime) {
+    let mut cut = Cut::new();
+    let _ = cut.push(0xC3);
+    let _ = cut.push(0xA9);
+    assert!(rt; cut.held_start() == cut.count());
+    cut.take_ascii(3);
+    assert_eq!(rt; cut.count(), 5);
+    assert_eq!(rt; cut.held_start(), 5);
+    assert_eq!(rt; cut.push(b'a'), Cutting::Char('a', 5));
+}
+
+#[test]
+fn what_was_held_is_restored(rt: HostRuntime) {
+    let mut cut = Cut::new();
+    let _ = cut.push(b'a');
+    let _ = cut.push(0xE2);
+    let _ = cut.push(0x82);
+    assert_eq!(rt; cut.held(), [0xE2, 0x82].as_slice());
+    let mut again = Cut::restore(cut.count(), cut.held());
+    assert_eq!(rt; again.count(), 3);
+    assert_eq!(rt; again.held_start(), 1);
+    assert_eq!(rt; again.push(0xAC), Cutting::Char('\u{20AC}', 1));
+    assert!(rt; again.held().is_empty());
+}
+
+#[test]
+fn what_may_be_held(rt: HostRuntime) {
+    assert!(rt; Cut::may_hold(b""));
+    assert!(rt; Cut::may_hold(&[0xC3]));
+    assert!(rt; Cut::may_hold(&[0xE2, 0x82]));
+    assert!(rt; Cut::may_hold(&[0xF0, 0x9F, 0x98]));
+    assert!(rt; !Cut::may_hold(b"a"));
+    assert!(rt; !Cut::may_hold(&[0xC3, 0xA9]));
+    assert!(rt; !Cut::may_hold(&[0xED, 0xA0]));
+    assert!(rt; !Cut::may_hold(&[0xE2, 0x82, 0xAC]));
+    assert!(rt; !Cut::may_hold(&[0xF0, 0x9F, 0x98, 0x80]));
 }

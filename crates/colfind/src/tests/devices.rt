@@ -9,6 +9,7 @@ use std::alloc::{AllocError, Global};
 #[derive(Drop)]
 pub struct FailingSource<'a> {
     source: MemorySource<'a>,
+    asked: u64,
     reads: u64,
     failures: u64,
 }
@@ -21,9 +22,15 @@ impl<'a> FailingSource<'a> {
     {
         FailingSource {
             source: MemorySource::new(bytes, most),
+            asked: 0,
             reads,
             failures: 0,
         }
+    }
+
+    /// How often it was asked to read.
+    pub fn asked(&self) -> u64 {
+        self.asked
     }
 }
 
@@ -33,6 +40,7 @@ impl<'a> Source for FailingSource<'a> {
     ghost failures = { λ s. s.failures };
 
     fn read(&mut self, buf: &mut [u8]) -> Result<usize, DeviceFault> {
+        self.asked = self.asked.saturating_add(1);
         if self.reads == 0 {
             self.failures += 1;
             return Err(DeviceFault);

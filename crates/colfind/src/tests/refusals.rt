@@ -1,4 +1,4 @@
-//! Memory that is refused: with any one allocation refused, the program answers as with ample memory or tells the refusal.
+//! Memory that is refused: with any one allocation refused, the program answers as with ample memory or reports the refusal.
 //! To be run with each allocation refused in turn. A refusal that meets the test itself fails it by an error.
 
 use super::{TABLE, file_with};
@@ -9,7 +9,7 @@ use std::fs;
 use std::process::Abort;
 use std::test::Fail;
 
-/// The lines that tell that memory was refused: for the table, for the pattern, and for the words or the search.
+/// The lines that report that memory was refused: for the table, for the pattern, and for the words or the search.
 const REFUSALS: [&str; 3] = [
     "colfind: fault 14 at 0\n",
     "colfind: fault 24 at 0\n",
@@ -21,7 +21,7 @@ type Row<'a> = (&'a str, &'a str, &'a [u8], u8, &'a str, &'a str);
 
 /// Asks the program, over outputs that need no memory, and compares.
 fn ask(rt: &impl Abort, host: &HostRuntime, path: &str, row: &Row) -> Result<(), Fail> {
-    let (strength, pattern, text, status, printed, told) = row;
+    let (strength, pattern, text, status, printed, reported) = row;
     let alloc = host.alloc();
     let words = ["--table", path, "--strength", *strength, "--", *pattern];
     let mut input = MemorySource::new(*text, 4);
@@ -30,7 +30,7 @@ fn ask(rt: &impl Abort, host: &HostRuntime, path: &str, row: &Row) -> Result<(),
     let answer = program(host, alloc, &words, &mut input, &mut out, &mut err);
     let is_ample = answer == *status
         && out.bytes() == printed.as_bytes()
-        && err.bytes() == told.as_bytes();
+        && err.bytes() == reported.as_bytes();
     let is_refusal = answer == 2
         && out.bytes().is_empty()
         && REFUSALS.iter().any(|line| err.bytes() == line.as_bytes());
@@ -39,7 +39,7 @@ fn ask(rt: &impl Abort, host: &HostRuntime, path: &str, row: &Row) -> Result<(),
 }
 
 #[test]
-fn refused_memory_is_told(rt: HostRuntime) -> Result<(), Fail> {
+fn refused_allocations_are_reported(rt: HostRuntime) -> Result<(), Fail> {
     let path = file_with(&rt, "refusals", TABLE)?;
     let rows: [Row; 5] = [
         ("1", "resume", b"r\xc3\xa9sum\xc3\xa9", 0, "0:8\n", ""),

@@ -36,7 +36,7 @@ fn compare(
     rows: &[Row],
 ) -> Result<(), Fail> {
     let path = file_with(host, name, table)?;
-    for (strength, variable, pattern, text, status, printed, told) in rows {
+    for (strength, variable, pattern, text, status, printed, reported) in rows {
         let words = [
             "--table",
             path.as_str(),
@@ -50,11 +50,11 @@ fn compare(
         let whole = answered(host, &words, &mut MemorySource::new(*text, 4096));
         assert_eq!(rt; whole.0, *status);
         assert_eq!(rt; whole.1.bytes(), printed.as_bytes());
-        assert_eq!(rt; whole.2.bytes(), told.as_bytes());
+        assert_eq!(rt; whole.2.bytes(), reported.as_bytes());
         let cut = answered(host, &words, &mut MemorySource::new(*text, 1));
         assert_eq!(rt; cut.0, *status);
         assert_eq!(rt; cut.1.bytes(), printed.as_bytes());
-        assert_eq!(rt; cut.2.bytes(), told.as_bytes());
+        assert_eq!(rt; cut.2.bytes(), reported.as_bytes());
     }
     fs::remove_file(host, path.as_str())?;
     Ok(())

@@ -1,12 +1,12 @@
 use Rattle.std.proofs.Common.{◌≡◌, ◌-◌, ◌^◌, vec_len}
-use Rattle.colfind.specs.Devices.{behind_piece}
+use Rattle.colfind.specs.Devices.{after_piece}
 use Rattle.colfind.proofs.files.read_all.Given as goal
 
--- the bytes read so far stood in front of those that are left
+-- the bytes read so far stood before those that are left
 abbrev pub invariant-loop-bytes : goal.invariant-loop-bytes
 invariant-loop-bytes g l =
     (g.R.Source.failures l.reader ≡ g.R.Source.failures l.fn.reader)
-    × (g.R.Source.left l.fn.reader ≡ behind_piece l.bytes.items (g.R.Source.left l.reader))
+    × (g.R.Source.left l.fn.reader ≡ after_piece l.bytes.items (g.R.Source.left l.reader))
 
 -- how many more bytes a list can hold
 abbrev pub decreases-loop-bytes : goal.decreases-loop-bytes

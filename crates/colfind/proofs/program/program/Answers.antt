@@ -1,4 +1,4 @@
-use Rattle.std.proofs.Common.{◌≡◌, ◌==◌, Bool, ap, sym, if◌then◌else◌}
+use Rattle.std.proofs.Common.{◌==◌, Bool, ap, sym, if◌then◌else◌}
 use Rattle.std.proofs.lemmas.Bool.{eqb-true}
 use Rattle.colfind.proofs.Commands.{not_true}
 use Rattle.colfind.proofs.program.program.Goals as goal

@@ -1,10 +1,15 @@
-use Rattle.colfind.proofs.Searches.{compiled_from, finds_all}
+use Rattle.std.proofs.Common.{rules, ◌≡◌, is_some, true}
+use Rattle.std.proofs.lemmas.Result.{IfErr-weaker}
+use Rattle.std.specs.Str.{IsUtf8}
+use Rattle.colfind.proofs.Stops.{file_stops}
 use Rattle.colfind.proofs.program.search.Goals as goal
 
-pub returns-in-Done-clause-found : goal.returns-in-Done-clause-found
-returns-in-Done-clause-found g c =
-    let table = g.W.Weights.table c.args.table.now in
-    let is = c.in_ok-pattern.ensures.compiled in
-    let compiled = compiled_from table c.args.strength c.args.variable c.args.text.now _ c.utf8.text is in
-    finds_all table c.args.strength c.args.variable c.args.text.now _ _ _ _ _ _ _ (g.met.W.Weights.well_formed c.args.table.now) is
-    (rw c.in-Done.is at (c.run.ensures.bytes c.args.text.now compiled))
+pub returns-clause-reason : goal.returns-clause-reason
+returns-clause-reason g c =
+    let asked = c.args.asked.now in
+    let utf8 : IsUtf8 asked.pattern.now = search rules in
+    let yes : is_some asked.text ≡ true = search rules in
+    IfErr-weaker c.search_in-2.result _ _
+    (λ stop stops. file_stops (g.W.Weights.table c.args.table.now) asked _ _ _ stop _ _ utf8 c.in_ok-pattern.ensures.compiled
+    c.in_ok-pattern.ensures.accepted yes c.new-text.ensures stops)
+    c.search_in-2.ensures.reason

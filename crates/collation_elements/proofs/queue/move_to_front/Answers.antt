@@ -1,4 +1,4 @@
-use Rattle.collation_elements.proofs.Fronts.{moved}
+use Rattle.collation_elements.proofs.Queues.{moved}
 use Rattle.collation_elements.proofs.queue.move_to_front.Goals as goal
 
 pub returns : goal.returns

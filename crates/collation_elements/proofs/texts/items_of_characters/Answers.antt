@@ -2,6 +2,7 @@ use Rattle.std.proofs.Common.{◌≡◌, ◌∙◌, ◌<◌, ◌+◌, ◌++◌, 
 use Rattle.std.proofs.lemmas.List.{take_all}
 use Rattle.std.specs.Option.{is_some}
 use Rattle.nfd_points.specs.declared.points.Point.{Point}
+use Rattle.nfd_points.specs.declared.limits.TheConstants.{MOST_GIVEN}
 use Rattle.nfd_points.specs.PointFaults.{point_fault}
 use Rattle.nfd_points.specs.Points.{points}
 use Rattle.nfd_points.specs.Reordering.{HasReordered}
@@ -12,7 +13,7 @@ use Rattle.collation_elements.specs.Units.{units}
 use Rattle.collation_elements.specs.Weighing.{WeigherStandsFor}
 use Rattle.nfd_points.specs.Reordering.{is_closed}
 use Rattle.collation_elements.proofs.Cutting.{is_closed-both}
-use Rattle.collation_elements.proofs.TextLemmas.{next_front, next_bytes, around, front_bytes, gives_all}
+use Rattle.collation_elements.proofs.TextLemmas.{next_prefix, next_bytes, around, prefix_bytes, gives_all}
 use Rattle.collation_elements.proofs.PointLaws.{byte_len-nil}
 use Rattle.collation_elements.proofs.texts.items_of_characters.Goals as goal
 
@@ -33,7 +34,7 @@ loop-c-init g c =
       offset = sym byte_len-nil;
       strength = ap (λ w. w.strength) c.new-weigher.ensures.value;
       variable = ap (λ w. w.variable) c.new-weigher.ensures.value;
-      capacity = ap (λ w. w.capacity) c.in_ok-window.ensures.empty ∙ ap (λ n. n + 34) c.longest_key.ensures;
+      capacity = ap (λ w. w.capacity) c.in_ok-window.ensures.empty ∙ ap (λ n. n + MOST_GIVEN) c.longest_key.ensures;
       not_ended = ap (λ w. w.has_ended) c.in_ok-window.ensures.empty;
       last = ap is_closed holds_none;
       small = let none = ap length holds_none in omega (arith, none);
@@ -45,16 +46,16 @@ returns-in-Err-clause-bad g c =
     let cs = c.args.characters.now in
     let below : i < length cs = omega arith in
     let read = c.loop-c.invariant.read in
-    let told = c.in-Err.ensures.stops (take i cs) read.0 (drop (suc i) cs) read.1 in
-    ap (λ t. is_some (point_fault t)) (around cs i c.c-item.result below c.c-item.is) ∙ ap is_some told
+    let reported = c.in-Err.ensures.stops (take i cs) read.0 (drop (suc i) cs) read.1 in
+    ap (λ t. is_some (point_fault t)) (around cs i c.c-item.result below c.c-item.is) ∙ ap is_some reported
 
 pub overflow_add-offset : goal.overflow_add-offset
 overflow_add-offset g c =
     let i = c.loop-c.c-index in
     let cs = c.args.characters.now in
     let below : i < length cs = omega arith in
-    let front = front_bytes cs i c.c-item.result below c.c-item.is in
-    omega (arith, c.loop-c.invariant.offset, c.len_utf8.ensures.value, front)
+    let prefix = prefix_bytes cs i c.c-item.result below c.c-item.is in
+    omega (arith, c.loop-c.invariant.offset, c.len_utf8.ensures.value, prefix)
 
 pub loop-c-preserved : goal.loop-c-preserved
 loop-c-preserved g c =
@@ -65,7 +66,7 @@ loop-c-preserved g c =
     let old = c.loop-c.invariant.read in
     let value = c.as_slice.ensures.value in
     let carried = c.in_default.ensures.carries (take i cs) old.0 old.1 c.loop-c.invariant.offset in
-    let fronted = subst (λ (taken : List ℕ). HasReordered c.push.new.self taken (old.0 ++ c.push.new.out.items)) (sym (next_front cs i c.c-item.result below c.c-item.is)) carried in
+    let fronted = subst (λ (taken : List ℕ). HasReordered c.push.new.self taken (old.0 ++ c.push.new.out.items)) (sym (next_prefix cs i c.c-item.result below c.c-item.is)) carried in
     let reordered = subst (λ (out : List Point). HasReordered c.push.new.self (take (i + 1) cs) (old.0 ++ out)) (sym value) fronted in
     let before : Gives table c.push_points.new.window c.loop-c.weigher c.loop-c.items.items (old.0 ++ c.as_slice.result.now) =
     record { units = old.2.units; cut = c.push_points.ensures.stands table old.0 old.2.units old.2.cut; weighed = old.2.weighed } in

@@ -1,8 +1,9 @@
 use Rattle.std.proofs.Common.{◌≡◌, ◌+◌, ◌≤◌, List, true, false, length, take}
 use Rattle.nfd_points.specs.declared.points.Point.{Point}
 use Rattle.nfd_points.specs.Points.{byte_len}
+use Rattle.nfd_points.specs.declared.limits.TheConstants.{MOST_GIVEN}
 use Rattle.nfd_points.specs.Reordering.{HasReordered}
-use Rattle.collation_table.specs.Table.{longest_key}
+use Rattle.collation_table.specs.Table.{longest_mapped}
 use Rattle.collation_elements.specs.Texts.{Gives}
 use Rattle.nfd_points.specs.Reordering.{is_closed}
 use Rattle.collation_elements.proofs.texts.items_of_characters.Given as goal
@@ -14,8 +15,8 @@ invariant-loop-c g l = record {
   offset : l.offset ≡ byte_len (take l.c-index l.characters);
   strength : l.weigher.strength ≡ l.fn.strength;
   variable : l.weigher.variable ≡ l.fn.variable;
-  capacity : l.window.capacity ≡ longest_key (g.W.Weights.table l.table) + 34;
+  capacity : l.window.capacity ≡ longest_mapped (g.W.Weights.table l.table) + MOST_GIVEN;
   not_ended : l.window.has_ended ≡ false;
   last : is_closed l.window.points ≡ true;
-  small : length l.window.points ≤ longest_key (g.W.Weights.table l.table);
+  small : length l.window.points ≤ longest_mapped (g.W.Weights.table l.table);
 }

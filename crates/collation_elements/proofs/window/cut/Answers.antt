@@ -1,67 +1,54 @@
-use Rattle.std.proofs.Common.{◌≡◌, ℕ, ◌≤◌, List, [], length, take, drop, sym, ◌∙◌, ap, arith, length-take}
+use Rattle.std.proofs.Common.{◌≡◌, ℕ, List, [], ◌∷◌, take, drop, sym, ◌∙◌, ap, arith}
+use Rattle.std.proofs.lemmas.List.{take-map}
 use Rattle.nfd_points.specs.declared.points.Point.{Point}
 use Rattle.circular_buffer.specs.Buffer.{Buffer, buffer}
-use Rattle.collation_elements.specs.Units.{codes, Cut, extended}
+use Rattle.collation_elements.specs.Units.{code_points, Cut, extended}
 use Rattle.collation_elements.specs.Windows.{next_cut}
-use Rattle.collation_elements.proofs.Cutting.{next_cut-of, front_length-le}
-use Rattle.collation_elements.proofs.Cuts.{front_codes, front_within, IsUnitOf-cut, next_cut-before_starter, next_cut-all}
+use Rattle.collation_elements.proofs.Alone.{next_cut-alone}
+use Rattle.collation_elements.proofs.Cutting.{next_cut-of, prefix_length-le}
+use Rattle.collation_elements.proofs.Cuts.{IsUnitOf-cut}
+use Rattle.collation_elements.proofs.Longest.{longest_prefix-le_longest}
 use Rattle.collation_elements.proofs.window.cut.Goals as goal
-use Rattle.collation_elements.proofs.window.cut.Goals.{else-taken-len-via-then-taken-len+else-not-has_starter_at, else-taken-len-via-else-taken-len}
 
-pub slice_bounds-key_of-end : goal.slice_bounds-key_of-end
-slice_bounds-key_of-end g c =
-    let front = c.front.result.now in
-    let inside : c.args.taken ≤ length front = front_within (g.W.Weights.table c.args.table.now) c.args.points.now.items front c.args.taken (g.met.W.Weights.sizes c.args.table.now).key c.requires.some c.requires.front c.front.ensures in
-    omega (arith, length-take c.args.taken front)
+pub prefix-string-requires : goal.prefix-string-requires
+prefix-string-requires g c =
+    let sizes = g.met.W.Weights.sizes c.args.table.now in
+    omega (arith, c.requires.beginning, sizes.string, longest_prefix-le_longest (g.W.Weights.table c.args.table.now) (code_points c.args.points.now.items))
 
-pub slice_bounds-new-end : goal.slice_bounds-new-end
-slice_bounds-new-end g c =
-    let front = c.front-else-taken-len.result.now in
-    let inside : c.args.taken ≤ length front = front_within (g.W.Weights.table c.args.table.now) c.args.points.now.items front c.args.taken (g.met.W.Weights.sizes c.args.table.now).key c.requires.some c.requires.front c.front-else-taken-len.ensures in
-    omega (arith, length-take c.args.taken front)
+pub skip-requires-2 : goal.skip-requires-2
+skip-requires-2 g c =
+    omega (arith, c.requires.beginning, prefix_length-le (g.W.Weights.table c.args.table.now) c.args.points.now.items c.requires.some)
 
-pub skip-requires-else-taken-len : goal.skip-requires-else-taken-len
-skip-requires-else-taken-len g c =
-    omega (arith, c.requires.front, front_length-le (g.W.Weights.table c.args.table.now) c.args.points.now.items c.requires.some)
+pub returns-then-not-begins_longer_string-clause-rest : goal.returns-then-not-begins_longer_string-clause-rest
+returns-then-not-begins_longer_string-clause-rest g c =
+    let T = g.W.Weights.table c.args.table.now in
+    let ps : List Point = c.args.points.now.items in
+    c.skip.ensures ∙ ap (λ (cut : Cut). buffer cut.rest c.args.points.now.capacity) (sym (next_cut-alone T ps c.point-first_point.result c.point-first_point.ensures.point (c.begins_longer_string.ensures c.if-not-begins_longer_string.true)))
 
-pub returns-then-not-has_starter_at-clause-rest : goal.returns-then-not-has_starter_at-clause-rest
-returns-then-not-has_starter_at-clause-rest g c =
+pub returns-then-not-begins_longer_string-clause-unit : goal.returns-then-not-begins_longer_string-clause-unit
+returns-then-not-begins_longer_string-clause-unit g c =
+    let T = g.W.Weights.table c.args.table.now in
+    let ps : List Point = c.args.points.now.items in
+    let first : Point = c.point-first_point.result in
+    let string_is : first.cp ∷ [] ≡ code_points (next_cut T ps).unit = ap (λ (cut : Cut). code_points cut.unit) (sym (next_cut-alone T ps first c.point-first_point.ensures.point (c.begins_longer_string.ensures c.if-not-begins_longer_string.true))) in
+    IsUnitOf-cut T ps (first.cp ∷ []) first c.new.result c.requires.some c.point-first_point.ensures.point string_is c.new.ensures.first_point c.new.ensures.elements
+
+pub returns-clause-rest : goal.returns-clause-rest
+returns-clause-rest g c =
     let T = g.W.Weights.table c.args.table.now in
     let ps : List Point = c.args.points.now.items in
     let n : ℕ = c.args.taken in
-    let capacity : ℕ = c.args.points.now.capacity in
-    let codes_are : codes (take n ps) ≡ c.key_of-key.result.items = sym (c.key_of-key.ensures ∙ front_codes T ps c.front.result.now n (g.met.W.Weights.sizes c.args.table.now).key c.requires.front c.front.ensures) in
+    let codes_are : code_points (take n ps) ≡ c.prefix-string.result.items = sym (c.prefix-string.ensures ∙ take-map (λ p. p.cp) n ps) in
     c.take_joining.ensures.rest (take n ps) codes_are
-    ∙ ap (λ (q : Buffer Point). buffer (extended T (take n ps) [] q.items).rest q.capacity) c.skip.ensures
-    ∙ ap (λ (k : ℕ). buffer (extended T (take k ps) [] (drop k ps)).rest capacity) c.requires.front
-    ∙ ap (λ (cut : Cut). buffer cut.rest capacity) (sym (next_cut-of T ps c.requires.some))
+    ∙ ap (λ (q : Buffer Point). buffer (extended T (take n ps) [] q.items).rest q.capacity) c.skip-2.ensures
+    ∙ ap (λ (k : ℕ). buffer (extended T (take k ps) [] (drop k ps)).rest c.args.points.now.capacity) c.requires.beginning
+    ∙ ap (λ (cut : Cut). buffer cut.rest c.args.points.now.capacity) (sym (next_cut-of T ps c.requires.some))
 
-pub returns-then-not-has_starter_at-clause-unit : goal.returns-then-not-has_starter_at-clause-unit
-returns-then-not-has_starter_at-clause-unit g c =
+pub returns-clause-unit : goal.returns-clause-unit
+returns-clause-unit g c =
     let T = g.W.Weights.table c.args.table.now in
     let ps : List Point = c.args.points.now.items in
     let n : ℕ = c.args.taken in
-    let codes_are : codes (take n ps) ≡ c.key_of-key.result.items = sym (c.key_of-key.ensures ∙ front_codes T ps c.front.result.now n (g.met.W.Weights.sizes c.args.table.now).key c.requires.front c.front.ensures) in
-    let key_is : c.as_slice.result.now ≡ codes (next_cut T ps).unit = c.as_slice.ensures.value ∙ c.take_joining.ensures.key (take n ps) codes_are ∙ ap (λ (q : Buffer Point). codes (extended T (take n ps) [] q.items).unit) c.skip.ensures ∙ ap (λ (k : ℕ). codes (extended T (take k ps) [] (drop k ps)).unit) c.requires.front ∙ ap (λ (cut : Cut). codes cut.unit) (sym (next_cut-of T ps c.requires.some)) in
-    IsUnitOf-cut T ps c.as_slice.result.now c.point-first_point.result c.new.result c.requires.some c.point-first_point.ensures.point key_is c.new.ensures.first_point c.new.ensures.elements
-
--- the code points of the front are those of the unit, which nothing joins
-pub returns-else-taken-len-clause-rest : goal.returns-else-taken-len-clause-rest
-returns-else-taken-len-clause-rest g c =
-    let T = g.W.Weights.table c.args.table.now in
-    let ps : List Point = c.args.points.now.items in
-    let n : ℕ = c.args.taken in
-    let whole : Cut = record { unit = take n ps; rest = drop n ps } in
-    let cut_is : next_cut T ps ≡ whole = elim c.else-taken-len.branch [ else-taken-len-via-then-taken-len+else-not-has_starter_at w ↦ next_cut-before_starter T ps n c.requires.some c.requires.front (sym w.has_starter_at.ensures ∙ w.if-not-has_starter_at.false) | else-taken-len-via-else-taken-len w ↦ next_cut-all T ps n c.requires.some c.requires.front (omega (arith, w.if-taken-len.false, c.len.ensures.len)) ] in
-    c.skip-else-taken-len.ensures ∙ ap (λ (cut : Cut). buffer cut.rest c.args.points.now.capacity) (sym cut_is)
-
-pub returns-else-taken-len-clause-unit : goal.returns-else-taken-len-clause-unit
-returns-else-taken-len-clause-unit g c =
-    let T = g.W.Weights.table c.args.table.now in
-    let ps : List Point = c.args.points.now.items in
-    let n : ℕ = c.args.taken in
-    let front : List ℕ = c.front-else-taken-len.result.now in
-    let whole : Cut = record { unit = take n ps; rest = drop n ps } in
-    let cut_is : next_cut T ps ≡ whole = elim c.else-taken-len.branch [ else-taken-len-via-then-taken-len+else-not-has_starter_at w ↦ next_cut-before_starter T ps n c.requires.some c.requires.front (sym w.has_starter_at.ensures ∙ w.if-not-has_starter_at.false) | else-taken-len-via-else-taken-len w ↦ next_cut-all T ps n c.requires.some c.requires.front (omega (arith, w.if-taken-len.false, c.len.ensures.len)) ] in
-    let key_is : take n front ≡ codes (next_cut T ps).unit = front_codes T ps front n (g.met.W.Weights.sizes c.args.table.now).key c.requires.front c.front-else-taken-len.ensures ∙ ap (λ (cut : Cut). codes cut.unit) (sym cut_is) in
-    IsUnitOf-cut T ps (take n front) c.point-first_point.result c.new-unit.result c.requires.some c.point-first_point.ensures.point key_is c.new-unit.ensures.first_point c.new-unit.ensures.elements
+    let codes_are : code_points (take n ps) ≡ c.prefix-string.result.items = sym (c.prefix-string.ensures ∙ take-map (λ p. p.cp) n ps) in
+    let string_is : c.as_slice.result.now ≡ code_points (next_cut T ps).unit = c.as_slice.ensures.value ∙ c.take_joining.ensures.string (take n ps) codes_are ∙ ap (λ (q : Buffer Point). code_points (extended T (take n ps) [] q.items).unit) c.skip-2.ensures ∙ ap (λ (k : ℕ). code_points (extended T (take k ps) [] (drop k ps)).unit) c.requires.beginning ∙ ap (λ (cut : Cut). code_points cut.unit) (sym (next_cut-of T ps c.requires.some)) in
+    IsUnitOf-cut T ps c.as_slice.result.now c.point-first_point.result c.new-2.result c.requires.some c.point-first_point.ensures.point string_is c.new-2.ensures.first_point c.new-2.ensures.elements

@@ -7,7 +7,7 @@ invariant-loop-left g l = record {
   within : l.left ≤ length l.points.items;
   capacity : l.points.capacity ≡ l.fn.points.capacity;
   highest : IsHighest l.points.items l.left l.highest_left;
-  so_far : JoinsSoFar (g.W.Weights.table l.table) l.fn.key.items l.fn.points.items l.key.items l.points.items l.left;
+  so_far : JoinsSoFar (g.W.Weights.table l.table) l.fn.string.items l.fn.points.items l.string.items l.points.items l.left;
 }
 
 abbrev pub decreases-loop-left : goal.decreases-loop-left

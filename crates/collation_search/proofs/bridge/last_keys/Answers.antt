@@ -1,4 +1,4 @@
--- The last keys begin behind a cluster, within it or at its start.
+-- The last keys begin after a cluster, within it or at its start.
 use Rattle.collation_search.proofs.BridgeFlat.{ended-by_keys}
 use Rattle.collation_search.proofs.BridgeBorder.{ended-by_border}
 use Rattle.collation_search.proofs.bridge.last_keys.Goals as goal

@@ -1,5 +1,5 @@
 -- By the context law and the key law.
-use Rattle.collation_search.proofs.BridgeMatches.{matches-are_found, settled-are_found, items-tell_ranges}
+use Rattle.collation_search.proofs.BridgeMatches.{matches-are_found, settled-are_found, items-give_ranges}
 use Rattle.collation_search.proofs.bridge.matches_by_clusters.Goals as goal
 
 pub returns : goal.returns
@@ -9,5 +9,5 @@ returns g c =
     record {
       matches = matches-are_found parts.boundaries parts.keys parts.texts table c.key_law.ensures.same;
       settled = settled-are_found parts.boundaries parts.keys parts.texts table c.key_law.ensures.same;
-      items = items-tell_ranges table;
+      items = items-give_ranges table;
     }

@@ -4,6 +4,6 @@ use Rattle.collation_table.proofs.reader.read_lines.Goals as goal
 
 pub loop-rest-preserved : goal.loop-rest-preserved
 loop-rest-preserved c = record {
-  so_far = AfterLines-line c.args.bytes.now c.loop-rest.rest.now c.first_line.result.0.now c.first_line.result.1.now c.loop-rest.number c.loop-rest.rows c.read_line.new.rows c.first_line.ensures.lines c.loop-rest.invariant.so_far c.in_ok-read_line.ensures.ok.0 c.in_ok-read_line.ensures.ok.1;
+  so_far = AfterLines-line c.args.bytes.now c.loop-rest.rest.now c.first_line.result.0.now c.first_line.result.1.now c.loop-rest.number c.loop-rest.rows _ c.first_line.ensures.lines c.loop-rest.invariant.so_far c.in_ok-rows.ensures.right c.in_ok-rows.ensures.rows;
   counted = omega arith;
 }

@@ -1,4 +1,5 @@
--- The rows are those of the lines so far, none of which is at fault, and the rest has the lines behind them. Each line took a byte at least.
+-- The rows are those of the lines so far, none of which is at fault, and the rest has the lines after them. Each line took a
+-- byte at least.
 use Rattle.std.proofs.Common.{◌+◌, ◌≤◌, length}
 use Rattle.collation_table.specs.Faults.{forms_of}
 use Rattle.collation_table.proofs.FileFaults.{AfterLines}

@@ -1,4 +1,4 @@
--- Behind at most five digits, one more fits.
+-- After at most five digits, one more fits.
 use Rattle.std.proofs.Common.{◌≤◌, ◌<◌, ◌^◌, ℕ, arith, lit<}
 use Rattle.std.proofs.Math.Nat.{pow-le-pow_right}
 use Rattle.collation_table.proofs.spelling.number.Goals as goal

@@ -1,4 +1,5 @@
--- The number so far, with the digits that are left behind it, is the number of all; so many digits keep it below so many powers of 16.
+-- The number so far, with the digits that are left after it, is the number of all; so many digits keep it below so many powers
+-- of 16.
 use Rattle.std.proofs.Common.{◌≡◌, ◌<◌, ◌^◌, drop}
 use Rattle.collation_table.specs.Spelling.{hex_after}
 use Rattle.collation_table.proofs.spelling.number.Given as goal

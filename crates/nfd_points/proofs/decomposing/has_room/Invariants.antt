@@ -1,10 +1,10 @@
 use Rattle.std.proofs.Common.{◌≡◌, ◌≤◌, drop}
 use Rattle.unicode_normalization.specs.StreamSafe.{has_short_runs}
-use Rattle.nfd_points.specs.Reordering.{codes}
+use Rattle.nfd_points.specs.declared.limits.TheConstants.{MOST_WAITING}
 use Rattle.nfd_points.proofs.decomposing.has_room.Given as goal
 
-abbrev pub invariant-loop-point : goal.invariant-loop-point
-invariant-loop-point l = record {
-  few : l.run ≤ 30;
-  rest : has_short_runs l.run (codes (drop l.point-index l.points)) ≡ has_short_runs l.fn.run (codes l.points);
+abbrev pub invariant-loop-part : goal.invariant-loop-part
+invariant-loop-part l = record {
+  few : l.run ≤ MOST_WAITING;
+  rest : has_short_runs l.run (drop l.part-index l.parts) ≡ has_short_runs l.fn.run l.parts;
 }

@@ -1,15 +1,15 @@
-use Rattle.nfd_points.proofs.RunLemmas.{fault_from-good, fault_from-front, fault_at-kind}
+use Rattle.nfd_points.proofs.RunLemmas.{fault_from-good, fault_from-prefix, fault_of_code_point-kind}
 use Rattle.nfd_points.proofs.ShortRunLemmas.{short-points, good-short, fault-long}
 use Rattle.nfd_points.proofs.laws.laws_of_faults.Goals as goal
 
-pub returns-clause-behind : goal.returns-clause-behind
-returns-clause-behind c = fault_from-good
+pub returns-clause-following : goal.returns-clause-following
+returns-clause-following c = fault_from-good
 
-pub returns-clause-in_front : goal.returns-clause-in_front
-returns-clause-in_front c = fault_from-front
+pub returns-clause-in_prefix : goal.returns-clause-in_prefix
+returns-clause-in_prefix c = fault_from-prefix
 
 pub returns-clause-runs : goal.returns-clause-runs
-returns-clause-runs c = fault_at-kind
+returns-clause-runs c = fault_of_code_point-kind
 
 pub returns-clause-short : goal.returns-clause-short
 returns-clause-short c = short-points

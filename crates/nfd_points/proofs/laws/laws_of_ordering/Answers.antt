@@ -1,5 +1,6 @@
-use Rattle.nfd_points.proofs.OrderingLemmas.{is_in_order-ordered, ordered-ordered, ordered-front, ordered-parts, list_all-ordered, length-ordered}
+use Rattle.nfd_points.proofs.OrderingLemmas.{is_in_order-ordered, ordered-ordered, ordered-prefix, ordered-parts, list_all-ordered, length-ordered}
 use Rattle.nfd_points.proofs.PointsLemmas.{ordered-shift}
+use Rattle.nfd_points.proofs.SplitLemmas.{starters-stay}
 use Rattle.nfd_points.proofs.laws.laws_of_ordering.Goals as goal
 
 pub returns-clause-in_order : goal.returns-clause-in_order
@@ -8,8 +9,8 @@ returns-clause-in_order c = is_in_order-ordered
 pub returns-clause-stays : goal.returns-clause-stays
 returns-clause-stays c = ordered-ordered
 
-pub returns-clause-fronts : goal.returns-clause-fronts
-returns-clause-fronts c = ordered-front
+pub returns-clause-prefixes : goal.returns-clause-prefixes
+returns-clause-prefixes c = ordered-prefix
 
 pub returns-clause-at_starters : goal.returns-clause-at_starters
 returns-clause-at_starters c = ordered-parts
@@ -22,3 +23,6 @@ returns-clause-keeps c = list_all-ordered
 
 pub returns-clause-counts : goal.returns-clause-counts
 returns-clause-counts c = length-ordered
+
+pub returns-clause-starters : goal.returns-clause-starters
+returns-clause-starters c = starters-stay

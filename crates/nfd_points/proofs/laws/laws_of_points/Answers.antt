@@ -1,11 +1,12 @@
-use Rattle.nfd_points.proofs.PointsLemmas.{codes-points, IsSound-points, byte_len-encode, points_from-append, points_from-shift, points-parts}
+use Rattle.nfd_points.proofs.PointsLemmas.{code_points-points, IsSoundPoint-points, byte_len-append, byte_len-encode, points_from-append, points_from-shift, points-parts}
+use Rattle.nfd_points.proofs.CutLemmas.{texts-cut}
 use Rattle.nfd_points.proofs.laws.laws_of_points.Goals as goal
 
 pub returns-clause-nfd : goal.returns-clause-nfd
-returns-clause-nfd c = codes-points
+returns-clause-nfd c = code_points-points
 
 pub returns-clause-sound : goal.returns-clause-sound
-returns-clause-sound c = IsSound-points
+returns-clause-sound c = IsSoundPoint-points
 
 pub returns-clause-bytes : goal.returns-clause-bytes
 returns-clause-bytes c = byte_len-encode
@@ -18,3 +19,9 @@ returns-clause-shifted c = points_from-shift
 
 pub returns-clause-texts : goal.returns-clause-texts
 returns-clause-texts c = points-parts
+
+pub returns-clause-bytes_of_parts : goal.returns-clause-bytes_of_parts
+returns-clause-bytes_of_parts c = byte_len-append
+
+pub returns-clause-cuts : goal.returns-clause-cuts
+returns-clause-cuts c = texts-cut

@@ -2,7 +2,7 @@ use Rattle.std.proofs.Common.{subst, sym, ◌∷◌, [], ◌++◌, ◌≡◌, �
 use Rattle.std.specs.Char.{len_utf8}
 use Rattle.utf8_cut.specs.Inside.{state}
 use Rattle.utf8_cut.specs.State.{StandsFor, IfChar, character_given}
-use Rattle.utf8_cut.specs.Value.{CutState, IsSound}
+use Rattle.utf8_cut.specs.Value.{CutState, IsSoundCut}
 use Rattle.utf8_cut.proofs.PushLemmas.{pushed_stands, pushed_bad, pushed_end, ascii_stands, ascii_bad}
 use Rattle.utf8_cut.proofs.Cut.push.Goals as goal
 
@@ -29,4 +29,4 @@ returns-clause-bad c taken given s = let p = c.push_in_sequence in pushed_bad _ 
 pub returns-clause-char_end : goal.returns-clause-char_end
 returns-clause-char_end c =
     let p = c.push_in_sequence in
-    subst (λ n. IfChar p.result (λ d at. at + len_utf8 d ≡ n.count)) (sym p.ensures.state) (pushed_end _ _ _ (subst IsSound c.self.view_is c.self.invariant) p.ensures.pushed)
+    subst (λ n. IfChar p.result (λ d at. at + len_utf8 d ≡ n.count)) (sym p.ensures.state) (pushed_end _ _ _ (subst IsSoundCut c.self.view_is c.self.invariant) p.ensures.pushed)

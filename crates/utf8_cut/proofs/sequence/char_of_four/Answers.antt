@@ -1,5 +1,5 @@
 use Rattle.std.proofs.Common.{arith, subst, ◌≡◌, ◌+◌, ◌-◌, ◌*◌, ◌∷◌, []}
-use Rattle.utf8_cut.specs.Sequences.{Spells}
+use Rattle.utf8_cut.specs.Sequences.{SpellsCharacter}
 use Rattle.utf8_cut.proofs.TableLemmas.{spells_four}
 use Rattle.utf8_cut.proofs.sequence.char_of_four.Goals as goal
 
@@ -11,5 +11,5 @@ returns c =
     let w = c.args.fourth in
     let value = rw c.unwrap.ensures at c.from_u32.ensures.value in
     let is : (((x - 0xF0) * 0x40 + (y - 0x80)) * 0x40 + (z - 0x80)) * 0x40 + (w - 0x80) ≡ c.unwrap.result = omega (arith, value.1) in
-    subst (Spells (x ∷ y ∷ z ∷ w ∷ [])) is
+    subst (SpellsCharacter (x ∷ y ∷ z ∷ w ∷ [])) is
     (spells_four x y z w (omega arith) (omega arith) c.requires.second (omega arith) (omega arith) (omega arith) (omega arith))

@@ -1,5 +1,5 @@
 use Rattle.std.proofs.Common.{arith, subst, ◌≡◌, ◌+◌, ◌-◌, ◌*◌, ◌∷◌, []}
-use Rattle.utf8_cut.specs.Sequences.{Spells}
+use Rattle.utf8_cut.specs.Sequences.{SpellsCharacter}
 use Rattle.utf8_cut.proofs.TableLemmas.{spells_three}
 use Rattle.utf8_cut.proofs.sequence.char_of_three.Goals as goal
 
@@ -10,4 +10,4 @@ returns c =
     let z = c.args.third in
     let value = rw c.unwrap.ensures at c.from_u32.ensures.value in
     let is : ((x - 0xE0) * 0x40 + (y - 0x80)) * 0x40 + (z - 0x80) ≡ c.unwrap.result = omega (arith, value.1) in
-    subst (Spells (x ∷ y ∷ z ∷ [])) is (spells_three x y z (omega arith) (omega arith) c.requires.second (omega arith) (omega arith))
+    subst (SpellsCharacter (x ∷ y ∷ z ∷ [])) is (spells_three x y z (omega arith) (omega arith) c.requires.second (omega arith) (omega arith))

@@ -1,14 +1,14 @@
 use Rattle.std.proofs.Common.{ap, sym, ◌∙◌}
 use Rattle.std.specs.Str.{chars}
 use Rattle.utf8_cut.specs.Characters.{with_offsets}
-use Rattle.utf8_cut.proofs.CharactersLemmas.{text_front, text_fault}
+use Rattle.utf8_cut.proofs.CharactersLemmas.{text_prefix, text_fault}
 use Rattle.utf8_cut.proofs.slice.front.Goals as goal
 
 pub returns-in-Ok-clause-text : goal.returns-in-Ok-clause-text
-returns-in-Ok-clause-text c = c.in-Ok.ensures.cases.0 ∙ sym (text_front _ c.in-Ok.ensures.cases.1)
+returns-in-Ok-clause-text c = c.in-Ok.ensures.cases.0 ∙ sym (text_prefix _ c.in-Ok.ensures.cases.1)
 
 pub returns-in-Ok-clause-fault : goal.returns-in-Ok-clause-fault
 returns-in-Ok-clause-fault c = sym (text_fault _ c.in-Ok.ensures.cases.1)
 
 pub returns-in-Ok-clause-characters : goal.returns-in-Ok-clause-characters
-returns-in-Ok-clause-characters c = ap (λ t. with_offsets 0 (chars t)) (c.in-Ok.ensures.cases.0 ∙ sym (text_front _ c.in-Ok.ensures.cases.1))
+returns-in-Ok-clause-characters c = ap (λ t. with_offsets 0 (chars t)) (c.in-Ok.ensures.cases.0 ∙ sym (text_prefix _ c.in-Ok.ensures.cases.1))

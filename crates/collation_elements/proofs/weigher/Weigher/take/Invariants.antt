@@ -2,7 +2,8 @@ use Rattle.std.proofs.Common.{◌≡◌, ◌+◌, ◌≤◌, ◌++◌, true, dro
 use Rattle.std.specs.Option.{option_to_list, ForSome}
 use Rattle.collation_elements.specs.Elements.{weighted_row, after_row}
 use Rattle.collation_table.specs.WellFormed.{is_lead}
-use Rattle.collation_elements.specs.Weighing.{key_items, value_items}
+use Rattle.collation_elements.specs.Items.{key_items}
+use Rattle.collation_elements.specs.Weighing.{value_items}
 use Rattle.collation_elements.proofs.weigher.Weigher.take.Given as goal
 
 abbrev pub invariant-loop-e : goal.invariant-loop-e

@@ -1,21 +1,18 @@
-use Rattle.std.proofs.Common.{◌≡◌, ◌∙◌, fold, rules, sym, ap, tests}
-use Rattle.std.proofs.lemmas.Iterator.Consumers.{YieldsList-from_rest}
-use Rattle.std.proofs.lemmas.Iterator.Search.{any_from_yields_List}
+use Rattle.std.proofs.Common.{◌≡◌, ◌∙◌, fold, sym, ap}
 use Rattle.std.specs.List.{list_any}
-use Rattle.indexmap.specs.IndexMap.{values}
 use Rattle.collation_table.specs.Bounds.{higher_second, is_too_light}
-use Rattle.collation_table.specs.WellFormed.{elements}
-use Rattle.collation_table.proofs.ElementLemmas.{list_any-elements, breaks_wf2-by_bounds}
+use Rattle.collation_table.specs.Table.{TableMap}
+use Rattle.collation_table.specs.WellFormed.{table_elements}
+use Rattle.collation_table.proofs.ElementLemmas.{breaks_wf2-by_bounds}
 use Rattle.collation_table.proofs.rows.Rows.breaks_wf2.Goals as goal
 
 pub returns : goal.returns
 returns c =
     let second = c.greatest_second-second.result in
     let third = c.greatest_third-third.result in
-    let by_row : c.any.result ≡ list_any (λ v. list_any (is_too_light second third) v.items) (values c.self.inside.rows) =
-    any_from_yields_List (λ v. list_any (is_too_light second third) v.items) _ _ c.any.result c.any.ensures.ran (YieldsList-from_rest _ c.values.ensures.rest) (λ x b q k. search (rules, tests)) in
-    let bounds = ap (λ n. list_any (is_too_light n third) (elements c.args.self.now)) c.greatest_second-second.ensures
-    ∙ ap (λ n. list_any (is_too_light (fold higher_second 0x20 (elements c.args.self.now)) n) (elements c.args.self.now)) c.greatest_third-third.ensures in
-    let rows = by_row ∙ list_any-elements (is_too_light second third) c.self.inside.rows.entries in
-    let whole : c.any.result ≡ list_any (is_too_light second third) (elements c.args.self.now) = rw (← c.self.view_is) rows in
-    whole ∙ bounds ∙ sym (breaks_wf2-by_bounds c.args.self.now)
+    let all : table_elements c.args.self.now ≡ c.self.inside.elements.items = sym (ap (λ (T : TableMap). table_elements T) c.self.view_is) ∙ c.self.invariant.1.all in
+    let whole : c.any_too_light.result ≡ list_any (is_too_light second third) (table_elements c.args.self.now) = c.any_too_light.ensures ∙ ap (list_any (is_too_light second third)) (c.as_slice.ensures.value ∙ sym all) in
+    whole
+    ∙ ap (λ n. list_any (is_too_light n third) (table_elements c.args.self.now)) c.greatest_second-second.ensures
+    ∙ ap (λ n. list_any (is_too_light (fold higher_second 0x20 (table_elements c.args.self.now)) n) (table_elements c.args.self.now)) c.greatest_third-third.ensures
+    ∙ sym (breaks_wf2-by_bounds c.args.self.now)

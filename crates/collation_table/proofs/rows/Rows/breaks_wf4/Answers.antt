@@ -1,21 +1,16 @@
-use Rattle.std.proofs.Common.{◌≡◌, ◌∙◌, rules, sym, tests}
-use Rattle.std.proofs.lemmas.Iterator.Consumers.{YieldsList-from_rest}
-use Rattle.std.proofs.lemmas.Iterator.Search.{any_from_yields_List}
+use Rattle.std.proofs.Common.{◌≡◌, ◌∙◌, sym, ap}
 use Rattle.std.specs.List.{list_any}
-use Rattle.indexmap.specs.IndexMap.{values}
 use Rattle.collation_table.specs.Bounds.{is_within_span}
-use Rattle.collation_table.specs.WellFormed.{elements}
-use Rattle.collation_table.proofs.ElementLemmas.{list_any-elements, breaks_wf4-by_span, breaks_wf4-no_variable}
+use Rattle.collation_table.specs.Table.{TableMap}
+use Rattle.collation_table.specs.WellFormed.{table_elements}
+use Rattle.collation_table.proofs.ElementLemmas.{breaks_wf4-by_span, breaks_wf4-no_variable}
 use Rattle.collation_table.proofs.rows.Rows.breaks_wf4.Goals as goal
 
 pub returns-in-Some : goal.returns-in-Some
 returns-in-Some c =
-    let inside = is_within_span c.in-Some.least c.in-Some.greatest in
-    let by_row : c.any.result ≡ list_any (λ v. list_any (is_within_span c.in-Some.least c.in-Some.greatest) v.items) (values c.self.inside.rows) =
-    any_from_yields_List (λ v. list_any (is_within_span c.in-Some.least c.in-Some.greatest) v.items) _ _ c.any.result c.any.ensures.ran (YieldsList-from_rest _ c.values.ensures.rest) (λ x b q k. search (rules, tests)) in
-    let rows = by_row ∙ list_any-elements inside c.self.inside.rows.entries in
-    let whole : c.any.result ≡ list_any inside (elements c.args.self.now) = rw (← c.self.view_is) rows in
-    whole ∙ sym (breaks_wf4-by_span c.args.self.now c.in-Some.least c.in-Some.greatest (sym c.in-Some.ensures))
+    let all : table_elements c.args.self.now ≡ c.self.inside.elements.items = sym (ap (λ (T : TableMap). table_elements T) c.self.view_is) ∙ c.self.invariant.1.all in
+    c.any_within_span.ensures ∙ ap (list_any (is_within_span c.in-Some.least c.in-Some.greatest)) (c.as_slice.ensures.value ∙ sym all)
+    ∙ sym (breaks_wf4-by_span c.args.self.now c.in-Some.least c.in-Some.greatest (sym c.in-Some.ensures))
 
 pub returns-in-None : goal.returns-in-None
 returns-in-None c = sym (breaks_wf4-no_variable c.args.self.now (sym c.in-None.ensures))

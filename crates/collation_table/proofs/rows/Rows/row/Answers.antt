@@ -1,12 +1,8 @@
-use Rattle.std.proofs.Common.{◌∙◌, ap, Some}
-use Rattle.std.specs.Option.{option_map}
-use Rattle.collation_table.proofs.RowLemmas.{row_with-lookup}
+use Rattle.std.proofs.Common.{◌∙◌, sym}
 use Rattle.collation_table.proofs.rows.Rows.row.Goals as goal
 
-pub returns-in-Some : goal.returns-in-Some
-returns-in-Some c =
-    rw (← c.self.view_is) (ap Some c.as_slice.ensures.value ∙ ap (option_map (λ v. v.items)) c.in-Some.ensures.value ∙ row_with-lookup c.args.key.now c.self.inside.rows.entries)
+pub elements_at-requires-clause-start : goal.elements_at-requires-clause-start
+elements_at-requires-clause-start c = (c.self.invariant.1.lent c.args.string.now c.in-Some.place (sym c.place.ensures ∙ c.in-Some.is)).0
 
-pub returns-in-None : goal.returns-in-None
-returns-in-None c =
-    rw (← c.self.view_is) (ap (option_map (λ v. v.items)) c.in-None.ensures.value ∙ row_with-lookup c.args.key.now c.self.inside.rows.entries)
+pub elements_at-requires-clause-end : goal.elements_at-requires-clause-end
+elements_at-requires-clause-end c = rw c.as_slice.ensures.value ((c.self.invariant.1.lent c.args.string.now c.in-Some.place (sym c.place.ensures ∙ c.in-Some.is)).1)

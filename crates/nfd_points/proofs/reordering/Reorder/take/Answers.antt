@@ -18,19 +18,19 @@ insert-requires c =
 pub invariant_of-self : goal.invariant_of-self
 invariant_of-self c =
     let same : c.self.inside.waiting.items ≡ c.args.self.now.held = ap (λ w. w.held) c.self.view_is in
-    let at : c.place_behind-place.result ≡ length (take_while (λ q. nat_le q.ccc c.args.point.ccc) c.self.inside.waiting.items) =
-    c.place_behind-place.ensures.value ∙ ap (λ l. length (take_while (λ q. nat_le q.ccc c.args.point.ccc) l)) c.as_slice.ensures.value in
+    let at : c.place_after-place.result ≡ length (take_while (λ q. nat_le q.ccc c.args.point.ccc) c.self.inside.waiting.items) =
+    c.place_after-place.ensures.value ∙ ap (λ l. length (take_while (λ q. nat_le q.ccc c.args.point.ccc) l)) c.as_slice.ensures.value in
     subst IsHeld (sym c.insert.ensures.items)
-    (IsHeld-insert c.self.inside.waiting.items c.args.point c.place_behind-place.result c.self.invariant c.requires.sound at c.if-point-eq0.false
+    (IsHeld-insert c.self.inside.waiting.items c.args.point c.place_after-place.result c.self.invariant c.requires.sound at c.if-point-eq0.false
     (ap (λ l. has_short_runs (length l) (c.args.point.cp ∷ [])) same ∙ c.requires.short))
 
 pub returns-else-point-eq0-clause-held : goal.returns-else-point-eq0-clause-held
 returns-else-point-eq0-clause-held c =
     let same : c.self.inside.waiting.items ≡ c.args.self.now.held = ap (λ w. w.held) c.self.view_is in
-    let at : c.place_behind-place.result ≡ length (take_while (λ q. nat_le q.ccc c.args.point.ccc) c.self.inside.waiting.items) =
-    c.place_behind-place.ensures.value ∙ ap (λ l. length (take_while (λ q. nat_le q.ccc c.args.point.ccc) l)) c.as_slice.ensures.value in
+    let at : c.place_after-place.result ≡ length (take_while (λ q. nat_le q.ccc c.args.point.ccc) c.self.inside.waiting.items) =
+    c.place_after-place.ensures.value ∙ ap (λ l. length (take_while (λ q. nat_le q.ccc c.args.point.ccc) l)) c.as_slice.ensures.value in
     subst IsHeld (sym c.insert.ensures.items)
-    (IsHeld-insert c.self.inside.waiting.items c.args.point c.place_behind-place.result c.self.invariant c.requires.sound at c.if-point-eq0.false
+    (IsHeld-insert c.self.inside.waiting.items c.args.point c.place_after-place.result c.self.invariant c.requires.sound at c.if-point-eq0.false
     (ap (λ l. has_short_runs (length l) (c.args.point.cp ∷ [])) same ∙ c.requires.short))
 
 pub returns-then-point-eq0-clause-moved : goal.returns-then-point-eq0-clause-moved
@@ -55,10 +55,10 @@ pub returns-else-point-eq0-clause-moved : goal.returns-else-point-eq0-clause-mov
 returns-else-point-eq0-clause-moved c =
     λ rest.
     let same : c.self.inside.waiting.items ≡ c.args.self.now.held = ap (λ w. w.held) c.self.view_is in
-    let at : c.place_behind-place.result ≡ length (take_while (λ q. nat_le q.ccc c.args.point.ccc) c.self.inside.waiting.items) =
-    c.place_behind-place.ensures.value ∙ ap (λ l. length (take_while (λ q. nat_le q.ccc c.args.point.ccc) l)) c.as_slice.ensures.value in
+    let at : c.place_after-place.result ≡ length (take_while (λ q. nat_le q.ccc c.args.point.ccc) c.self.inside.waiting.items) =
+    c.place_after-place.ensures.value ∙ ap (λ l. length (take_while (λ q. nat_le q.ccc c.args.point.ccc) l)) c.as_slice.ensures.value in
     ap (λ l. c.args.out.now.items ++ ordered (l ++ c.args.point ∷ rest)) (sym same)
-    ∙ mark-moved c.args.out.now.items c.self.inside.waiting.items c.insert.new.self.items c.args.point c.place_behind-place.result c.self.invariant at c.if-point-eq0.false c.insert.ensures.items rest
+    ∙ mark-moved c.args.out.now.items c.self.inside.waiting.items c.insert.new.self.items c.args.point c.place_after-place.result c.self.invariant at c.if-point-eq0.false c.insert.ensures.items rest
 
 pub returns-else-point-eq0-clause-run : goal.returns-else-point-eq0-clause-run
 returns-else-point-eq0-clause-run c =

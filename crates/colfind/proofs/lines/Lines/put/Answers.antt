@@ -1,0 +1,9 @@
+use Rattle.std.proofs.Common.{rules, ◌∙◌, ◌++◌, refl, ap, arith}
+use Rattle.colfind.proofs.Gathered.{grown}
+use Rattle.colfind.proofs.lines.Lines.put.Goals as goal
+
+pub returns-clause-prints : goal.returns-clause-prints
+returns-clause-prints g c = λ form ranges before f p.
+    grown form c.make_room.new.self _ ranges (c.args.start, c.args.end) before _ f _ (c.make_room.ensures.prints form ranges before f p) refl
+    (λ h. search rules)
+    (c.push_str.ensures.bytes ∙ ap (λ xs. c.make_room.new.self.waiting.bytes ++ xs) (c.as_str.ensures.value ∙ c.line.ensures)) refl

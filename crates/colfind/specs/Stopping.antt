@@ -1,0 +1,105 @@
+-- Why the program ends without an answer, case by case in the order of its work: words, table file, table, pattern, text
+-- file, text.
+-- No clause can name the table file, so its bytes are some bytes, and its table is some well-formed table; nor can one name the
+-- bytes of the text file.
+use Rattle.std.specs.Prelude.{◌≡◌, ◌≢◌, ℕ, Bool, true, false, List, Option, Some, None, is_some, nat_lt}
+use Rattle.clap.specs.Words.{Text as Word}
+use Rattle.collation_table.specs.Table.{TableMap}
+use Rattle.collation_table.specs.WellFormed.{IsWellFormed}
+use Rattle.collation_table.specs.Faults.{table_fault, IsFaultOrAllocationRefused}
+use Rattle.collation_elements.specs.declared.settings.Variable.{Variable}
+use Rattle.collation_elements.specs.declared.settings.Strength.{Strength}
+use Rattle.collation_pattern.specs.PatternFaults.{pattern_fault}
+use Rattle.collation_search.specs.Answer.{answer}
+use Rattle.colfind.specs.declared.output.Output.{Output}
+use Rattle.colfind.specs.declared.faults.Stop.{Stop}
+use Rattle.colfind.specs.declared.faults.Stop.TheVariants.{Words, File, Table, Pattern, TextFile, Text, Read, Write, Memory}
+use Rattle.colfind.specs.declared.words.Settings.{Settings}
+use Rattle.colfind.specs.declared.words.SettingsFault.TheVariants as of_words
+use Rattle.colfind.specs.declared.run.Outcome.{Outcome}
+use Rattle.colfind.specs.declared.run.Outcome.TheVariants as outcome
+use Rattle.colfind.specs.Patterns.{settled_by}
+use Rattle.colfind.specs.Running.{PrintsToFault, PrintsSettled, PrintsPrefix, reported_ranges, FailsAs}
+use Rattle.colfind.specs.Settings.{IsTakenAs, IsRefused}
+
+-- what a contract sees of the input and of the output
+pub record Seen : Type 0 where
+  pub left : Option (List ℕ)
+  pub reads_failed : ℕ
+  pub held : Option (List ℕ)
+  pub writes_failed : ℕ
+
+abbrev pub seen : Option (List ℕ) → ℕ → Option (List ℕ) → ℕ → Seen
+seen left reads_failed held writes_failed =
+    record { left = left; reads_failed = reads_failed; held = held; writes_failed = writes_failed }
+
+-- it stopped before the text, and then the input and the output are as they were
+abbrev pub is_before_text : Stop → Bool
+is_before_text (Words _) = true
+is_before_text (File _) = true
+is_before_text (Table _) = true
+is_before_text (Pattern _) = true
+is_before_text TextFile = true
+is_before_text _ = false
+
+-- the devices have failed as a run of this outcome makes them
+abbrev pub Fails : Outcome → Seen → Seen → Type 0
+Fails outcome before after = FailsAs outcome before.reads_failed after.reads_failed before.writes_failed after.writes_failed
+
+-- the table file could not be read, or its bytes, whatever they are, have this fault
+abbrev pub StopsAtTable : Stop → Type 0
+StopsAtTable (File _) = Unit {0}
+StopsAtTable (Table fault) = (bytes : List ℕ) × IsFaultOrAllocationRefused (table_fault bytes) fault
+StopsAtTable _ = ⊥
+
+-- the text has this first fault, could not be read further, its ranges could not be written, or memory was refused
+abbrev pub StopsAtText : TableMap → Strength → Variable → List ℕ → Output → Stop → Seen → Seen → Type 0
+StopsAtText table strength variable pattern form (Text fault) before after =
+    PrintsToFault (answer table strength variable pattern) form fault before.left after.left before.held after.held
+    × Fails (outcome.Text fault) before after
+StopsAtText table strength variable pattern form (Read count) before after =
+    PrintsSettled (settled_by table strength variable pattern) form count before.left after.left before.held after.held
+    × Fails (outcome.Read count) before after
+StopsAtText table strength variable pattern form Write before after =
+    PrintsPrefix
+    (reported_ranges (answer table strength variable pattern) (settled_by table strength variable pattern)
+    (nat_lt before.reads_failed after.reads_failed))
+    form before.left after.left before.held after.held
+    × Fails outcome.Write before after
+StopsAtText table strength variable pattern form Memory before after =
+    (after.held ≡ before.held)
+    × Fails outcome.Memory before after
+StopsAtText table strength variable pattern form _ before after = ⊥
+
+-- what is seen of a text file in place of the input: no bytes, and whether it could not be read
+abbrev pub of_file : ℕ → Seen → Seen
+of_file reads_failed at = record at { left = None; reads_failed = reads_failed }
+
+-- the search in the text stopped: in the input, or in the text file where one is asked for
+abbrev pub StopsIn : TableMap → Settings → Stop → Seen → Seen → Type 0
+StopsIn table asked stop before after =
+    (is_some asked.text ≡ false
+    → StopsAtText table asked.strength asked.variable asked.pattern.now asked.output stop before after)
+    × (is_some asked.text ≡ true → (reads_failed : ℕ)
+    × StopsAtText table asked.strength asked.variable asked.pattern.now asked.output stop (of_file 0 before) (of_file reads_failed after))
+
+-- the pattern has this fault, or memory was refused for it; else it has none, and the text file comes, if one is asked for, and
+-- then the text
+abbrev pub StopsSearch : TableMap → Settings → Stop → Seen → Seen → Type 0
+StopsSearch table asked (Pattern fault) before after =
+    fault.kind ≢ 24 → pattern_fault table asked.strength asked.variable asked.pattern.now ≡ Some fault.kind
+StopsSearch table asked TextFile before after =
+    (pattern_fault table asked.strength asked.variable asked.pattern.now ≡ None) × (is_some asked.text ≡ true)
+StopsSearch table asked stop before after =
+    (pattern_fault table asked.strength asked.variable asked.pattern.now ≡ None) × StopsIn table asked stop before after
+
+-- the words are not those of the command, or memory was refused for them; else they ask for settings, and the table comes, and
+-- then the search with some well-formed table; where the text is a file, `Unasked` holds, by which a clause says that the input
+-- is as it was
+abbrev pub IsReason : List Word → Type 0 → Stop → Seen → Seen → Type 0
+IsReason words Unasked (Words fault) before after = fault ≡ of_words.Usage → IsRefused words
+IsReason words Unasked (File fault) before after = (asked : Settings) × IsTakenAs words asked
+IsReason words Unasked (Table fault) before after = (asked : Settings) × IsTakenAs words asked × StopsAtTable (Table fault)
+IsReason words Unasked stop before after =
+    (asked : Settings) × IsTakenAs words asked × (is_some asked.text ≡ true → Unasked) × ((table : TableMap) × IsWellFormed table
+    × StopsSearch table asked stop before after)

@@ -1,0 +1,90 @@
+-- Steps of a finder: the items of one unit, and the units that leave a window.
+use Rattle.std.proofs.Common.{◌≡◌, ℕ, suc, ◌+◌, ◌<◌, ◌≤◌, Bool, true, false, cond, ◌&&◌, List, [], ◌∷◌, ◌++◌, map, length, take, drop, get_or, refl, sym, ◌∙◌, ap, subst, arith, length-append, append_assoc}
+use Rattle.std.proofs.Math.Seq.{split_at}
+use Rattle.std.specs.Prelude.{Option, Some, None, IfSome}
+use Rattle.std.specs.Option.{option_to_list}
+use Rattle.nfd_points.specs.declared.points.Point.{Point}
+use Rattle.nfd_points.specs.Points.{is_starter}
+use Rattle.collation_table.specs.Table.{TableMap}
+use Rattle.collation_elements.specs.declared.keys.Key.{Key}
+use Rattle.collation_elements.specs.declared.keys.Item.{Item}
+use Rattle.collation_elements.specs.declared.keys.Item.TheVariants.{ClusterStart, Element}
+use Rattle.collation_elements.specs.declared.weigher.Weigher.{Weigher}
+use Rattle.collation_elements.specs.Elements.{begins_cluster_with, weighted_row}
+use Rattle.collation_elements.specs.Keys.{row_keys}
+use Rattle.collation_elements.specs.ItemParts.{item_starts}
+use Rattle.collation_elements.specs.UnitValues.{UnitValue}
+use Rattle.collation_elements.specs.Weighing.{value_items}
+use Rattle.std.proofs.lemmas.List.{append-nil}
+use Rattle.collation_elements.specs.Items.{items}
+use Rattle.collation_elements.specs.Units.{units}
+use Rattle.collation_elements.specs.Windows.{Held}
+use Rattle.collation_pattern.specs.Compiled.{Compiled}
+use Rattle.collation_search.specs.declared.walk.Walk.{Walk}
+use Rattle.collation_search.specs.Matching.{HasMatched}
+use Rattle.collation_search.specs.Walks.{WalksOver}
+
+pub item_starts-append : (xs ys : List Item) → item_starts (xs ++ ys) ≡ item_starts xs ++ item_starts ys
+item_starts-append [] ys = refl
+item_starts-append (ClusterStart start ∷ xs) ys = ap (λ starts. start ∷ starts) (item_starts-append xs ys)
+item_starts-append (Element key ∷ xs) ys = item_starts-append xs ys
+
+item_starts-map : (ks : List Key) → item_starts (map (λ key. Element key) ks) ≡ []
+item_starts-map [] = refl
+item_starts-map (key ∷ ks) = item_starts-map ks
+
+starts_few : (b : Bool) (start : ℕ) → length (item_starts (cond b (ClusterStart start ∷ []) [])) ≤ 1
+starts_few true start = omega arith
+starts_few false start = omega arith
+
+-- the items of a unit have one start of a cluster at most
+pub value_items-few : (w : Weigher) (unit : UnitValue) → length (item_starts (value_items w unit)) ≤ 1
+value_items-few w unit =
+    let p = unit.first_point in
+    let test = begins_cluster_with p unit.elements in
+    let ks = row_keys w.strength (weighted_row w.variable w.after_variable unit.elements) in
+    let starts = cond test (ClusterStart p.offset ∷ []) [] in
+    let parts = item_starts-append starts (map (λ key. Element key) ks) in
+    let none = item_starts-map ks in
+    let sum = ap length parts ∙ length-append (item_starts starts) (item_starts (map (λ key. Element key) ks)) in
+    let zero = ap length none in
+    omega (arith, sum, zero, starts_few test p.offset)
+
+-- the starts among the first items and the next one are among all of them
+pub starts_so_far : (xs : List Item) (i : ℕ) (d : Item) → i < length xs →
+    length (item_starts (take i xs)) + length (item_starts (get_or xs i d ∷ [])) ≤ length (item_starts xs)
+starts_so_far xs i d h =
+    let parts = ap (λ t. item_starts t) (split_at xs i d h) in
+    let first = item_starts-append (take i xs) (get_or xs i d ∷ drop (suc i) xs) in
+    let second = item_starts-append (get_or xs i d ∷ []) (drop (suc i) xs) in
+    let sum = ap length (parts ∙ first ∙ ap (λ t. item_starts (take i xs) ++ t) second)
+    ∙ length-append (item_starts (take i xs)) (item_starts (get_or xs i d ∷ []) ++ item_starts (drop (suc i) xs)) in
+    let more = length-append (item_starts (get_or xs i d ∷ [])) (item_starts (drop (suc i) xs)) in
+    omega (arith, sum, more)
+
+-- nothing was found yet in this call
+pub matched-first : (table : TableMap) (pattern : Compiled) (window : Held) (weigher : Weigher) (walk : Walk) (ps : List Point) (ranges first : List (ℕ × ℕ)) →
+    first ≡ [] → HasMatched table pattern window weigher walk ps ranges → HasMatched table pattern window weigher walk ps (ranges ++ first)
+matched-first table pattern window weigher walk ps ranges first none h =
+    subst (HasMatched table pattern window weigher walk ps) (sym (ap (λ t. ranges ++ t) none ∙ append-nil ranges)) h
+
+-- the window holds nothing any more: all units were cut
+pub matched-all : (table : TableMap) (pattern : Compiled) (window : Held) (weigher : Weigher) (walk : Walk) (ps : List Point) (ranges : List (ℕ × ℕ)) →
+    HasMatched table pattern window weigher walk ps ranges → window.points ≡ [] →
+    WalksOver pattern.keys (items table pattern.strength pattern.variable false (units table ps)) ranges walk
+matched-all table pattern window weigher walk ps ranges h none =
+    let all = h.cut.continues [] (λ e. refl) in
+    let after : units table (window.points ++ []) ≡ [] = ap (λ qs. units table (qs ++ [])) none in
+    let cut : units table ps ≡ h.units = ap (units table) (sym (append-nil ps)) ∙ all ∙ ap (λ us. h.units ++ us) after ∙ append-nil h.units in
+    let listed : h.items ≡ items table pattern.strength pattern.variable false (units table ps) =
+    h.weighed.items ∙ ap (λ s. items table s weigher.variable false h.units) h.strength ∙ ap (λ v. items table pattern.strength v false h.units) h.variable
+    ∙ ap (λ us. items table pattern.strength pattern.variable false us) (sym cut) in
+    subst (λ (t : List Item). WalksOver pattern.keys t ranges walk) listed h.walked
+
+-- a range is handed out at a start only
+pub few_at_start : (item : Item) (range : Option (ℕ × ℕ)) → IfSome range (λ r. item ≡ ClusterStart r.1) → length (option_to_list range) ≤ length (item_starts (item ∷ []))
+few_at_start item None h = omega arith
+few_at_start item (Some r) h =
+    let one : length (item_starts (item ∷ [])) ≡ 1 = ap (λ t. length (item_starts (t ∷ []))) h in
+    let listed : length (option_to_list (Some r)) ≡ 1 = refl in
+    omega (arith, one, listed)

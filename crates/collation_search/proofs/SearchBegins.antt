@@ -1,0 +1,108 @@
+-- Whatever bytes follow, the ranges that a search has handed out begin those of the answer.
+use Rattle.std.specs.Str.{chars, IsUtf8}
+use Rattle.std.proofs.Common.{◌≡◌, ◌∙◌, ◌+◌, ◌<◌, ◌≤◌, ℕ, Bool, true, false, List, [], ◌∷◌, ◌++◌, length, take, drop, Some, None, refl, sym, ap, subst, arith, inl, inr}
+use Rattle.std.proofs.lemmas.Bool.{false_from_ne_true}
+use Rattle.utf8_cut.specs.Characters.{characters_end}
+use Rattle.nfd_points.specs.declared.points.Point.{Point}
+use Rattle.nfd_points.specs.Points.{points, points_from, byte_len, ordered}
+use Rattle.collation_elements.specs.declared.keys.Key.{Key}
+use Rattle.collation_elements.specs.declared.keys.Item.{Item}
+use Rattle.collation_elements.specs.Clusters.{Cluster, clusters, clusters_from}
+use Rattle.collation_elements.specs.Items.{items}
+use Rattle.collation_elements.specs.Units.{units}
+use Rattle.collation_elements.specs.Weighing.{after_units}
+use Rattle.collation_pattern.specs.Levels.{text_keys}
+use Rattle.collation_search.specs.declared.faults.TextFault.{TextFault}
+use Rattle.collation_search.specs.declared.finder.Finder.{Finder}
+use Rattle.collation_search.specs.declared.walk.Walk.{Walk}
+use Rattle.collation_search.specs.Answer.{Answer, answer_at}
+use Rattle.collation_search.specs.ByClusters.{text_begin, found, found_before_last}
+use Rattle.collation_search.specs.ByClustersLaws.{matches_are_found, settled_are_found, items_give_ranges}
+use Rattle.collation_search.specs.Finding.{FinderStandsFor}
+use Rattle.collation_search.specs.GoodPrefix.{fault, good_prefix, prefix_at, whole, is_good_so_far}
+use Rattle.collation_search.specs.Matches.{matches}
+use Rattle.collation_search.specs.Search.{Sought, IsCompiledFrom, answer_to, settled_in}
+use Rattle.collation_search.specs.Walks.{WalksOver}
+use Rattle.collation_search.proofs.LagRanges.{items-append}
+use Rattle.collation_search.proofs.LagTexts.{TextLaws, BeginsWith, begins-append, begins-take, begins-chars, fault_after, no_fault_text}
+use Rattle.collation_search.proofs.SearchAnswers.{items_in, has_key}
+use Rattle.collation_search.proofs.SearchLemmas.{either, good_prefix_found}
+use Rattle.collation_search.proofs.WalkSteps.{walks-begin, walks-begin_settled}
+
+-- the ranges begin the list
+abbrev pub BeginsRanges : List (ℕ × ℕ) → List (ℕ × ℕ) → Type 0
+BeginsRanges ranges all = (rest : List (ℕ × ℕ)) × (all ≡ ranges ++ rest)
+
+-- the items of a text that the code points so far begin: those given, and others after them
+items_go_on : (s : Sought) (finder : Finder) (taken more : List ℕ) (handed : List (ℕ × ℕ)) → (h : FinderStandsFor s.table s.pattern finder taken handed) → finder.window.has_ended ≡ false →
+    (rest : List Item) × (items s.table s.pattern.strength s.pattern.variable false (units s.table (points (taken ++ more))) ≡ h.matched.items ++ rest)
+items_go_on s finder taken more handed h goes_on =
+    let m = h.matched in
+    let later = ordered (finder.reorder.held ++ points_from (byte_len taken) more) in
+    let all : points (taken ++ more) ≡ h.points ++ later = h.reordered.continues more in
+    let never : finder.window.has_ended ≡ true → later ≡ [] = λ e. absurd (false_is_true (sym goes_on ∙ e)) in
+    let cut : units s.table (h.points ++ later) ≡ m.units ++ units s.table (finder.window.points ++ later) = m.cut.continues later never in
+    let vs = units s.table (finder.window.points ++ later) in
+    let rest = items s.table s.pattern.strength s.pattern.variable (after_units s.table s.pattern.variable false m.units) vs in
+    let weighed : items s.table s.pattern.strength s.pattern.variable false m.units ≡ m.items =
+    sym (m.weighed.items ∙ ap (λ t. items s.table t finder.weigher.variable false m.units) m.strength ∙ ap (λ v. items s.table s.pattern.strength v false m.units) m.variable) in (
+      rest,
+      ap (λ ps. items s.table s.pattern.strength s.pattern.variable false (units s.table ps)) all
+          ∙ ap (λ us. items s.table s.pattern.strength s.pattern.variable false us) cut
+          ∙ items-append s.table s.pattern.strength s.pattern.variable false m.units vs
+          ∙ ap (λ (t : List Item). t ++ rest) weighed,
+    )
+  where
+    false_is_true : false ≡ true → ⊥
+    false_is_true e = cc
+
+-- so their ranges, and those that end before the last cluster
+begins_found : (s : Sought) (finder : Finder) (taken more : List ℕ) (handed : List (ℕ × ℕ)) (end : ℕ) → FinderStandsFor s.table s.pattern finder taken handed → finder.window.has_ended ≡ false →
+    (text : List ℕ) → chars text ≡ taken ++ more →
+    BeginsRanges handed (found s.pattern.keys (clusters_from text_begin (items_in s text)) end)
+    × BeginsRanges handed (found_before_last s.pattern.keys (clusters_from text_begin (items_in s text)) end)
+begins_found s finder taken more handed end h goes_on text codes =
+    let rest = items_go_on s finder taken more handed h goes_on in
+    let all : items_in s text ≡ h.matched.items ++ rest.0 =
+    ap (λ cs. items s.table s.pattern.strength s.pattern.variable false (units s.table (points cs))) codes ∙ rest.1 in
+    let a = walks-begin s.pattern.keys h.matched.items handed finder.walk rest.0 end h.matched.walked in
+    let b = walks-begin_settled s.pattern.keys h.matched.items handed finder.walk rest.0 end h.matched.walked in (
+      (a.0, ap (λ (t : List Item). found s.pattern.keys (clusters_from text_begin t) end) all ∙ a.1),
+      (b.0, ap (λ (t : List Item). found_before_last s.pattern.keys (clusters_from text_begin t) end) all ∙ b.1),
+    )
+
+-- a text that the whole characters of the bytes so far begin
+begins_text : TextLaws → (s : Sought) → matches_are_found s.table → settled_are_found s.table → items_give_ranges s.table → (p taken good : List ℕ) (finder : Finder) (handed : List (ℕ × ℕ)) →
+    IsCompiledFrom s p → 1 ≤ length s.pattern.keys → IsUtf8 good → BeginsWith taken good →
+    FinderStandsFor s.table s.pattern finder (chars (whole taken)) handed → finder.window.has_ended ≡ false →
+    BeginsRanges handed (matches s.table s.pattern.strength s.pattern.variable p good) × BeginsRanges handed (settled_in s p good)
+begins_text laws s matches_law settled_law items_law p taken good finder handed compiled some utf8 begins h goes_on =
+    let codes = begins-chars laws taken good begins in
+    let both = begins_found s finder (chars (whole taken)) (chars (drop (characters_end taken) good)) handed (length good) h goes_on good codes in
+    let key = has_key s p compiled some in
+    let read = items_law s.pattern.strength s.pattern.variable s.pattern.keys good (length good) in
+    let cs = clusters s.table s.pattern.strength s.pattern.variable good in
+    let all = matches_law s.pattern.strength s.pattern.variable p good compiled.text utf8 key ∙ ap (λ (ks : List Key). found ks cs (length good)) (sym compiled.keys) ∙ read.0 in
+    let ended = settled_law s.pattern.strength s.pattern.variable p good compiled.text utf8 key ∙ ap (λ (ks : List Key). found_before_last ks cs (length good)) (sym compiled.keys) ∙ read.1 in
+    ((both.0.0, all ∙ both.0.1), (both.1.0, ended ∙ both.1.1))
+
+pub begins-answer : TextLaws → (s : Sought) → matches_are_found s.table → settled_are_found s.table → items_give_ranges s.table → (p taken later : List ℕ) (finder : Finder) (handed : List (ℕ × ℕ)) →
+    IsCompiledFrom s p → 1 ≤ length s.pattern.keys → is_good_so_far taken ≡ true →
+    FinderStandsFor s.table s.pattern finder (chars (whole taken)) handed → finder.window.has_ended ≡ false →
+    BeginsRanges handed (answer_to s p (taken ++ later)).ranges
+begins-answer laws s matches_law settled_law items_law p taken later finder handed compiled some open_bytes h goes_on =
+    let bytes = taken ++ later in
+    let at_fault = answer_at s.table s.pattern.strength s.pattern.variable p bytes in
+    elim (either (fault bytes)) [
+      | inl none ↦
+          let b = begins_text laws s matches_law settled_law items_law p taken bytes finder handed compiled some (no_fault_text laws bytes none) (begins-append laws taken later) h goes_on in
+          (b.0.0, ap (λ (a : Answer). a.ranges) (ap at_fault none) ∙ b.0.1)
+      | inr bad ↦
+          let at = bad.0 in
+          let there : good_prefix bytes ≡ take at.offset bytes = ap (prefix_at bytes) bad.1 in
+          let good = good_prefix_found laws.text laws.within bytes at bad.1 in
+          let text : IsUtf8 (take at.offset bytes) = subst IsUtf8 (sym good.1.taken) good.1.text in
+          let begins = begins-take taken bytes at.offset (fault_after laws taken later at open_bytes bad.1) (begins-append laws taken later) in
+          let b = begins_text laws s matches_law settled_law items_law p taken (take at.offset bytes) finder handed compiled some text begins h goes_on in
+          (b.1.0, ap (λ (a : Answer). a.ranges) (ap at_fault bad.1) ∙ ap (settled_in s p) there ∙ b.1.1)
+    ]

@@ -1,0 +1,15 @@
+-- The worked lists of words, by computing both sides.
+use Rattle.std.proofs.Common.{refl}
+use Rattle.unicode_normalization.specs.StreamSafe.{has_short_runs}
+use Rattle.unicode_normalization.proofs.Computing.{unicode_normalization}
+use Rattle.nfd_points.specs.Points.{is_in_order}
+use Rattle.nfd_points.specs.Reordering.{is_closed}
+use Rattle.collation_search.specs.WorkedStates.{AcceptedStates, ChangedStates}
+
+pub accepted_lem : AcceptedStates
+unfolding unicode_normalization has_short_runs is_in_order is_closed
+accepted_lem = record { begin = refl; a = refl; aa = refl; aaa = refl; in_character = refl; accent_waits = refl; fault = refl }
+
+pub changed_lem : ChangedStates
+unfolding unicode_normalization has_short_runs is_in_order is_closed
+changed_lem = record { short = refl; form = refl; pattern_len = refl; strength = refl; too_long = refl; longest = refl; kind = refl; window_len = refl; non_starter = refl; surrogate = refl; other_letter = refl; offset = refl; zero_word = refl }

@@ -1,0 +1,38 @@
+use Rattle.std.proofs.Common.{◌≡◌, ◌∙◌, ◌+◌, ◌≤◌, ℕ, List, [], ◌∷◌, ◌++◌, length, refl, false, sym, ap, subst, arith}
+use Rattle.nfd_points.specs.declared.points.Point.{Point}
+use Rattle.nfd_points.specs.Points.{points}
+use Rattle.nfd_points.specs.Reordering.{is_closed}
+use Rattle.collation_elements.specs.Items.{items}
+use Rattle.collation_elements.specs.Units.{units}
+use Rattle.collation_search.specs.Matching.{HasMatched}
+use Rattle.collation_search.specs.Walks.{WalksOver}
+use Rattle.collation_search.proofs.MatchingLemmas.{matched-first, matched-all}
+use Rattle.collation_search.proofs.finder.Finder.end.Goals as goal
+
+pub invariant_of-self : goal.invariant_of-self
+unfolding is_closed
+invariant_of-self g c =
+    let none = c.cut_units.ensures.all (ap (λ w. w.has_ended) c.end.ensures.ended) in
+    record {
+      capacity = c.cut_units.ensures.capacity ∙ ap (λ w. w.capacity) c.end.ensures.ended ∙ ap (λ w. w.capacity) c.push_points.ensures.points ∙ c.args.self.now.capacity;
+      short = c.args.self.now.short;
+      undecided = let zero = ap length none in omega (arith, zero);
+      closed = ap is_closed none;
+      state = omega (arith, c.cut_units.ensures.state, c.requires.pattern_len);
+    }
+
+pub returns-clause-ended : goal.returns-clause-ended
+returns-clause-ended g c = λ taken ranges h.
+    let table = g.W.Weights.table c.args.table.now in
+    let pattern = c.args.pattern.now in
+    let out = c.finish.new.out.items in
+    let none = c.cut_units.ensures.all (ap (λ w. w.has_ended) c.end.ensures.ended) in
+    let cut = c.end.ensures.stands table (h.points ++ c.as_slice.result.now) h.matched.units (c.push_points.ensures.stands table h.points h.matched.units h.matched.cut) in
+    let pushed = subst (λ (ps : List Point). HasMatched table pattern c.end.new.self c.args.self.now.weigher c.args.self.now.walk (h.points ++ ps) ranges)
+    c.as_slice.ensures.value
+    (record { units = h.matched.units; items = h.matched.items; cut = cut; weighed = h.matched.weighed; walked = h.matched.walked; strength = h.matched.strength; variable = h.matched.variable }) in
+    let before = matched-first table pattern c.end.new.self c.args.self.now.weigher c.args.self.now.walk (h.points ++ out) ranges c.args.found.now.items c.requires.empty pushed in
+    let all = matched-all table pattern c.cut_units.new.window c.cut_units.new.weigher c.cut_units.new.walk (h.points ++ out) (ranges ++ c.cut_units.new.found.items)
+    (c.cut_units.ensures.stands (h.points ++ out) ranges before) none in
+    subst (λ ps. WalksOver pattern.keys (items table pattern.strength pattern.variable false (units table ps)) (ranges ++ c.cut_units.new.found.items) c.cut_units.new.walk)
+    (sym (c.finish.ensures.rest taken h.points h.reordered)) all

@@ -1,0 +1,1 @@
+use Rattle.collation_search.proofs.finder.Finder.new.Goals as goal

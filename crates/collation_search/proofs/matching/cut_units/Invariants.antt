@@ -1,0 +1,20 @@
+use Rattle.std.proofs.Common.{◌≡◌, ◌+◌, ◌≤◌, ℕ, List, ◌++◌, true, false, length}
+use Rattle.nfd_points.specs.declared.points.Point.{Point}
+use Rattle.nfd_points.specs.Reordering.{is_closed}
+use Rattle.collation_search.specs.Matching.{HasMatched}
+use Rattle.collation_search.proofs.matching.cut_units.Given as goal
+
+abbrev pub invariant-loop-unit : goal.invariant-loop-unit
+invariant-loop-unit g l = record {
+  stands : (points : List Point) (ranges : List (ℕ × ℕ))
+      → HasMatched (g.W.Weights.table l.table) l.pattern l.initial.window l.initial.weigher l.initial.walk points (ranges ++ l.initial.found.items)
+      → HasMatched (g.W.Weights.table l.table) l.pattern l.window l.weigher l.walk points (ranges ++ l.found.items);
+  few : length l.found.items + length l.window.points ≤ length l.initial.found.items + length l.initial.window.points;
+  capacity : l.window.capacity ≡ l.initial.window.capacity;
+  ended : l.window.has_ended ≡ l.initial.window.has_ended;
+  last : l.initial.window.has_ended ≡ false → is_closed l.initial.window.points ≡ true → is_closed l.window.points ≡ true;
+  state : l.walk.state ≤ length l.pattern.keys;
+}
+
+abbrev pub decreases-loop-unit : goal.decreases-loop-unit
+decreases-loop-unit g l = length l.window.points

@@ -1,0 +1,62 @@
+use Rattle.std.specs.Prelude.{Ok, Err, None, Some}
+use Rattle.std.specs.List.{FoldsTo}
+use Rattle.std.proofs.Common.{◌≡◌, ◌∙◌, ◌<◌, ◌+◌, ℕ, suc, List, [], ◌∷◌, ◌++◌, take, drop, get_or, refl, sym, ap, subst, arith, append_assoc}
+use Rattle.std.proofs.Math.Seq.{split_at}
+use Rattle.std.proofs.lemmas.List.{take_more, take_all, append-nil}
+use Rattle.std.proofs.lemmas.Option.{none-some}
+use Rattle.collation_search.specs.declared.faults.TextFault.{TextFault}
+use Rattle.collation_search.specs.Search.{HasReported}
+use Rattle.collation_search.specs.Feeding.{Feeds}
+use Rattle.collation_search.proofs.FeedLemmas.{folds-append, feeds-none, feeds-append, feeds-stop, feeds-byte, feeds-reported}
+use Rattle.collation_search.proofs.search.Search.feed.Goals as goal
+
+pub returns-in-Some-clause-fed : goal.returns-in-Some-clause-fed
+returns-in-Some-clause-fed g c =
+    ([], refl, feeds-reported c.args.self.now c.args.piece.now c.in-Some.fault c.in-Some.ensures.reported (λ u handed h. none-some c.in-Some.fault (sym (c.in-Some.ensures.none u handed h))) c.in-Some.ensures.again)
+
+pub loop-byte-init : goal.loop-byte-init
+loop-byte-init g c =
+    (c.requires, ([], refl, feeds-none c.args.self.now (λ f h. none-some f (c.in_default.ensures.again f h))))
+
+pub returns-in-Err-clause-fed : goal.returns-in-Err-clause-fed
+returns-in-Err-clause-fed g c =
+    let i = c.loop-byte.byte-index in
+    let piece = c.args.piece.now in
+    let b = get_or piece i 0 in
+    let before = c.loop-byte.invariant.1 in
+    let step = c.in-Err.ensures in
+    let found = c.step.new.found.items in
+    let byte = feeds-byte c.loop-byte.self c.step.new.self b (Err c.in-Err.fault) found step.stands step.answer step.closed step.reported step.again step.sought in
+    let both = feeds-append c.args.self.now c.loop-byte.self c.step.new.self (take i piece) (b ∷ []) (Err c.in-Err.fault) before.0 found before.2 byte in
+    let all = feeds-stop c.args.self.now c.step.new.self (take i piece ++ b ∷ []) (drop (suc i) piece) c.in-Err.fault (before.0 ++ found) both in
+    let whole : (take i piece ++ b ∷ []) ++ drop (suc i) piece ≡ piece = append_assoc (take i piece) (b ∷ []) (drop (suc i) piece) ∙ sym (split_at piece i 0 c.loop-byte-test.true) in
+    let calls = subst (λ (t : List (ℕ × ℕ)). FoldsTo (λ f range t'. goal.F-step g f range.0 range.1 tt t') c.loop-byte.sink t c.hand_out-in-Err.new.sink) c.as_slice-in-Err.ensures.value c.hand_out-in-Err.ensures.called in (
+      before.0 ++ found,
+      folds-append (λ f range t. goal.F-step g f range.0 range.1 tt t) c.args.sink.now before.0 found c.loop-byte.sink c.hand_out-in-Err.new.sink before.1 calls,
+      subst (λ t. Feeds c.args.self.now t (Err c.in-Err.fault) (before.0 ++ found) c.step.new.self) whole all,
+    )
+
+pub loop-byte-preserved : goal.loop-byte-preserved
+loop-byte-preserved g c =
+    let i = c.loop-byte.byte-index in
+    let piece = c.args.piece.now in
+    let b = get_or piece i 0 in
+    let before = c.loop-byte.invariant.1 in
+    let step = c.in-Ok.ensures in
+    let found = c.step.new.found.items in
+    let byte = feeds-byte c.loop-byte.self c.step.new.self b (Ok tt) found step.stands step.answer step.closed step.reported step.again step.sought in
+    let both = feeds-append c.args.self.now c.loop-byte.self c.step.new.self (take i piece) (b ∷ []) (Ok tt) before.0 found before.2 byte in
+    let calls = subst (λ (t : List (ℕ × ℕ)). FoldsTo (λ f range t'. goal.F-step g f range.0 range.1 tt t') c.loop-byte.sink t c.hand_out.new.sink) c.as_slice.ensures.value c.hand_out.ensures.called in (
+      c.hand_out.ensures.callable,
+      (
+        before.0 ++ found,
+        folds-append (λ f range t. goal.F-step g f range.0 range.1 tt t) c.args.sink.now before.0 found c.loop-byte.sink c.hand_out.new.sink before.1 calls,
+        subst (λ t. Feeds c.args.self.now t (Ok tt) (before.0 ++ found) c.step.new.self) (sym (take_more piece i 0 c.loop-byte-test.true)) both,
+      ),
+    )
+
+pub returns-clause-fed : goal.returns-clause-fed
+returns-clause-fed g c =
+    let all = take_all c.loop-byte.byte-index c.args.piece.now (omega (arith, c.loop-byte-test.false)) in
+    let before = c.loop-byte.invariant.1 in
+    (before.0, before.1, subst (λ t. Feeds c.args.self.now t (Ok tt) before.0 c.loop-byte.self) all before.2)

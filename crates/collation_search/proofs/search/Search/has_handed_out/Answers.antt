@@ -1,0 +1,54 @@
+use Rattle.std.specs.Str.{chars}
+use Rattle.std.specs.Prelude.{Contains}
+use Rattle.std.proofs.Common.{◌≡◌, ◌∙◌, ◌≤◌, ℕ, List, ◌++◌, length, false, sym, ap, subst, arith}
+use Rattle.collation_table.specs.Table.{longest_mapped}
+use Rattle.collation_elements.specs.declared.keys.Key.{Key}
+use Rattle.collation_elements.specs.declared.keys.Item.{Item}
+use Rattle.collation_elements.specs.Clusters.{clusters_from}
+use Rattle.collation_elements.specs.Items.{items}
+use Rattle.collation_pattern.specs.Levels.{text_keys}
+use Rattle.collation_search.specs.ByClusters.{text_begin, found}
+use Rattle.collation_search.specs.GoodPrefix.{whole}
+use Rattle.collation_search.specs.Lag.{IsUnderWay}
+use Rattle.collation_search.specs.Search.{sought}
+use Rattle.collation_search.proofs.LagTexts.{TextLaws}
+use Rattle.collation_search.proofs.SearchAnswers.{has_key}
+use Rattle.collation_search.proofs.SearchBegins.{begins-answer}
+use Rattle.collation_search.proofs.search.Search.has_handed_out.Goals as goal
+
+pub returns-clause-begins : goal.returns-clause-begins
+returns-clause-begins g c = λ text u later handed compiled h.
+    let search = c.args.self.now in
+    let laws : TextLaws = record {
+      text = c.whole_characters_are_the_longest_text.ensures.text;
+      longest = c.whole_characters_are_the_longest_text.ensures.longest;
+      within = c.whole_characters_are_the_longest_text.ensures.within;
+      faults = c.laws_of_faults.ensures.following;
+    } in
+    let laws_of = c.matches_by_clusters.ensures in
+    begins-answer laws (sought search) laws_of.matches laws_of.settled laws_of.items text u later search.finder handed compiled h.some_key h.open_bytes h.found (search.open h.no_fault)
+
+pub returns-clause-in_time : goal.returns-clause-in_time
+returns-clause-in_time g c = λ text u later handed range compiled h late there.
+    let search = c.args.self.now in
+    let s = sought search in
+    let m = h.found.matched in
+    let walked = m.walked in
+    let given : items s.table s.pattern.strength s.pattern.variable false m.units ≡ m.items =
+    sym (m.weighed.items ∙ ap (λ t. items s.table t search.finder.weigher.variable false m.units) m.strength ∙ ap (λ v. items s.table s.pattern.strength v false m.units) m.variable) in
+    let under_way : IsUnderWay s.table s.pattern.strength s.pattern.variable (chars (whole u)) search.finder.reorder search.finder.window walked.before walked.current =
+    record {
+      given = h.found.points;
+      units = m.units;
+      reordered = h.found.reordered;
+      cut = m.cut;
+      goes_on = search.open h.no_fault;
+      clusters = λ rest. ap (λ (t : List Item). clusters_from text_begin (t ++ rest)) given ∙ walked.clusters rest;
+    } in
+    let few : length search.finder.window.points ≤ longest_mapped s.table = omega (arith, search.finder.undecided, search.longest, search.query.longest) in
+    let key = has_key s text compiled h.some_key in
+    let found_there = c.answers_in_time.ensures s.pattern.strength s.pattern.variable text u later search.finder.reorder search.finder.window walked.before walked.current range
+    compiled.text key h.open_bytes under_way few late there in
+    let same : found (text_keys s.table s.pattern.strength s.pattern.variable text) walked.before walked.current.start ≡ handed =
+    ap (λ (ks : List Key). found ks walked.before walked.current.start) (sym compiled.keys) ∙ sym walked.handed_out in
+    subst (λ (t : List (ℕ × ℕ)). Contains t range) same found_there

@@ -1,0 +1,154 @@
+-- Which lists of words are states for a pattern and a table, test by test, and which kind of fault the others have.
+use Rattle.std.specs.Prelude.{ℕ, ◌+◌, ◌-◌, ◌*◌, ◌/◌, ◌%◌, ◌^◌, Bool, true, false, ◌&&◌, ◌||◌, not, nat_le, nat_lt, ◌==◌, List, [], ◌∷◌, length, take, drop, slice_index, Option, None, Some, if◌then◌else◌}
+use Rattle.std.specs.List.{list_all}
+use lib.Utf8.{scalar}
+use Rattle.unicode_normalization.specs.Lookups.{canonical_combining_class}
+use Rattle.unicode_normalization.specs.StreamSafe.{has_short_runs}
+use Rattle.utf8_cut.specs.Characters.{is_incomplete_or_empty}
+use Rattle.nfd_points.specs.declared.points.Point.{Point}
+use Rattle.nfd_points.specs.Points.{is_in_order}
+use Rattle.nfd_points.specs.Reordering.{code_points, is_non_starter, is_closed}
+use Rattle.collation_elements.specs.declared.settings.Strength.{Strength}
+use Rattle.collation_elements.specs.declared.settings.Variable.{Variable}
+use Rattle.collation_search.specs.State.{strength_word, variable_word}
+
+-- what a state is resumed with: the sizes of the pattern and the table, and the settings
+pub record Resumed : Type 0 where
+  pub pattern_len : ℕ
+  pub longest_key : ℕ
+  pub most_elements : ℕ
+  pub strength : Strength
+  pub variable : Variable
+
+-- the words of the first five records, after the form, the sizes and the settings
+pub record Head : Type 0 where
+  pub taken : ℕ
+  pub kind : ℕ
+  pub fault_offset : ℕ
+  pub held_len : ℕ
+  pub held : ℕ
+  pub after_variable : ℕ
+  pub start : ℕ
+  pub has_keys : ℕ
+  pub waits : ℕ
+  pub state : ℕ
+  pub window_len : ℕ
+  pub waiting_len : ℕ
+
+abbrev pub head : List ℕ → Head
+head words = record {
+  taken = slice_index words 6;
+  kind = slice_index words 7;
+  fault_offset = slice_index words 8;
+  held_len = slice_index words 9;
+  held = slice_index words 10;
+  after_variable = slice_index words 11;
+  start = slice_index words 12;
+  has_keys = slice_index words 13;
+  waits = slice_index words 14;
+  state = slice_index words 15;
+  window_len = slice_index words 16;
+  waiting_len = slice_index words 17;
+}
+
+abbrev pub is_flag : ℕ → Bool
+is_flag word = nat_le word 1
+
+-- ---- the first test: whole records, five at least, of the form 1
+
+abbrev pub has_form : List ℕ → Bool
+has_form words = nat_le 20 (length words) && (length words % 4 == 0 && slice_index words 0 == 1)
+
+-- ---- the second test: the same sizes and settings
+
+abbrev pub is_for : Resumed → List ℕ → Bool
+is_for r words =
+    slice_index words 1 == r.pattern_len
+    && (slice_index words 2 == r.longest_key
+    && (slice_index words 3 == r.most_elements
+    && (slice_index words 4 == strength_word r.strength && slice_index words 5 == variable_word r.variable)))
+
+-- ---- the third test: numbers that a search can hold
+
+-- so many bytes that a number spells, the first one the most significant
+abbrev pub bytes_in : ℕ → ℕ → List ℕ
+bytes_in len held =
+    let more = if len == 2 then held / 256 ∷ held % 256 ∷ [] else (held / 65536 ∷ held / 256 % 256 ∷ held % 256 ∷ []) in
+    if len == 0 then [] else (if len == 1 then held ∷ [] else more)
+
+-- none, or some that properly begin a character
+abbrev pub may_be_held : ℕ → ℕ → Bool
+may_be_held len held = nat_le len 3 && (is_incomplete_or_empty (bytes_in len held) && (not (len == 0) || held == 0))
+
+-- the places of keys: their clusters' starts do not fall, and none is after the current cluster's
+abbrev pub are_places : ℕ → ℕ → List ℕ → Bool
+are_places least most [] = true
+are_places least most (start ∷ is_first ∷ a ∷ b ∷ words) =
+    nat_le least start && (nat_le start most && (is_flag is_first && (a == 0 && (b == 0 && are_places start most words))))
+are_places least most _ = false
+
+-- points: scalar values, each with an offset before the end of the whole characters
+abbrev pub are_points : ℕ → List ℕ → Bool
+are_points end [] = true
+are_points end (cp ∷ offset ∷ is_first ∷ a ∷ words) =
+    scalar cp && (nat_lt offset end && (is_flag is_first && (a == 0 && are_points end words)))
+are_points end _ = false
+
+abbrev pub points_in : List ℕ → List Point
+points_in (cp ∷ offset ∷ is_first ∷ a ∷ words) =
+    record { cp = cp; ccc = canonical_combining_class cp; offset = offset; first = is_first == 1 } ∷ points_in words
+points_in _ = []
+
+-- the points of a window end in a starter, and no 31 non-starters stand in a row
+abbrev pub may_be_in_window : List Point → Bool
+may_be_in_window points = is_closed points && has_short_runs 0 (code_points points)
+
+-- the points that wait are non-starters in canonical order
+abbrev pub may_wait : List Point → Bool
+may_wait points = list_all is_non_starter points && is_in_order points
+
+-- a match waits only where the whole pattern ends the keys so far, the first of them is the first of its cluster, and the
+-- current cluster has keys
+abbrev pub may_match_wait : Resumed → Head → List ℕ → Bool
+may_match_wait r h words =
+    h.waits == 0 || (h.state == r.pattern_len && (slice_index words 21 == 1 && h.has_keys == 1))
+
+-- a search that has met no fault
+abbrev pub is_open_head : Resumed → Head → List ℕ → Bool
+is_open_head r h words =
+    let flags = is_flag h.after_variable && (is_flag h.has_keys && is_flag h.waits) in
+    let bytes = nat_le h.held_len h.taken && may_be_held h.held_len h.held in
+    let sizes = nat_le h.state r.pattern_len && (nat_le h.window_len r.longest_key && nat_le h.waiting_len 30) in
+    let records = length words == 4 * (5 + (h.state + (h.window_len + h.waiting_len))) in
+    h.fault_offset == 0 && (flags && (bytes && (sizes && (records && nat_le h.start (h.taken - h.held_len)))))
+
+abbrev pub has_open_tail : Head → List ℕ → Bool
+has_open_tail h words =
+    let end = h.taken - h.held_len in
+    let places = take (4 * h.state) words in
+    let window = take (4 * h.window_len) (drop (4 * h.state) words) in
+    let waiting = drop (4 * (h.state + h.window_len)) words in
+    are_places 0 h.start places
+    && (are_points end window && (are_points end waiting
+    && (may_be_in_window (points_in window) && may_wait (points_in waiting))))
+
+-- a search that has reported a fault, and holds nothing else
+abbrev pub is_reported : Head → List ℕ → Bool
+is_reported h words =
+    nat_le 31 h.kind && (nat_le h.kind 35 && (h.fault_offset == h.taken
+    && (length words == 20 && list_all (λ word. word == 0) (drop 9 words))))
+
+abbrev pub is_state : Resumed → List ℕ → Bool
+is_state r words =
+    let h = head words in
+    let whole = is_open_head r h words && (may_match_wait r h words && has_open_tail h (drop 20 words)) in
+    nat_le h.taken (2 ^ 62)
+    && (slice_index words 18 == 0 && (slice_index words 19 == 0
+    && (if h.kind == 0 then whole else is_reported h words)))
+
+-- ---- the kind of the fault
+
+-- 51 is a malformed state, 52 one of another pattern, table or setting
+abbrev pub state_fault : Resumed → List ℕ → Option ℕ
+state_fault r words =
+    if not (has_form words) then Some 51 else (if not (is_for r words) then Some 52 else (if is_state r words then None else Some 51))

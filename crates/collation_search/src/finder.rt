@@ -1,0 +1,156 @@
+//! Finds the ranges of a text whose characters come one by one.
+ghost use Rattle.std.specs.Prelude.{◌≡◌, ◌+◌, ◌≤◌, length, true};
+ghost use Rattle.nfd_points.specs.Reordering.{is_closed};
+ghost use Rattle.nfd_points.specs.declared.limits.TheConstants.{MOST_GIVEN};
+ghost use Rattle.collation_table.specs.declared.limits.TheConstants.{MOST_STRING_POINTS};
+
+use crate::matching::{Found, cut_units, keep, push_points};
+use crate::walk::Walk;
+use arrayvec::ArrayVec;
+use collation_elements::{Item, MOST_ITEMS, Weigher, Window, closed_points_append};
+use collation_pattern::Pattern;
+use collation_table::{MOST_STRING_POINTS, Weights};
+use nfd_points::{MOST_GIVEN, Point, PointFault, Reorder};
+use std::alloc::{AllocError, Global};
+
+/// Takes the characters of a text one by one, and finds its ranges.
+#[derive(Drop)]
+pub(crate) struct Finder {
+    pub(crate) reorder: Reorder,
+    pub(crate) window: Window,
+    pub(crate) weigher: Weigher,
+    pub(crate) walk: Walk,
+    /// The number of code points of the table's longest key.
+    pub(crate) longest_key: usize,
+    /// The number of the pattern's keys.
+    pub(crate) pattern_len: usize,
+    /// What the reorderer gave last, and the items of the last unit. Their room is used again and again.
+    pub(crate) given: ArrayVec<Point, MOST_GIVEN>,
+    pub(crate) items: ArrayVec<Item, MOST_ITEMS>,
+    ghost capacity: { window.capacity ≡ longest_key + MOST_GIVEN },
+    ghost short: { longest_key ≤ MOST_STRING_POINTS },
+    ghost undecided: { length window.points ≤ longest_key },
+    ghost closed: { is_closed window.points ≡ true },
+    ghost state: { walk.state ≤ pattern_len },
+}
+
+impl Finder {
+    ghost use Rattle.std.specs.Prelude.{◌≡◌, ℕ, ◌+◌, ◌<◌, ◌≤◌, List, [], ◌∷◌, ◌++◌, length, IfOk, OnOk, OnErr, IfErr, Some, false};
+    ghost use Rattle.arrayvec.specs.ArrayVec.{array_vec_len};
+    ghost use Rattle.nfd_points.specs.Points.{byte_len, points};
+    ghost use Rattle.nfd_points.specs.PointFaults.{point_fault};
+    ghost use Rattle.collation_table.specs.Table.{longest_mapped as longest_key_of};
+    ghost use Rattle.collation_elements.specs.Units.{units};
+    ghost use Rattle.collation_elements.specs.Items.{items as items_of_units};
+    ghost use Rattle.collation_search.specs.Finding.{FinderStandsFor};
+    ghost use Rattle.collation_elements.specs.Clusters.{clusters_from};
+    ghost use Rattle.collation_search.specs.ByClusters.{text_begin, found as all_found};
+    ghost use Rattle.collation_search.specs.Walks.{WalksOver};
+
+    /// A finder at the beginning of a text.
+    pub(crate) fn new<W: Weights>(
+        alloc: Global,
+        table: &W,
+        pattern: &Pattern,
+    ) -> Result<Finder, AllocError>
+        ensures stands { IfOk result (λ f. FinderStandsFor (W.table table.now) pattern.now f [] []) }
+        ensures open { IfOk result (λ f. f.window.has_ended ≡ false) }
+        ensures longest { IfOk result (λ f. f.longest_key ≡ longest_key_of (W.table table.now)) }
+        ensures pattern_len { IfOk result (λ f. f.pattern_len ≡ length pattern.now.keys) }
+    {
+        let longest_key = table.longest_key();
+        Ok(Finder {
+            reorder: Reorder::new(alloc),
+            window: Window::with_capacity(alloc, longest_key)?,
+            weigher: Weigher::new(pattern.strength(), pattern.variable()),
+            walk: Walk::new(alloc, pattern)?,
+            longest_key,
+            pattern_len: pattern.len(),
+            given: ArrayVec::new(),
+            items: ArrayVec::new(),
+        })
+    }
+
+    /// Takes the next character, which stands at a byte offset, and puts the ranges that became known into `found`.
+    ///
+    /// # Errors
+    ///
+    /// That of the reorderer; then nothing was found, and it goes on standing for what it stood for.
+    pub(crate) fn take<W: Weights>(
+        &mut self,
+        table: &W,
+        pattern: &Pattern,
+        c: char,
+        offset: u64,
+        found: &mut Found,
+    ) -> Result<(), PointFault>
+        requires open { self.old.window.has_ended ≡ false }
+        requires longest { self.old.longest_key ≡ longest_key_of (W.table table.now) }
+        requires pattern_len { self.old.pattern_len ≡ length pattern.now.keys }
+        requires empty { found.old.items ≡ [] }
+        ensures stands { (taken : List ℕ) (ranges : List _) → FinderStandsFor (W.table table.now) pattern.now self.old taken ranges
+            → offset ≡ byte_len taken
+            → OnOk result (FinderStandsFor (W.table table.now) pattern.now self.new (taken ++ c ∷ []) (ranges ++ found.new.items)) }
+        ensures kept { (taken : List ℕ) (ranges : List _) → FinderStandsFor (W.table table.now) pattern.now self.old taken ranges
+            → OnErr result (FinderStandsFor (W.table table.now) pattern.now self.new taken ranges) }
+        ensures fault { (taken rest : List ℕ) (ranges : List _) → FinderStandsFor (W.table table.now) pattern.now self.old taken ranges
+            → IfErr result (λ f. point_fault (taken ++ c ∷ rest) ≡ Some (byte_len taken, f.kind)) }
+        ensures none { OnErr result (found.new.items ≡ []) }
+        ensures few { array_vec_len found.new ≤ longest_key_of (W.table table.now) + MOST_GIVEN }
+        ensures open { self.new.window.has_ended ≡ false }
+        ensures longest { self.new.longest_key ≡ self.old.longest_key }
+        ensures pattern_len { self.new.pattern_len ≡ self.old.pattern_len }
+    {
+        closed_points_append();
+        self.reorder.push(c, offset, &mut self.given)?;
+        push_points(&mut self.window, self.given.as_slice());
+        cut_units(
+            table,
+            pattern,
+            &mut self.window,
+            &mut self.weigher,
+            &mut self.walk,
+            &mut self.items,
+            found,
+        );
+        Ok(())
+    }
+
+    /// Ends the text here: puts the ranges that end before its last cluster and were not handed out yet into `found`.
+    pub(crate) fn end<W: Weights>(&mut self, table: &W, pattern: &Pattern, found: &mut Found)
+        requires open { self.old.window.has_ended ≡ false }
+        requires longest { self.old.longest_key ≡ longest_key_of (W.table table.now) }
+        requires pattern_len { self.old.pattern_len ≡ length pattern.now.keys }
+        requires empty { found.old.items ≡ [] }
+        ensures ended { (taken : List ℕ) (ranges : List _) → FinderStandsFor (W.table table.now) pattern.now self.old taken ranges
+            → WalksOver pattern.now.keys
+            (items_of_units (W.table table.now) pattern.now.strength pattern.now.variable false (units (W.table table.now) (points taken)))
+            (ranges ++ found.new.items) self.new.walk }
+        ensures few { array_vec_len found.new ≤ longest_key_of (W.table table.now) + 30 }
+        ensures longest { self.new.longest_key ≡ self.old.longest_key }
+        ensures pattern_len { self.new.pattern_len ≡ self.old.pattern_len }
+    {
+        self.reorder.finish(&mut self.given);
+        push_points(&mut self.window, self.given.as_slice());
+        self.window.end();
+        cut_units(
+            table,
+            pattern,
+            &mut self.window,
+            &mut self.weigher,
+            &mut self.walk,
+            &mut self.items,
+            found,
+        );
+    }
+
+    /// Puts the range that ends with the last cluster, at the byte offset `end`, after those found, if one does.
+    pub(crate) fn last(&self, pattern: &Pattern, end: u64, found: &mut Found)
+        requires { array_vec_len found.old < 128 }
+        ensures { (items : List _) (ranges : List _) → WalksOver pattern.now.keys items (ranges ++ found.old.items) self.now.walk
+            → ranges ++ found.new.items ≡ all_found pattern.now.keys (clusters_from text_begin items) end }
+    {
+        let range = self.walk.end(pattern, end);
+        keep(found, range);
+    }
+}

@@ -1,0 +1,99 @@
+//! From points to ranges: the units that a window gives, their items, and the walk over these.
+ghost use Rattle.std.specs.Prelude.{◌≡◌, ℕ, ◌+◌, ◌≤◌, ◌<◌, List, [], ◌∷◌, ◌++◌, length, All, option_to_list, true, false};
+ghost use Rattle.arrayvec.specs.ArrayVec.{array_vec_len};
+ghost use Rattle.nfd_points.specs.declared.points.Point.{Point};
+ghost use Rattle.nfd_points.specs.Reordering.{IsSoundPoint, is_closed};
+ghost use Rattle.collation_table.specs.Table.{TableMap, longest_mapped};
+ghost use Rattle.collation_elements.specs.declared.keys.Item.{Item};
+ghost use Rattle.collation_elements.specs.ItemParts.{item_starts};
+ghost use Rattle.collation_elements.specs.Windows.{WindowStandsFor};
+ghost use Rattle.collation_search.specs.Matching.{HasMatched};
+ghost use Rattle.collation_search.specs.Walks.{WalksOver};
+
+use crate::walk::Walk;
+use arrayvec::ArrayVec;
+use collation_elements::{Item, MOST_ITEMS, Weigher, Window};
+use collation_pattern::Pattern;
+use collation_table::Weights;
+use nfd_points::Point;
+
+/// The most ranges that one call hands out.
+pub const MOST_FOUND: usize = 128;
+
+/// Ranges that became known: the start and the end of each, in bytes from the beginning of the text, the end not included.
+pub type Found = ArrayVec<(u64, u64), MOST_FOUND>;
+
+/// Puts points at the end of a window.
+pub(crate) fn push_points(window: &mut Window, points: &[Point])
+    requires room { length window.old.points + length points.now ≤ window.old.capacity }
+    requires open { window.old.has_ended ≡ false }
+    requires sound { All IsSoundPoint points.now }
+    ensures points { window.new ≡ record window.old { points = window.old.points ++ points.now } }
+    ensures stands { (table : TableMap) (taken : List Point) (given : List (List Point)) → WindowStandsFor table window.old taken given
+        → WindowStandsFor table window.new (taken ++ points.now) given }
+{
+    for point in points {
+        // field by field: the point was written so a moment ago, and a load across those stores waits for them
+        window.push(Point {
+            cp: point.cp,
+            ccc: point.ccc,
+            offset: point.offset,
+            first: point.first,
+        });
+    }
+}
+
+/// Puts a range, if there is one, after those found.
+pub(crate) fn keep(found: &mut Found, range: Option<(u64, u64)>)
+    requires { array_vec_len found.old + length (option_to_list range) ≤ MOST_FOUND }
+    ensures { found.new.items ≡ found.old.items ++ option_to_list range }
+{
+    if let Some(range) = range {
+        found.push(range);
+    }
+}
+
+/// Walks over the items of one unit.
+#[inline(always)]
+fn walk_over(walk: &mut Walk, pattern: &Pattern, items: &[Item], found: &mut Found)
+    requires state { walk.old.state ≤ length pattern.now.keys }
+    requires room { array_vec_len found.old + length (item_starts items.now) ≤ MOST_FOUND }
+    ensures stands { (before : List _) (ranges : List _) → WalksOver pattern.now.keys before (ranges ++ found.old.items) walk.old
+        → WalksOver pattern.now.keys (before ++ items.now) (ranges ++ found.new.items) walk.new }
+    ensures few { array_vec_len found.new ≤ array_vec_len found.old + length (item_starts items.now) }
+    ensures state { walk.new.state ≤ length pattern.now.keys }
+{
+    for item in items {
+        let range = walk.take(pattern, *item);
+        keep(found, range);
+    }
+}
+
+/// Cuts all units that are decided, and walks over their items.
+pub(crate) fn cut_units<W: Weights>(
+    table: &W,
+    pattern: &Pattern,
+    window: &mut Window,
+    weigher: &mut Weigher,
+    walk: &mut Walk,
+    items: &mut ArrayVec<Item, MOST_ITEMS>,
+    found: &mut Found,
+)
+    requires state { walk.old.state ≤ length pattern.now.keys }
+    requires room { array_vec_len found.old + length window.old.points ≤ MOST_FOUND }
+    ensures stands { (points : List Point) (ranges : List _)
+        → HasMatched (W.table table.now) pattern.now window.old weigher.old walk.old points (ranges ++ found.old.items)
+        → HasMatched (W.table table.now) pattern.now window.new weigher.new walk.new points (ranges ++ found.new.items) }
+    ensures few { array_vec_len found.new + length window.new.points ≤ array_vec_len found.old + length window.old.points }
+    ensures capacity { window.new.capacity ≡ window.old.capacity }
+    ensures ended { window.new.has_ended ≡ window.old.has_ended }
+    ensures rest { window.old.has_ended ≡ false → is_closed window.old.points ≡ true → length window.new.points ≤ longest_mapped (W.table table.now) }
+    ensures last { window.old.has_ended ≡ false → is_closed window.old.points ≡ true → is_closed window.new.points ≡ true }
+    ensures all { window.old.has_ended ≡ true → window.new.points ≡ [] }
+    ensures state { walk.new.state ≤ length pattern.now.keys }
+{
+    while let Some(unit) = window.next_unit(table) {
+        weigher.take(&unit, items);
+        walk_over(walk, pattern, items.as_slice(), found);
+    }
+}

@@ -1,0 +1,243 @@
+//! The search over a stream of bytes.
+ghost use Rattle.std.specs.Prelude.{◌≡◌, ◌+◌, ◌≤◌, length, None, false};
+ghost use Rattle.collation_table.specs.Table.{longest_mapped as longest_key_of};
+
+use crate::bridge::matches_by_clusters;
+use crate::faults::TextFault;
+use crate::finder::Finder;
+use crate::lag::answers_in_time;
+use crate::matching::Found;
+use collation_pattern::Pattern;
+use collation_table::Weights;
+use nfd_points::laws::laws_of_faults;
+use std::alloc::{AllocError, Global};
+use utf8_cut::{Cut, Cutting, any_bytes_may_follow, whole_characters_are_the_longest_text};
+
+/// How many bytes a text may have.
+pub const MOST_BYTES: u64 = 1 << 62;
+
+/// What a search compares with: a table, and a pattern that was compiled with it.
+#[derive(Drop)]
+pub(crate) struct Query<'a, W: Weights> {
+    pub(crate) table: &'a W,
+    pub(crate) pattern: &'a Pattern,
+    /// The number of code points of the table's longest key.
+    pub(crate) longest_key: usize,
+    ghost longest: { longest_key ≡ longest_key_of (W.table table.now) },
+}
+
+/// A search for a pattern in a text whose bytes come in pieces.
+#[derive(Drop)]
+pub struct Search<'a, W: Weights> {
+    pub(crate) query: Query<'a, W>,
+    pub(crate) cut: Cut,
+    pub(crate) finder: Finder,
+    /// The fault at which the text counts as ended.
+    pub(crate) fault: Option<TextFault>,
+    ghost longest: { finder.longest_key ≡ query.longest_key },
+    ghost pattern_len: { finder.pattern_len ≡ length query.pattern.now.keys },
+    ghost open: { fault ≡ None → finder.window.has_ended ≡ false },
+}
+
+impl<'a, W: Weights> Search<'a, W> {
+    ghost use Rattle.std.specs.Prelude.{◌≡◌, ℕ, ◌+◌, ◌≤◌, List, [], ◌∷◌, ◌++◌, length, IfOk, OnOk, OnErr, IfErr, IfSome, Some, None, Err, Contains, true, false};
+    ghost use Rattle.arrayvec.specs.ArrayVec.{array_vec_len};
+    ghost use Rattle.std.specs.Str.{chars};
+    ghost use Rattle.utf8_cut.specs.Characters.{characters_end};
+    ghost use Rattle.collation_table.specs.Table.{longest_mapped as longest_key_of};
+    ghost use Rattle.collation_search.specs.declared.faults.TextFault.{TextFault};
+    ghost use Rattle.collation_search.specs.Finding.{FinderStandsFor};
+    ghost use Rattle.collation_search.specs.Lag.{code_points_from};
+    ghost use Rattle.collation_search.specs.Search.{HasSearched, HasReported, IsCompiledFrom, sought, answer_to, settled_in};
+    ghost use Rattle.collation_search.specs.GoodPrefix.{fault as fault_of, is_good_so_far, whole};
+
+    /// A search at the beginning of a text.
+    ///
+    /// # Errors
+    ///
+    /// Only where memory was refused.
+    pub fn new(alloc: Global, table: &'a W, pattern: &'a Pattern) -> Result<Self, AllocError>
+        ensures stands { IfOk result (λ s. HasSearched s [] []) }
+        ensures sought { IfOk result (λ s. sought s ≡ record { table = W.table table.now; pattern = pattern.now }) }
+    {
+        let _some = pattern.len();
+        let finder = Finder::new(alloc, table, pattern)?;
+        Ok(Search {
+            query: Query {
+                table,
+                pattern,
+                longest_key: table.longest_key(),
+            },
+            cut: Cut::new(),
+            finder,
+            fault: None,
+        })
+    }
+
+    /// Takes one byte of a text that has no fault so far.
+    fn take(&mut self, byte: u8, found: &mut Found) -> Result<(), TextFault>
+        requires none { self.old.fault ≡ None }
+        requires empty { found.old.items ≡ [] }
+        ensures stands { (u : List ℕ) (ranges : List _) → HasSearched self.old u ranges
+            → OnOk result (HasSearched self.new (u ++ byte ∷ []) (ranges ++ found.new.items)) }
+        ensures kept { (u : List ℕ) (ranges : List _) → HasSearched self.old u ranges
+            → OnErr result (FinderStandsFor (W.table self.new.query.table.now) self.new.query.pattern.now self.new.finder (chars (whole u)) ranges) }
+        ensures fault { (u more : List ℕ) (ranges : List _) → HasSearched self.old u ranges
+            → IfErr result (λ f. fault_of (u ++ byte ∷ more) ≡ Some f) }
+        ensures offset { (u : List ℕ) (ranges : List _) → HasSearched self.old u ranges
+            → IfErr result (λ f. f.offset ≡ characters_end u) }
+        ensures closed { (u more : List ℕ) (ranges : List _) → HasSearched self.old u ranges
+            → OnErr result (is_good_so_far (u ++ byte ∷ more) ≡ false) }
+        ensures none { OnErr result (found.new.items ≡ []) }
+        ensures same { self.new.query ≡ self.old.query }
+        ensures good { self.new.fault ≡ None }
+        ensures few { array_vec_len found.new ≤ longest_key_of (W.table self.old.query.table.now) + 34 }
+    {
+        any_bytes_may_follow();
+        whole_characters_are_the_longest_text();
+        if self.cut.count() >= MOST_BYTES {
+            let offset = self.cut.held_start();
+            return Err(TextFault {
+                kind: TextFault::TOO_LONG,
+                offset,
+            });
+        }
+        match self.cut.push(byte) {
+            Cutting::More => Ok(()),
+            Cutting::Bad(offset) => Err(TextFault {
+                kind: TextFault::ILL_FORMED,
+                offset,
+            }),
+            Cutting::Char(c, offset) => {
+                let table = self.query.table;
+                let pattern = self.query.pattern;
+                match self.finder.take(table, pattern, c, offset, found) {
+                    Ok(()) => Ok(()),
+                    Err(fault) => Err(TextFault {
+                        kind: fault.kind,
+                        offset,
+                    }),
+                }
+            }
+        }
+    }
+
+    /// Takes one byte. `found` is emptied, and then holds the ranges that became known, in order: the start and the end of each,
+    /// in bytes from the beginning of the text.
+    ///
+    /// # Errors
+    ///
+    /// The first fault of the text, at which it counts as ended; then `found` has the rest of the settled ranges. From then on
+    /// the same fault, and nothing is found.
+    pub fn step(&mut self, byte: u8, found: &mut Found) -> Result<(), TextFault>
+        ensures stands { (u : List ℕ) (handed : List _) → HasSearched self.old u handed
+            → OnOk result (HasSearched self.new (u ++ byte ∷ []) (handed ++ found.new.items)) }
+        ensures answer { (text u more : List ℕ) (handed : List _) → IsCompiledFrom (sought self.old) text → HasSearched self.old u handed
+            → IfErr result (λ f. answer_to (sought self.old) text (u ++ byte ∷ more) ≡ record { ranges = handed ++ found.new.items; fault = Some f }) }
+        ensures closed { (u more : List ℕ) (handed : List _) → HasSearched self.old u handed → OnErr result (is_good_so_far (u ++ byte ∷ more) ≡ false) }
+        ensures few { length found.new.items ≤ longest_key_of (sought self.old).table + 34 }
+        ensures reported { IfErr result (λ f. HasReported self.new f) }
+        ensures again { (f : TextFault) → HasReported self.old f → (result ≡ Err f) × (found.new.items ≡ []) }
+        ensures sought { sought self.new ≡ sought self.old }
+    {
+        matches_by_clusters(self.query.table);
+        whole_characters_are_the_longest_text();
+        found.clear();
+        if let Some(fault) = self.fault {
+            return Err(fault);
+        }
+        match self.take(byte, found) {
+            Ok(()) => Ok(()),
+            Err(fault) => {
+                let table = self.query.table;
+                let pattern = self.query.pattern;
+                self.fault = Some(fault);
+                self.finder.end(table, pattern, found);
+                Err(fault)
+            }
+        }
+    }
+
+    /// Ends the text: `found` is emptied, and then holds the rest of the ranges.
+    ///
+    /// # Errors
+    ///
+    /// The fault of the text: one that was reported before, or 31 where a character that its end cuts starts.
+    pub fn finish(self, found: &mut Found) -> Result<(), TextFault>
+        ensures good { (text u : List ℕ) (handed : List _) → IsCompiledFrom (sought self.entry) text → HasSearched self.entry u handed
+            → OnOk result (answer_to (sought self.entry) text u ≡ record { ranges = handed ++ found.new.items; fault = None }) }
+        ensures bad { (text u : List ℕ) (handed : List _) → IsCompiledFrom (sought self.entry) text → HasSearched self.entry u handed
+            → IfErr result (λ f. answer_to (sought self.entry) text u ≡ record { ranges = handed ++ found.new.items; fault = Some f }) }
+        ensures again { (f : TextFault) → HasReported self.entry f → (result ≡ Err f) × (found.new.items ≡ []) }
+    {
+        matches_by_clusters(self.query.table);
+        whole_characters_are_the_longest_text();
+        found.clear();
+        let Search {
+            query,
+            cut,
+            mut finder,
+            fault,
+        } = self;
+        if let Some(fault) = fault {
+            return Err(fault);
+        }
+        finder.end(query.table, query.pattern, found);
+        match cut.finish() {
+            None => {
+                let end = cut.count();
+                finder.last(query.pattern, end, found);
+                Ok(())
+            }
+            Some(offset) => Err(TextFault {
+                kind: TextFault::ILL_FORMED,
+                offset,
+            }),
+        }
+    }
+
+    /// Gives the search up, for the text can't be read further: `found` is emptied, and then holds the rest of the settled ranges
+    /// of the whole characters so far. After a fault there are none.
+    pub fn stop(self, found: &mut Found)
+        ensures settled { (text u : List ℕ) (handed : List _) → IsCompiledFrom (sought self.entry) text → HasSearched self.entry u handed
+            → handed ++ found.new.items ≡ settled_in (sought self.entry) text (whole u) }
+        ensures again { (f : TextFault) → HasReported self.entry f → found.new.items ≡ [] }
+    {
+        matches_by_clusters(self.query.table);
+        whole_characters_are_the_longest_text();
+        found.clear();
+        let Search {
+            query,
+            mut finder,
+            fault,
+            ..
+        } = self;
+        if fault.is_none() {
+            finder.end(query.table, query.pattern, found);
+        }
+    }
+
+    /// What the ranges handed out so far are of the answer, whatever bytes follow: they begin its list, and each range of it that
+    /// has 31 code points more than the longest key has at or after its end among the whole characters so far is one of them.
+    pub fn has_handed_out(&self)
+        ensures begins { (text u later : List ℕ) (handed : List (ℕ × ℕ)) → IsCompiledFrom (sought self.now) text → HasSearched self.now u handed
+            → (rest : List (ℕ × ℕ)) × ((answer_to (sought self.now) text (u ++ later)).ranges ≡ handed ++ rest) }
+        ensures in_time { (text u later : List ℕ) (handed : List (ℕ × ℕ)) (range : ℕ × ℕ) → IsCompiledFrom (sought self.now) text → HasSearched self.now u handed
+            → longest_key_of (sought self.now).table + 31 ≤ code_points_from range.1 (chars (whole u))
+            → Contains (answer_to (sought self.now) text (u ++ later)).ranges range → Contains handed range }
+    {
+        matches_by_clusters(self.query.table);
+        answers_in_time(self.query.table);
+        whole_characters_are_the_longest_text();
+        laws_of_faults();
+    }
+
+    /// The fault that was reported, at which the text counts as ended.
+    pub fn reported(&self) -> Option<TextFault>
+        ensures reported { IfSome result (λ f. HasReported self.now f) }
+        ensures none { (u : List ℕ) (handed : List _) → HasSearched self.now u handed → result ≡ None }
+        ensures again { (f : TextFault) → HasReported self.now f → result ≡ Some f }
+    {
+        self.fault
+    }
+}

@@ -1,0 +1,109 @@
+//! The walk over the items of a text by a pattern's borders. It keeps no key of the text: how much of the pattern ends the
+//! keys so far is a number, and of the last keys, as many as the pattern has, it keeps where they stand.
+
+ghost use Rattle.std.specs.Prelude.{ℕ, List, [], ◌++◌, IfOk};
+ghost use Rattle.collation_search.specs.Walks.{WalksOver};
+
+use circular_buffer::HeapCircularBuffer;
+use collation_elements::Item;
+use collation_pattern::Pattern;
+use std::alloc::{AllocError, Global};
+
+/// Where a key of a text stands.
+#[derive(Clone, Copy)]
+pub(crate) struct KeyPlace {
+    /// Where its cluster starts, in bytes from the beginning of the text.
+    pub(crate) start: u64,
+    /// Whether it is the first key of its cluster.
+    pub(crate) is_first: bool,
+}
+
+/// A walk over the items of a text.
+#[derive(Drop)]
+pub(crate) struct Walk {
+    /// How many keys at the beginning of the pattern, at most, end the keys so far.
+    pub(crate) state: usize,
+    /// The places of the last keys, as many as the pattern has.
+    pub(crate) places: HeapCircularBuffer<KeyPlace>,
+    /// Where the current cluster starts, in bytes from the beginning of the text.
+    pub(crate) start: u64,
+    /// Whether the current cluster has keys.
+    pub(crate) has_keys: bool,
+}
+
+impl Walk {
+    ghost use Rattle.std.specs.Prelude.{◌≡◌, ℕ, ◌≤◌, List, [], ◌∷◌, ◌++◌, length, option_to_list, IfOk, IfSome, Some};
+    ghost use Rattle.collation_elements.specs.declared.keys.Item.{Item};
+    ghost use Rattle.collation_elements.specs.declared.keys.Item.TheVariants.{ClusterStart};
+    ghost use Rattle.collation_elements.specs.Clusters.{clusters_from};
+    ghost use Rattle.collation_search.specs.ByClusters.{text_begin, found};
+    ghost use Rattle.collation_search.specs.Walks.{WalksOver};
+
+    /// A walk at the beginning of a text.
+    ///
+    /// # Errors
+    ///
+    /// Only where memory was refused.
+    pub(crate) fn new(alloc: Global, pattern: &Pattern) -> Result<Walk, AllocError>
+        ensures walks { IfOk result (λ walk. WalksOver pattern.now.keys [] [] walk) }
+        ensures within { IfOk result (λ walk. walk.state ≤ length pattern.now.keys) }
+    {
+        Ok(Walk {
+            state: 0,
+            places: HeapCircularBuffer::with_capacity(alloc, pattern.len())?,
+            start: 0,
+            has_keys: false,
+        })
+    }
+
+    /// Takes the next item, and hands out the range that ends where the item's cluster starts, if there is one: its start
+    /// and its end, in bytes from the beginning of the text, the end not included.
+    #[inline(always)]
+    pub(crate) fn take(&mut self, pattern: &Pattern, item: Item) -> Option<(u64, u64)>
+        requires { self.old.state ≤ length pattern.now.keys }
+        ensures walks { (items : List Item) (ranges : List (ℕ × ℕ))
+            → WalksOver pattern.now.keys items ranges self.old → WalksOver pattern.now.keys (items ++ item ∷ []) (ranges ++ option_to_list result) self.new }
+        ensures at_start { IfSome result (λ range. item ≡ ClusterStart range.1) }
+        ensures within { self.new.state ≤ length pattern.now.keys }
+    {
+        match item {
+            // The first cluster has begun with the text.
+            Item::ClusterStart(0) => None,
+            Item::ClusterStart(start) => {
+                let range = self.end(pattern, start);
+                self.start = start;
+                self.has_keys = false;
+                range
+            }
+            Item::Element(key) => {
+                self.state = pattern.advance(self.state, &key);
+                self.places.push_back(KeyPlace {
+                    start: self.start,
+                    is_first: !self.has_keys,
+                });
+                self.has_keys = true;
+                None
+            }
+        }
+    }
+
+    /// The range that ends with the current cluster, if that ends at the byte offset `end`: its start and its end, in bytes
+    /// from the beginning of the text, the end not included.
+    ///
+    /// A cluster without keys ends no range, although it leaves the state as it was.
+    pub(crate) fn end(&self, pattern: &Pattern, end: u64) -> Option<(u64, u64)>
+        ensures found { (items : List Item) (ranges : List (ℕ × ℕ))
+            → WalksOver pattern.now.keys items ranges self.now → ranges ++ option_to_list result ≡ found pattern.now.keys (clusters_from text_begin items) end }
+        ensures at_end { IfSome result (λ range. range.1 ≡ end) }
+    {
+        if !self.has_keys || self.state != pattern.len() {
+            return None;
+        }
+        let first = self.places.front()?;
+        if first.is_first {
+            Some((first.start, end))
+        } else {
+            None
+        }
+    }
+}

@@ -1,0 +1,13 @@
+//! Worked lists of words: which are states, and which kind of fault the others have, proved by computing.
+
+ghost use Rattle.collation_search.specs.WorkedStates.{AcceptedStates, ChangedStates};
+
+/// States of a search for `aa` after some bytes.
+pub fn accepted_states()
+    ensures { AcceptedStates }
+{}
+
+/// The state after `a`, with one word changed.
+pub fn changed_states()
+    ensures { ChangedStates }
+{}

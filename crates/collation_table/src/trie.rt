@@ -1,0 +1,238 @@
+//! The index of a table: from a list of code points to the place of the row that has it as its mapped string.
+//!
+//! The first code point is looked up in pages, each further one as a step from a node. A step is found in an ordered map by its
+//! node and its code point, so no mapped string is compared with another as a whole, and no file can make a look-up slow.
+ghost use Rattle.std.specs.Prelude.{◌≡◌, ℕ, ◌<◌, ◌≤◌, List, [], ◌∷◌, ◌++◌, false, length, is_some, None, Some, OnOk, IfOk};
+ghost use Rattle.collation_table.specs.Table.{TableMap, is_mapped, longest_prefix};
+ghost use Rattle.collation_table.specs.Trie.{at, place_of, seek, continues, Leads, IsTrie, IsMarked, IsSet};
+
+use crate::pages::{Entry, NO_ENTRY, PageEntry, Pages, Place};
+use std::alloc::{AllocError, Global};
+use std::collections::BTreeMap;
+
+/// Steps from nodes. Node 0 is the root.
+#[derive(Drop)]
+pub(crate) struct Trie {
+    pages: Pages,
+    steps: BTreeMap<(u32, u32), Entry>,
+    nodes: u32,
+}
+
+impl Trie {
+    /// Without mapped strings. Takes no memory.
+    pub fn new(alloc: Global) -> Trie
+        ensures trie { IsTrie result }
+        ensures empty { (string : List ℕ) → place_of result string ≡ None }
+    {
+        Trie {
+            pages: Pages::new(alloc),
+            steps: BTreeMap::new(alloc),
+            nodes: 1,
+        }
+    }
+
+    /// Where a code point leads after a node. One that continues no mapped string leads nowhere, and is not looked for.
+    fn step(&self, node: u32, cp: u32) -> Entry
+        requires { IsMarked self.now }
+        ensures { result ≡ at self.now node cp }
+    {
+        let page_entry = self.pages.get(cp);
+        if node == 0 {
+            return page_entry.entry;
+        }
+        if !page_entry.continues {
+            return NO_ENTRY;
+        }
+        match self.steps.get(&(node, cp)) {
+            Some(entry) => *entry,
+            None => NO_ENTRY,
+        }
+    }
+
+    /// Sets where a code point leads after a node.
+    fn set_step(
+        &mut self,
+        alloc: Global,
+        node: u32,
+        cp: u32,
+        entry: Entry,
+    ) -> Result<(), AllocError>
+        requires { IsMarked self.old }
+        ensures set { OnOk result (IsSet (at self.old) (at self.new) node cp entry) }
+        ensures marked { OnOk result (IsMarked self.new) }
+        ensures nodes { OnOk result (self.new.nodes ≡ self.old.nodes) }
+    {
+        let page_entry = self.pages.get(cp);
+        if node == 0 {
+            self.pages.set(
+                alloc,
+                cp,
+                PageEntry {
+                    entry,
+                    continues: page_entry.continues,
+                },
+            )?;
+            return Ok(());
+        }
+        self.pages.set(
+            alloc,
+            cp,
+            PageEntry {
+                entry: page_entry.entry,
+                continues: true,
+            },
+        )?;
+        self.steps.insert((node, cp), entry)?;
+        Ok(())
+    }
+
+    /// Adds a node to which a code point leads after another.
+    fn add_node(
+        &mut self,
+        alloc: Global,
+        node: u32,
+        cp: u32,
+        place: Option<Place>,
+    ) -> Result<u32, AllocError>
+        requires trie { IsTrie self.old }
+        requires used { node < self.old.nodes }
+        requires none { at self.old node cp ≡ record { place = place; node = None } }
+        ensures trie { OnOk result (IsTrie self.new) }
+        ensures used { IfOk result (λ next. next < self.new.nodes) }
+        ensures same { OnOk result ((string : List ℕ) → place_of self.new string ≡ place_of self.old string) }
+        ensures leads { IfOk result (λ next. (prefix : List ℕ) → Leads (at self.old) 0 prefix node → Leads (at self.new) 0 (prefix ++ cp ∷ []) next) }
+    {
+        let next = self.nodes;
+        let Some(nodes) = next.checked_add(1) else {
+            return Err(AllocError);
+        };
+        self.set_step(
+            alloc,
+            node,
+            cp,
+            Entry {
+                place,
+                node: Some(next),
+            },
+        )?;
+        self.nodes = nodes;
+        Ok(next)
+    }
+
+    /// The node to which a code point leads after another, which is added where there is none.
+    fn follow(&mut self, alloc: Global, node: u32, cp: u32) -> Result<u32, AllocError>
+        requires trie { IsTrie self.old }
+        requires used { node < self.old.nodes }
+        ensures trie { OnOk result (IsTrie self.new) }
+        ensures used { IfOk result (λ next. next < self.new.nodes) }
+        ensures same { OnOk result ((string : List ℕ) → place_of self.new string ≡ place_of self.old string) }
+        ensures leads { IfOk result (λ next. (prefix : List ℕ) → Leads (at self.old) 0 prefix node → Leads (at self.new) 0 (prefix ++ cp ∷ []) next) }
+    {
+        let entry = self.step(node, cp);
+        match entry.node {
+            Some(next) => Ok(next),
+            None => self.add_node(alloc, node, cp, entry.place),
+        }
+    }
+
+    /// The node to which code points lead, made where there is none.
+    fn follow_all(&mut self, alloc: Global, cps: &[u32]) -> Result<u32, AllocError>
+        requires trie { IsTrie self.old }
+        ensures trie { OnOk result (IsTrie self.new) }
+        ensures used { IfOk result (λ node. node < self.new.nodes) }
+        ensures same { OnOk result ((string : List ℕ) → place_of self.new string ≡ place_of self.old string) }
+        ensures leads { IfOk result (λ node. Leads (at self.new) 0 cps.now node) }
+    {
+        let mut node = 0;
+        for cp in cps {
+            node = self.follow(alloc, node, *cp)?;
+        }
+        Ok(node)
+    }
+
+    /// Puts a mapped string at a place.
+    pub fn insert(&mut self, alloc: Global, string: &[u32], place: Place) -> Result<(), AllocError>
+        requires trie { IsTrie self.old }
+        requires some { 0 < length string.now }
+        ensures trie { OnOk result (IsTrie self.new) }
+        ensures here { OnOk result (place_of self.new string.now ≡ Some place) }
+        ensures others { OnOk result ((q : List ℕ) → ((q ≡ string.now) → ⊥) → place_of self.new q ≡ place_of self.old q) }
+    {
+        let last = string.len() - 1;
+        let node = self.follow_all(alloc, &string[..last])?;
+        let entry = self.step(node, string[last]);
+        self.set_step(
+            alloc,
+            node,
+            string[last],
+            Entry {
+                place: Some(place),
+                node: entry.node,
+            },
+        )?;
+        Ok(())
+    }
+
+    /// The place of a mapped string.
+    pub fn place(&self, string: &[u32]) -> Option<Place>
+        requires { IsTrie self.now }
+        ensures { result ≡ place_of self.now string.now }
+    {
+        let [first, rest @ ..] = string else {
+            return None;
+        };
+        let mut entry = self.step(0, *first);
+        for cp in rest {
+            match entry.node {
+                Some(node) => entry = self.step(node, *cp),
+                None => return None,
+            }
+        }
+        entry.place
+    }
+
+    /// The greatest number of code points at which a prefix of `points` is mapped, and 0 if none is. Looks at no code point
+    /// after the longest mapped string that can still match.
+    pub fn longest(&self, points: &[u32]) -> usize
+        requires { IsTrie self.now }
+        ensures value { (T : TableMap) → ((string : List ℕ) → is_mapped T string ≡ is_some (place_of self.now string)) → result ≡ longest_prefix T points.now }
+        ensures within { result ≤ length points.now }
+    {
+        let [first, rest @ ..] = points else {
+            return 0;
+        };
+        let mut entry = self.step(0, *first);
+        let mut longest = 0;
+        if entry.place.is_some() {
+            longest = 1;
+        }
+        let mut length = 1;
+        for cp in rest {
+            match entry.node {
+                Some(node) => entry = self.step(node, *cp),
+                None => return longest,
+            }
+            length += 1;
+            if entry.place.is_some() {
+                longest = length;
+            }
+        }
+        longest
+    }
+
+    /// Whether a mapped string of two or more code points begins with `cp`.
+    pub fn begins_longer_string(&self, cp: u32) -> bool
+        requires { IsTrie self.now }
+        ensures { result ≡ false → (d : ℕ) (rest : List ℕ) → place_of self.now (cp ∷ d ∷ rest) ≡ None }
+    {
+        self.pages.get(cp).entry.node.is_some()
+    }
+
+    /// Whether `cp` stands after the first place in a mapped string.
+    pub fn continues_string(&self, cp: u32) -> bool
+        requires { IsTrie self.now }
+        ensures { result ≡ false → (first : ℕ) (prefix rest : List ℕ) → place_of self.now (first ∷ (prefix ++ cp ∷ rest)) ≡ None }
+    {
+        self.pages.get(cp).continues
+    }
+}
