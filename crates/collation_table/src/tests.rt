@@ -368,11 +368,14 @@ fn reads_lines_of_any_length(rt: HostRuntime) -> Result<(), Fail> {
     Ok(())
 }
 
-/// The row with this number in a large table: code points of a plane without weights of their own, and after each tenth one
+/// How many rows a large table has, besides those of two code points.
+const MANY: u32 = 100_000;
+
+/// A large table: code points of a plane without weights of their own, and after each tenth one
 /// a mapped string of two.
-fn many_rows(alloc: Global, rows: u32) -> Result<String, AllocError> {
+fn many_rows(alloc: Global) -> Result<String, AllocError> {
     let mut file = String::new(alloc);
-    for number in 0..rows {
+    for number in 0..MANY {
         let point = 0x30000 + number;
         let weight = 1 + number % 0x7000;
         writeln!(file, "{point:04X} ; [.{weight:04X}.0020.0002]")?;
@@ -388,23 +391,23 @@ fn many_rows(alloc: Global, rows: u32) -> Result<String, AllocError> {
 
 #[test]
 fn answers_by_many_rows(rt: HostRuntime) -> Result<(), Fail> {
-    let rows = 100_000;
-    let file = many_rows(rt.alloc(), rows).or_else(|_| many_rows(rt.alloc(), rows))?;
+    let file = many_rows(rt.alloc()).or_else(|_| many_rows(rt.alloc()))?;
     let table = read_again(rt.alloc(), file.as_bytes())?;
     assert_eq!(rt; table.longest_key(), 2);
     for number in [0, 1, 9, 10, 28_671, 28_672, 65_536, 99_990, 99_999] {
-        let point = 0x30000 + number;
+        let point = 0x30000u32.wrapping_add(number);
         let lengths = if number % 10 == 0 { 2 } else { 1 };
         assert_eq!(rt; table.longest(&[point, 0x61, 0x61]), lengths, "{number}");
         let row = table.row(&[point]).ok_or("a row")?;
         assert_eq!(rt; row.len(), 1, "{number}");
-        assert_eq!(rt; row[0].w1 as u32, 1 + number % 0x7000, "{number}");
+        let weight = row.first().map_or(0, |e| u32::from(e.w1));
+        assert_eq!(rt; weight, 1 + number % 0x7000, "{number}");
         assert_eq!(rt;
             table.row(&[point, 0x61]).is_some(),
             lengths == 2,
             "{number}"
         );
     }
-    assert_eq!(rt; table.longest(&[0x30000 + rows, 0x61]), 0);
+    assert_eq!(rt; table.longest(&[0x30000 + MANY, 0x61]), 0);
     Ok(())
 }
