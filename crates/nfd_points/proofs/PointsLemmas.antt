@@ -1,10 +1,10 @@
 -- Laws of the points of a list of code points: two parts, a shift of offsets, the code points and classes, ASCII.
-use Rattle.std.proofs.Common.{◌≡◌, ℕ, ◌+◌, ◌<◌, Bool, true, false, List, [], ◌∷◌, ◌++◌, length, map, flat_map, encode_utf8, encode_utf8_all, All, refl, sym, ap, ap₂, ◌∙◌, arith, inl, inr, add-zero, zero-add, length-append, add_assoc}
+use Rattle.std.proofs.Common.{◌≡◌, ℕ, ◌+◌, ◌<◌, ◌≤◌, Bool, true, false, List, [], ◌∷◌, ◌++◌, length, map, flat_map, encode_utf8, encode_utf8_all, All, refl, sym, ap, ap₂, ◌∙◌, arith, inl, inr, add-zero, zero-add, length-append, add_assoc}
 use borrow.Table.Char.{scalar_below}
 use Rattle.std.proofs.lemmas.Bool.{cases_Bool}
 use Rattle.std.proofs.lemmas.List.{append_assoc, map-append}
 use Rattle.std.proofs.lemmas.List.Elements.{All-nil, All-cons, All-head, All-tail, All-append}
-use Rattle.std.proofs.lemmas.Str.{length-encode}
+use Rattle.std.proofs.lemmas.Str.{length-encode, len_utf8_bounds}
 use Rattle.std.specs.Char.{len_utf8, IsScalar}
 use Rattle.ucd_normal.specs.declared.forms.Form.TheVariants.{Nfd}
 use Rattle.unicode_normalization.specs.Decompose.{decompose}
@@ -71,7 +71,7 @@ code_points-points_at start is_first (d ∷ ds) = ap (λ l. d ∷ l) (code_point
 abbrev pub HasClass : Point → Type 0
 HasClass p = p.ccc ≡ canonical_combining_class p.cp
 
-HasClass-points_at : (start : ℕ) (is_first : Bool) (ds : List ℕ) → All HasClass (points_at start is_first ds)
+pub HasClass-points_at : (start : ℕ) (is_first : Bool) (ds : List ℕ) → All HasClass (points_at start is_first ds)
 unfolding points_at
 HasClass-points_at start is_first [] = All-nil HasClass
 HasClass-points_at start is_first (d ∷ ds) = All-cons HasClass _ _ refl (HasClass-points_at start false ds)
@@ -159,6 +159,24 @@ pub ordered-shift : (by : ℕ) (ps : List Point) → ordered (map (shifted by) p
 unfolding ordered
 ordered-shift by [] = refl
 ordered-shift by (p ∷ ps) = ap (sink (shifted by p)) (ordered-shift by ps) ∙ sink-shift by p (ordered ps)
+
+below-points_at : (n start : ℕ) (is_first : Bool) (ds : List ℕ) → start < n → All (λ (p : Point). p.offset < n) (points_at start is_first ds)
+unfolding points_at
+below-points_at n start is_first [] h = All-nil (λ (p : Point). p.offset < n)
+below-points_at n start is_first (d ∷ ds) h = All-cons (λ (p : Point). p.offset < n) _ _ h (below-points_at n start false ds h)
+
+below-points_from : (n start : ℕ) (cs : List ℕ) → start + byte_len cs ≤ n → All (λ (p : Point). p.offset < n) (points_from start cs)
+unfolding points_from
+below-points_from n start [] h = All-nil (λ (p : Point). p.offset < n)
+below-points_from n start (c ∷ cs) h =
+    let some : 1 ≤ len_utf8 c = (len_utf8_bounds c).0 in
+    let parts : byte_len (c ∷ cs) ≡ len_utf8 c + byte_len cs = byte_len-cons c cs in
+    All-append (λ (p : Point). p.offset < n) _ _
+    (below-points_at n start true (decomposition c) (omega (arith, h, some, parts)))
+    (below-points_from n (start + len_utf8 c) cs (omega (arith, h, parts)))
+
+pub below-points : (cs : List ℕ) → All (λ (p : Point). p.offset < byte_len cs) (points cs)
+below-points cs = All-ordered (λ (p : Point). p.offset < byte_len cs) _ (below-points_from (byte_len cs) 0 cs (omega arith))
 
 -- ---- ASCII
 

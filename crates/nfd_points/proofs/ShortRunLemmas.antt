@@ -46,7 +46,7 @@ short-sink run p (q ∷ qs) of_p rest =
           ∙ sym (short-mark run p.cp (code_points (q ∷ qs)) mark_p)
     ]
 
-short-ordered : (run : ℕ) (ps : List Point) → All HasClass ps → has_short_runs run (code_points (ordered ps)) ≡ has_short_runs run (code_points ps)
+pub short-ordered : (run : ℕ) (ps : List Point) → All HasClass ps → has_short_runs run (code_points (ordered ps)) ≡ has_short_runs run (code_points ps)
 short-ordered run [] h = ap (λ l. has_short_runs run (code_points l)) ordered-nil
 short-ordered run (p ∷ ps) h =
     let rest = All-tail HasClass p ps h in

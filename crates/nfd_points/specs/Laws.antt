@@ -1,5 +1,5 @@
 -- Laws of points and of their faults, which the functions of src/laws.rt promise.
-use Rattle.std.specs.Prelude.{◌≡◌, ℕ, ◌+◌, ◌<◌, ◌≤◌, Bool, true, false, List, [], ◌∷◌, ◌++◌, length, map, flat_map, encode_utf8_all, Some, None, All}
+use Rattle.std.specs.Prelude.{◌≡◌, ℕ, ◌+◌, ◌<◌, ◌≤◌, Bool, true, false, List, [], ◌∷◌, ◌++◌, length, map, flat_map, encode_utf8_all, Some, None, All, Contains}
 use Rattle.std.specs.Char.{IsScalar}
 use Rattle.std.specs.List.{list_all}
 use Rattle.unicode_normalization.specs.Forms.{nfd}
@@ -9,7 +9,7 @@ use Rattle.nfd_points.specs.declared.limits.TheConstants.{MOST_WAITING, MOST_DEC
 use Rattle.nfd_points.specs.declared.points.Point.{Point}
 use Rattle.nfd_points.specs.Points.{ascii_point, decomposition, byte_len, points_of, points_from, points, is_starter, begins_with_starter, is_in_order, ordered, shifted}
 use Rattle.nfd_points.specs.PointFaults.{run_after, fault_of_code_point, fault_from, point_fault}
-use Rattle.nfd_points.specs.Reordering.{Waiting, code_points, IsSoundPoint, HasReordered, up_to_last_starter}
+use Rattle.nfd_points.specs.Reordering.{Waiting, code_points, is_closed, IsSoundPoint, HasReordered, up_to_last_starter}
 
 -- ---- numbers of points
 
@@ -49,6 +49,10 @@ PointsOfParts = (start : ℕ) (xs ys : List ℕ) → points_from start (xs ++ ys
 
 abbrev pub PointsAreShifted : Type 0
 PointsAreShifted = (by start : ℕ) (cs : List ℕ) → points_from (by + start) cs ≡ map (shifted by) (points_from start cs)
+
+-- each point comes from a code point that begins within the bytes of the text
+abbrev pub OffsetsAreWithin : Type 0
+OffsetsAreWithin = (cs : List ℕ) → All (λ p. p.offset < byte_len cs) (points cs)
 
 -- where the second text begins with a starter, its points are its own, after the bytes of the first
 abbrev pub TextsPart : Type 0
@@ -92,6 +96,10 @@ OrderingIsShifted = (by : ℕ) (ps : List Point) → ordered (map (shifted by) p
 abbrev pub OrderingKeeps : Type 0
 OrderingKeeps = (test : Point → Bool) (ps : List Point) → list_all test ps ≡ true → list_all test (ordered ps) ≡ true
 
+-- each of the points in order was there before
+abbrev pub OrderingAddsNone : Type 0
+OrderingAddsNone = (ps : List Point) → All (Contains ps) (ordered ps)
+
 abbrev pub OrderingCounts : Type 0
 OrderingCounts = (ps : List Point) → length (ordered ps) ≡ length ps
 
@@ -104,6 +112,13 @@ IsCut ps before s following =
 abbrev pub StartersStay : Type 0
 StartersStay =
     (ps before : List Point) (s : Point) (following : List Point) → is_starter s ≡ true → ordered ps ≡ before ++ s ∷ following → IsCut ps before s following
+
+-- ---- runs of non-starters
+
+-- after points that end in a starter a run begins anew
+abbrev pub ShortRunsJoin : Type 0
+ShortRunsJoin =
+    (xs ys : List Point) → All IsSoundPoint xs → is_closed xs ≡ true → has_short_runs 0 (code_points xs) ≡ true → has_short_runs 0 (code_points ys) ≡ true → has_short_runs 0 (code_points (xs ++ ys)) ≡ true
 
 -- ---- faults
 

@@ -1,7 +1,7 @@
 //! Laws of points and of their faults, each the promise of a function that does nothing.
 //!
 //! They hold for every list of code points, also for numbers that are no scalar values.
-ghost use Rattle.nfd_points.specs.Laws.{Limits, DecompositionsAreShort, OthersAreStarters, AsciiIsItself, CodesAreNfd, PointsAreSound, BytesAreCounted, BytesOfParts, PointsOfParts, PointsAreShifted, TextsPart, TextsAreCut, OrderingIsInOrder, OrderedStays, OrderingOfPrefixes, OrderingStopsAtStarters, StartersStay, OrderingIsShifted, OrderingKeeps, OrderingCounts, FaultAfter, FaultInPrefix, FaultsAreRuns, GoodRunsAreShort, ShortRunsAreGood, LongRunsAreFaults, GivenAreFinal, GivenBegin, WaitingAreOthers};
+ghost use Rattle.nfd_points.specs.Laws.{Limits, DecompositionsAreShort, OthersAreStarters, AsciiIsItself, CodesAreNfd, PointsAreSound, BytesAreCounted, BytesOfParts, PointsOfParts, PointsAreShifted, OffsetsAreWithin, TextsPart, TextsAreCut, OrderingIsInOrder, OrderedStays, OrderingOfPrefixes, OrderingStopsAtStarters, StartersStay, OrderingIsShifted, OrderingKeeps, OrderingAddsNone, OrderingCounts, ShortRunsJoin, FaultAfter, FaultInPrefix, FaultsAreRuns, GoodRunsAreShort, ShortRunsAreGood, LongRunsAreFaults, GivenAreFinal, GivenBegin, WaitingAreOthers};
 
 /// The most points that wait, of one decomposition, and that one call gives.
 pub fn limits()
@@ -23,6 +23,7 @@ pub fn laws_of_points()
     ensures bytes_of_parts { BytesOfParts }
     ensures parts { PointsOfParts }
     ensures shifted { PointsAreShifted }
+    ensures offsets { OffsetsAreWithin }
     ensures texts { TextsPart }
     ensures cuts { TextsAreCut }
 {}
@@ -36,7 +37,13 @@ pub fn laws_of_ordering()
     ensures starters { StartersStay }
     ensures shifted { OrderingIsShifted }
     ensures keeps { OrderingKeeps }
+    ensures adds_none { OrderingAddsNone }
     ensures counts { OrderingCounts }
+{}
+
+/// Where no more than 30 non-starters follow each other.
+pub fn laws_of_runs()
+    ensures join { ShortRunsJoin }
 {}
 
 /// The first fault of a text, by its parts, and by the runs of non-starters in its joined decompositions.

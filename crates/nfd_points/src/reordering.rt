@@ -4,7 +4,7 @@ ghost use Rattle.arrayvec.specs.ArrayVec.{array_vec_len};
 ghost use Rattle.unicode_normalization.specs.StreamSafe.{has_short_runs};
 ghost use Rattle.nfd_points.specs.Points.{ascii_point, byte_len, points_at, points_of, points, ordered};
 ghost use Rattle.nfd_points.specs.PointFaults.{run_after, fault_of_code_point, point_fault};
-ghost use Rattle.nfd_points.specs.Reordering.{Waiting, IsSoundPoint, IsHeld, is_closed, HasReordered, rises_from};
+ghost use Rattle.nfd_points.specs.Reordering.{Waiting, code_points, IsSoundPoint, IsHeld, is_closed, HasReordered, rises_from};
 
 use crate::decomposing::fault_of;
 use crate::faults::PointFault;
@@ -68,6 +68,8 @@ impl Reorder {
         ensures ascii_given { c < 128 → out.new.items ≡ self.old.held ++ ascii_point offset c ∷ [] }
         ensures pushed { OnOk result (out.new.items ++ self.new.held ≡ ordered (self.old.held ++ points_of offset c)) }
         ensures closed { is_closed out.new.items ≡ true }
+        // no more than `MOST_WAITING` non-starters follow each other
+        ensures short { has_short_runs 0 (code_points out.new.items) ≡ true }
         ensures held { IsHeld self.new.held }
         ensures sound { All IsSoundPoint out.new.items }
         ensures unchanged { OnErr result ((self.new ≡ self.old) × (out.new.items ≡ [])) }

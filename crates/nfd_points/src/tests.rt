@@ -8,7 +8,7 @@ ghost use Rattle.nfd_points.specs.WorkedPoints.{worked_point};
 
 use crate::laws::{
     laws_of_decompositions, laws_of_faults, laws_of_ordering, laws_of_points, laws_of_reordering,
-    limits,
+    laws_of_runs, limits,
 };
 use crate::{MOST_GIVEN, Point, PointFault, Reorder};
 use arrayvec::ArrayVec;
@@ -52,6 +52,7 @@ fn definitions_compute() {
     laws_of_decompositions();
     laws_of_points();
     laws_of_ordering();
+    laws_of_runs();
     laws_of_faults();
     laws_of_reordering();
 }

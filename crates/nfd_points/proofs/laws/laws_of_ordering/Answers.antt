@@ -1,4 +1,6 @@
-use Rattle.nfd_points.proofs.OrderingLemmas.{is_in_order-ordered, ordered-ordered, ordered-prefix, ordered-parts, list_all-ordered, length-ordered}
+use Rattle.std.proofs.lemmas.List.Elements.{All-contains_itself}
+use Rattle.std.specs.List.{Contains}
+use Rattle.nfd_points.proofs.OrderingLemmas.{is_in_order-ordered, ordered-ordered, ordered-prefix, ordered-parts, list_all-ordered, length-ordered, All-ordered}
 use Rattle.nfd_points.proofs.PointsLemmas.{ordered-shift}
 use Rattle.nfd_points.proofs.SplitLemmas.{starters-stay}
 use Rattle.nfd_points.proofs.laws.laws_of_ordering.Goals as goal
@@ -26,3 +28,6 @@ returns-clause-counts c = length-ordered
 
 pub returns-clause-starters : goal.returns-clause-starters
 returns-clause-starters c = starters-stay
+
+pub returns-clause-adds_none : goal.returns-clause-adds_none
+returns-clause-adds_none c = λ ps. All-ordered (Contains ps) ps (All-contains_itself ps)

@@ -1,4 +1,4 @@
-use Rattle.nfd_points.proofs.PointsLemmas.{code_points-points, IsSoundPoint-points, byte_len-append, byte_len-encode, points_from-append, points_from-shift, points-parts}
+use Rattle.nfd_points.proofs.PointsLemmas.{code_points-points, IsSoundPoint-points, byte_len-append, byte_len-encode, points_from-append, points_from-shift, points-parts, below-points}
 use Rattle.nfd_points.proofs.CutLemmas.{texts-cut}
 use Rattle.nfd_points.proofs.laws.laws_of_points.Goals as goal
 
@@ -25,3 +25,6 @@ returns-clause-bytes_of_parts c = byte_len-append
 
 pub returns-clause-cuts : goal.returns-clause-cuts
 returns-clause-cuts c = texts-cut
+
+pub returns-clause-offsets : goal.returns-clause-offsets
+returns-clause-offsets c = below-points

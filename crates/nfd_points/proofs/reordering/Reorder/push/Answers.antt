@@ -5,11 +5,12 @@ use Rattle.unicode_normalization.specs.StreamSafe.{has_short_runs}
 use Rattle.nfd_points.specs.declared.points.Point.{Point}
 use Rattle.nfd_points.specs.Points.{ordered}
 use Rattle.nfd_points.specs.PointFaults.{run_after, fault_of_code_point, part_fault}
-use Rattle.nfd_points.specs.Reordering.{IsHeld, IsSoundPoint, is_closed}
+use Rattle.nfd_points.specs.Reordering.{code_points, IsHeld, IsSoundPoint, is_closed}
 use Rattle.nfd_points.proofs.DecompositionLemmas.{decomposition-decompose}
-use Rattle.nfd_points.proofs.RunLemmas.{fault_of_code_point-parts}
+use Rattle.nfd_points.proofs.RunLemmas.{fault_of_code_point-parts, short-nil}
 use Rattle.nfd_points.proofs.ReorderingLemmas.{is_closed-nil, stops}
 use Rattle.nfd_points.proofs.PushLemmas.{IsPushed, IsPushed-parts, IsPushed-all, IsPushed-carries, ascii-pushed, ascii-given, ascii-short, ascii-fault, ascii-sound}
+use Rattle.nfd_points.proofs.GivenRunLemmas.{short-given}
 use Rattle.nfd_points.proofs.reordering.Reorder.push.Goals as goal
 
 -- ---- ASCII
@@ -50,6 +51,11 @@ returns-then-is_ascii-clause-carries c =
     IsPushed-carries c.args.self.now c.take.new.self c.take.new.out.items c.args.offset c.args.c (ascii c)
     (ascii-fault (length c.args.self.now.held) c.args.c (ltb-true c.args.c 128 (sym c.is_ascii.ensures ∙ c.if-is_ascii.true)))
 
+pub returns-then-is_ascii-clause-short : goal.returns-then-is_ascii-clause-short
+returns-then-is_ascii-clause-short c =
+    short-given c.args.self.now.held c.take.new.self.held c.take.new.out.items c.args.offset c.args.c (subst (λ w. IsHeld w.held) c.self.view_is c.self.invariant) (ascii c)
+    (ascii-fault (length c.args.self.now.held) c.args.c (ltb-true c.args.c 128 (sym c.is_ascii.ensures ∙ c.if-is_ascii.true)))
+
 -- ---- any other code point
 
 -- what the code finds of its decomposition is what stands at the code point
@@ -63,6 +69,9 @@ returns-in-Some-clause-fault c =
 
 pub returns-in-Some-clause-closed : goal.returns-in-Some-clause-closed
 returns-in-Some-clause-closed c = ap is_closed c.clear.ensures ∙ is_closed-nil
+
+pub returns-in-Some-clause-short : goal.returns-in-Some-clause-short
+returns-in-Some-clause-short c = ap (λ l. has_short_runs 0 (code_points l)) c.clear.ensures ∙ short-nil 0
 
 pub returns-in-Some-clause-stops : goal.returns-in-Some-clause-stops
 returns-in-Some-clause-stops c taken given rest h =
@@ -81,6 +90,13 @@ returns-clause-pushed c =
 
 pub returns-clause-closed : goal.returns-clause-closed
 returns-clause-closed c = c.take_all.ensures.closed (ap is_closed c.clear.ensures ∙ is_closed-nil)
+
+pub returns-clause-short : goal.returns-clause-short
+returns-clause-short c =
+    short-given c.args.self.now.held c.take_all.new.self.held c.take_all.new.out.items c.args.offset c.args.c (subst (λ w. IsHeld w.held) c.self.view_is c.self.invariant)
+    (IsPushed-parts c.args.self.now.held c.take_all.new.self.held c.clear.new.self.items c.take_all.new.out.items c.decomposition-parts.result.now c.args.offset c.args.c
+    c.clear.ensures (c.decomposition-parts.ensures.value ∙ sym (decomposition-decompose c.args.c)) c.take_all.ensures.held c.take_all.ensures.moved c.take_all.ensures.closed c.take_all.ensures.run)
+    (returns-clause-fault c)
 
 pub returns-clause-carries : goal.returns-clause-carries
 returns-clause-carries c =
