@@ -5,6 +5,7 @@ pub mod Alone
 pub mod Deciding
 pub mod Joining
 pub mod Cuts
+pub mod LeftPoints
 pub mod Queues
 pub mod ItemLaws
 pub mod ContextBoundaries

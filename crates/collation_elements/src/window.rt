@@ -1,10 +1,11 @@
 //! A window of points, from whose front units are cut as soon as what follows cannot change them (UTS #10, S2.1).
 ghost use Rattle.std.specs.Prelude.{◌≡◌, ◌+◌, ◌<◌, ◌≤◌, ◌↔◌, ◌==◌, ℕ, List, [], ◌∷◌, ◌++◌, Bool, true, false, length, take, drop, slice_get, is_some, Some, if◌then◌else◌, IsTrue, IsSome, IfSome, OnSome, IfNone, IfOk};
-ghost use Rattle.std.specs.List.{list_any};
+ghost use Rattle.std.specs.List.{list_any, All, Contains};
+ghost use Rattle.unicode_normalization.specs.StreamSafe.{has_short_runs};
 ghost use Rattle.nfd_points.specs.declared.points.Point.{Point};
 ghost use Rattle.nfd_points.specs.declared.limits.TheConstants.{MOST_GIVEN};
 ghost use Rattle.nfd_points.specs.Points.{is_starter};
-ghost use Rattle.nfd_points.specs.Reordering.{is_closed};
+ghost use Rattle.nfd_points.specs.Reordering.{IsSoundPoint, is_closed};
 ghost use Rattle.circular_buffer.specs.Buffer.{buffer};
 ghost use Rattle.collation_table.specs.Table.{TableMap, longest_mapped, is_mapped};
 ghost use Rattle.collation_elements.specs.Units.{code_points, extended, prefix_length};
@@ -113,6 +114,11 @@ impl Window {
             OnSome result ((taken : List Point) (given : List (List Point))
             → WindowStandsFor (W.table table.now) self.old taken given
             → WindowStandsFor (W.table table.now) self.new taken (given ++ cut.unit ∷ [])) }
+        // the points left were all there, and a run of non-starters among them is no longer
+        ensures kept { OnSome result (All (Contains self.old.points) self.new.points) }
+        ensures short { OnSome result (All IsSoundPoint self.old.points
+            → has_short_runs 0 (code_points self.old.points) ≡ true
+            → has_short_runs 0 (code_points self.new.points) ≡ true) }
         ensures fewer { OnSome result (length self.new.points < length self.old.points) }
         ensures room { IfNone result (self.old.has_ended ≡ false → is_closed self.old.points ≡ true
             → length self.old.points ≤ longest_mapped (W.table table.now)) }

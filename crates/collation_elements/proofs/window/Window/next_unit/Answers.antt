@@ -1,11 +1,15 @@
 use Rattle.std.proofs.Common.{◌≡◌, ◌<◌, ◌≤◌, false, true, List, [], ◌∷◌, ◌++◌, length, is_some, refl, sym, ◌∙◌, ap, subst, arith}
-use Rattle.nfd_points.specs.Reordering.{is_closed}
+use Rattle.std.proofs.lemmas.List.Elements.{All-same, All-contains_itself}
+use Rattle.std.specs.List.{All, Contains}
+use Rattle.unicode_normalization.specs.StreamSafe.{has_short_runs}
+use Rattle.nfd_points.specs.Reordering.{IsSoundPoint, code_points, is_closed}
 use Rattle.nfd_points.specs.declared.points.Point.{Point}
 use Rattle.circular_buffer.specs.Buffer.{Buffer}
 use Rattle.collation_table.specs.Table.{longest_mapped}
 use Rattle.collation_elements.specs.Windows.{Held, is_decided, next_cut, WindowStandsFor}
 use Rattle.collation_elements.proofs.Cutting.{decided-some, length-next_cut, length-undecided, is_closed-decided}
 use Rattle.collation_elements.proofs.Cuts.{IfNone-from, WindowStandsFor-cut}
+use Rattle.collation_elements.proofs.LeftPoints.{all-next_cut, short-next_cut}
 use Rattle.collation_elements.proofs.window.Window.next_unit.Goals as goal
 
 pub returns-in_err-taken-clause-room : goal.returns-in_err-taken-clause-room
@@ -43,3 +47,19 @@ returns-clause-last g c =
     let rest : c.cut.new.points.items ≡ (next_cut T held.points).rest = ap (λ (q : Buffer Point). q.items) c.cut.ensures.rest in
     subst (λ (h : Held). h.has_ended ≡ false → is_closed h.points ≡ true → is_closed c.cut.new.points.items ≡ true) c.self.view_is
     (λ unreported ends. ap is_closed rest ∙ is_closed-decided T held decided unreported ends)
+
+pub returns-clause-kept : goal.returns-clause-kept
+returns-clause-kept g c =
+    let T = g.W.Weights.table c.args.table.now in
+    let held : Held = record { points = c.self.inside.queue.items; capacity = c.self.inside.queue.capacity; has_ended = c.self.inside.has_ended } in
+    let rest : c.cut.new.points.items ≡ (next_cut T held.points).rest = ap (λ (q : Buffer Point). q.items) c.cut.ensures.rest in
+    subst (λ (h : Held). All (Contains h.points) c.cut.new.points.items) c.self.view_is
+    (All-same (Contains held.points) _ _ rest (all-next_cut (Contains held.points) T held.points (All-contains_itself held.points)))
+
+pub returns-clause-short : goal.returns-clause-short
+returns-clause-short g c =
+    let T = g.W.Weights.table c.args.table.now in
+    let held : Held = record { points = c.self.inside.queue.items; capacity = c.self.inside.queue.capacity; has_ended = c.self.inside.has_ended } in
+    let rest : c.cut.new.points.items ≡ (next_cut T held.points).rest = ap (λ (q : Buffer Point). q.items) c.cut.ensures.rest in
+    subst (λ (h : Held). All IsSoundPoint h.points → has_short_runs 0 (code_points h.points) ≡ true → has_short_runs 0 (code_points c.cut.new.points.items) ≡ true) c.self.view_is
+    (λ sound short. ap (λ l. has_short_runs 0 (code_points l)) rest ∙ short-next_cut T held.points sound short)
