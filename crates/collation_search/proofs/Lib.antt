@@ -22,6 +22,7 @@ pub mod SearchAnswers
 pub mod SearchBegins
 pub mod FeedLemmas
 pub mod MatchingLemmas
+pub mod SavedPoints
 pub mod SavingLemmas
 pub mod WorkedStateLemmas
 pub mod IndexLemmas

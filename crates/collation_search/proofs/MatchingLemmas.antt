@@ -1,10 +1,11 @@
 -- Steps of a finder: the items of one unit, and the units that leave a window.
-use Rattle.std.proofs.Common.{◌≡◌, ℕ, suc, ◌+◌, ◌<◌, ◌≤◌, Bool, true, false, cond, ◌&&◌, List, [], ◌∷◌, ◌++◌, map, length, take, drop, get_or, refl, sym, ◌∙◌, ap, subst, arith, length-append, append_assoc}
+use Rattle.std.proofs.Common.{◌≡◌, ℕ, suc, ◌+◌, ◌<◌, ◌≤◌, Bool, true, false, cond, List, [], ◌∷◌, ◌++◌, map, length, take, drop, get_or, refl, sym, ◌∙◌, ap, subst, arith, length-append}
 use Rattle.std.proofs.Math.Seq.{split_at}
 use Rattle.std.specs.Prelude.{Option, Some, None, IfSome}
+use Rattle.std.specs.List.{All, Contains}
 use Rattle.std.specs.Option.{option_to_list}
+use Rattle.std.proofs.lemmas.List.Elements.{All-append, All-weaker, All-contains, All-contains_itself, Contains-append_left, Contains-append_right}
 use Rattle.nfd_points.specs.declared.points.Point.{Point}
-use Rattle.nfd_points.specs.Points.{is_starter}
 use Rattle.collation_table.specs.Table.{TableMap}
 use Rattle.collation_elements.specs.declared.keys.Key.{Key}
 use Rattle.collation_elements.specs.declared.keys.Item.{Item}
@@ -88,3 +89,19 @@ few_at_start item (Some r) h =
     let one : length (item_starts (item ∷ [])) ≡ 1 = ap (λ t. length (item_starts (t ∷ []))) h in
     let listed : length (option_to_list (Some r)) ≡ 1 = refl in
     omega (arith, one, listed)
+
+-- ---- points among others
+
+-- what holds of each of the points holds of those that are among them
+pub all-among : (P : Point → Type 0) (xs ys : List Point) → All P xs → All (Contains xs) ys → All P ys
+all-among P xs ys h among = All-weaker (Contains xs) P (λ p there. All-contains P xs p h there) ys among
+
+pub among-through : (xs ys zs : List Point) → All (Contains xs) ys → All (Contains ys) zs → All (Contains xs) zs
+among-through xs ys zs h among = all-among (Contains xs) ys zs h among
+
+-- the same points after both
+pub among-pushed : (xs ys more : List Point) → All (Contains xs) ys → All (Contains (xs ++ more)) (ys ++ more)
+among-pushed xs ys more among =
+    All-append (Contains (xs ++ more)) ys more
+    (All-weaker (Contains xs) (Contains (xs ++ more)) (λ p there. Contains-append_left xs more p there) ys among)
+    (All-weaker (Contains more) (Contains (xs ++ more)) (λ p there. Contains-append_right xs more p there) more (All-contains_itself more))

@@ -51,11 +51,11 @@ record-first start before after one rest all h e = ap (λ l. l ++ rest) e ∙ ap
 
 -- ---- how many words
 
-place_words-length : (ps : List KeyPlace) → length (place_words ps) ≡ 4 * length ps
+pub place_words-length : (ps : List KeyPlace) → length (place_words ps) ≡ 4 * length ps
 place_words-length [] = refl
 place_words-length (p ∷ ps) = omega (arith, place_words-length ps, length-append (place_record p) (place_words ps))
 
-point_words-length : (ps : List Point) → length (point_words ps) ≡ 4 * length ps
+pub point_words-length : (ps : List Point) → length (point_words ps) ≡ 4 * length ps
 point_words-length [] = refl
 point_words-length (p ∷ ps) = omega (arith, point_words-length ps, length-append (point_record p) (point_words ps))
 

@@ -1,6 +1,7 @@
 //! Finds the ranges of a text whose characters come one by one.
-ghost use Rattle.std.specs.Prelude.{◌≡◌, ◌+◌, ◌≤◌, length, true};
-ghost use Rattle.nfd_points.specs.Reordering.{is_closed};
+ghost use Rattle.std.specs.Prelude.{◌≡◌, ◌+◌, ◌≤◌, length, All, true};
+ghost use Rattle.unicode_normalization.specs.StreamSafe.{has_short_runs};
+ghost use Rattle.nfd_points.specs.Reordering.{IsSoundPoint, code_points, is_closed};
 ghost use Rattle.nfd_points.specs.declared.limits.TheConstants.{MOST_GIVEN};
 ghost use Rattle.collation_table.specs.declared.limits.TheConstants.{MOST_STRING_POINTS};
 
@@ -10,6 +11,7 @@ use arrayvec::ArrayVec;
 use collation_elements::{Item, MOST_ITEMS, Weigher, Window, closed_points_append};
 use collation_pattern::Pattern;
 use collation_table::{MOST_STRING_POINTS, Weights};
+use nfd_points::laws::laws_of_runs;
 use nfd_points::{MOST_GIVEN, Point, PointFault, Reorder};
 use std::alloc::{AllocError, Global};
 
@@ -31,6 +33,8 @@ pub(crate) struct Finder {
     ghost short: { longest_key ≤ MOST_STRING_POINTS },
     ghost undecided: { length window.points ≤ longest_key },
     ghost closed: { is_closed window.points ≡ true },
+    ghost sound: { All IsSoundPoint window.points },
+    ghost short_runs: { has_short_runs 0 (code_points window.points) ≡ true },
     ghost state: { walk.state ≤ pattern_len },
 }
 
@@ -102,6 +106,7 @@ impl Finder {
         ensures pattern_len { self.new.pattern_len ≡ self.old.pattern_len }
     {
         closed_points_append();
+        laws_of_runs();
         self.reorder.push(c, offset, &mut self.given)?;
         push_points(&mut self.window, self.given.as_slice());
         cut_units(

@@ -1,8 +1,9 @@
 //! From points to ranges: the units that a window gives, their items, and the walk over these.
-ghost use Rattle.std.specs.Prelude.{◌≡◌, ℕ, ◌+◌, ◌≤◌, ◌<◌, List, [], ◌∷◌, ◌++◌, length, All, option_to_list, true, false};
+ghost use Rattle.std.specs.Prelude.{◌≡◌, ℕ, ◌+◌, ◌≤◌, ◌<◌, List, [], ◌∷◌, ◌++◌, length, All, Contains, option_to_list, true, false};
 ghost use Rattle.arrayvec.specs.ArrayVec.{array_vec_len};
 ghost use Rattle.nfd_points.specs.declared.points.Point.{Point};
-ghost use Rattle.nfd_points.specs.Reordering.{IsSoundPoint, is_closed};
+ghost use Rattle.unicode_normalization.specs.StreamSafe.{has_short_runs};
+ghost use Rattle.nfd_points.specs.Reordering.{IsSoundPoint, code_points, is_closed};
 ghost use Rattle.collation_table.specs.Table.{TableMap, longest_mapped};
 ghost use Rattle.collation_elements.specs.declared.keys.Item.{Item};
 ghost use Rattle.collation_elements.specs.ItemParts.{item_starts};
@@ -85,6 +86,9 @@ pub(crate) fn cut_units<W: Weights>(
         → HasMatched (W.table table.now) pattern.now window.old weigher.old walk.old points (ranges ++ found.old.items)
         → HasMatched (W.table table.now) pattern.now window.new weigher.new walk.new points (ranges ++ found.new.items) }
     ensures few { array_vec_len found.new + length window.new.points ≤ array_vec_len found.old + length window.old.points }
+    ensures kept { All (Contains window.old.points) window.new.points }
+    ensures short { All IsSoundPoint window.old.points → has_short_runs 0 (code_points window.old.points) ≡ true
+        → has_short_runs 0 (code_points window.new.points) ≡ true }
     ensures capacity { window.new.capacity ≡ window.old.capacity }
     ensures ended { window.new.has_ended ≡ window.old.has_ended }
     ensures rest { window.old.has_ended ≡ false → is_closed window.old.points ≡ true → length window.new.points ≤ longest_mapped (W.table table.now) }

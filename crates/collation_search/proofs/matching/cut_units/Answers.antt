@@ -1,12 +1,13 @@
-use Rattle.std.proofs.Common.{◌≡◌, ◌∙◌, ◌+◌, ◌≤◌, ℕ, List, [], ◌∷◌, ◌++◌, length, sym, ap, subst, arith}
-use Rattle.nfd_points.specs.declared.points.Point.{Point}
+use Rattle.std.proofs.Common.{◌∙◌, List, [], ◌∷◌, ◌++◌, length, refl, sym, ap, subst, arith}
+use Rattle.nfd_points.specs.Reordering.{IsSoundPoint}
 use Rattle.collation_elements.specs.declared.keys.Item.{Item}
 use Rattle.collation_elements.specs.ItemParts.{item_starts}
 use Rattle.collation_elements.specs.Windows.{next_cut}
-use Rattle.collation_elements.specs.Weighing.{WeigherStandsFor}
+use Rattle.std.proofs.lemmas.List.Elements.{All-contains_itself}
+use Rattle.std.specs.List.{All, Contains}
 use Rattle.collation_search.specs.Matching.{HasMatched}
 use Rattle.collation_search.specs.Walks.{WalksOver}
-use Rattle.collation_search.proofs.MatchingLemmas.{value_items-few}
+use Rattle.collation_search.proofs.MatchingLemmas.{value_items-few, all-among, among-through}
 use Rattle.collation_search.proofs.matching.cut_units.Goals as goal
 
 pub walk_over-requires-clause-room : goal.walk_over-requires-clause-room
@@ -33,13 +34,33 @@ loop-unit-preserved g c =
                 c.as_slice.ensures.value (c.walk_over.ensures.stands before.items ranges before.walked);
             strength = ap (λ w. w.strength) c.take.ensures.after ∙ before.strength;
             variable = ap (λ w. w.variable) c.take.ensures.after ∙ before.variable;
+            kept = among-through points c.loop-unit.window.points c.next_unit.new.self.points before.kept c.in-Some.ensures.kept;
           };
       few = omega (arith, few, same, c.loop-unit.invariant.few, c.walk_over.ensures.few, c.in-Some.ensures.fewer);
+      kept = among-through c.args.window.now.points c.loop-unit.window.points c.next_unit.new.self.points c.loop-unit.invariant.kept c.in-Some.ensures.kept;
+      short = λ sound runs.
+          c.in-Some.ensures.short (all-among IsSoundPoint c.args.window.now.points c.loop-unit.window.points sound c.loop-unit.invariant.kept)
+          (c.loop-unit.invariant.short sound runs);
       capacity = ap (λ w. w.capacity) c.in-Some.ensures.rest ∙ c.loop-unit.invariant.capacity;
       ended = ap (λ w. w.has_ended) c.in-Some.ensures.rest ∙ c.loop-unit.invariant.ended;
       last = λ open_window starts. c.in-Some.ensures.last (c.loop-unit.invariant.ended ∙ open_window) (c.loop-unit.invariant.last open_window starts);
       state = c.walk_over.ensures.state;
     }
+
+pub loop-unit-init : goal.loop-unit-init
+loop-unit-init g c = record {
+  stands = λ points ranges h. h;
+  kept = All-contains_itself c.args.window.now.points;
+  short = λ sound runs. runs;
+  few = omega arith;
+  capacity = refl;
+  ended = refl;
+  last = λ open_window starts. starts;
+  state = c.requires.state;
+}
+
+pub returns-clause-kept : goal.returns-clause-kept
+returns-clause-kept g c = subst (λ w. All (Contains c.args.window.now.points) w.points) (sym c.in_default.ensures.unchanged) c.loop-unit.invariant.kept
 
 pub returns-clause-stands : goal.returns-clause-stands
 returns-clause-stands g c = λ points ranges h.

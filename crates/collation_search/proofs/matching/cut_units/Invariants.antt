@@ -1,6 +1,8 @@
 use Rattle.std.proofs.Common.{◌≡◌, ◌+◌, ◌≤◌, ℕ, List, ◌++◌, true, false, length}
 use Rattle.nfd_points.specs.declared.points.Point.{Point}
-use Rattle.nfd_points.specs.Reordering.{is_closed}
+use Rattle.std.specs.List.{All, Contains}
+use Rattle.unicode_normalization.specs.StreamSafe.{has_short_runs}
+use Rattle.nfd_points.specs.Reordering.{IsSoundPoint, code_points, is_closed}
 use Rattle.collation_search.specs.Matching.{HasMatched}
 use Rattle.collation_search.proofs.matching.cut_units.Given as goal
 
@@ -10,6 +12,9 @@ invariant-loop-unit g l = record {
       → HasMatched (g.W.Weights.table l.table) l.pattern l.initial.window l.initial.weigher l.initial.walk points (ranges ++ l.initial.found.items)
       → HasMatched (g.W.Weights.table l.table) l.pattern l.window l.weigher l.walk points (ranges ++ l.found.items);
   few : length l.found.items + length l.window.points ≤ length l.initial.found.items + length l.initial.window.points;
+  kept : All (Contains l.initial.window.points) l.window.points;
+  short : All IsSoundPoint l.initial.window.points → has_short_runs 0 (code_points l.initial.window.points) ≡ true
+      → has_short_runs 0 (code_points l.window.points) ≡ true;
   capacity : l.window.capacity ≡ l.initial.window.capacity;
   ended : l.window.has_ended ≡ l.initial.window.has_ended;
   last : l.initial.window.has_ended ≡ false → is_closed l.initial.window.points ≡ true → is_closed l.window.points ≡ true;

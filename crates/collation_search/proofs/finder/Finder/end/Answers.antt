@@ -1,16 +1,18 @@
-use Rattle.std.proofs.Common.{◌≡◌, ◌∙◌, ◌+◌, ◌≤◌, ℕ, List, [], ◌∷◌, ◌++◌, length, refl, false, sym, ap, subst, arith}
+use Rattle.std.proofs.Common.{◌∙◌, List, ◌++◌, length, false, sym, ap, subst, arith}
 use Rattle.nfd_points.specs.declared.points.Point.{Point}
-use Rattle.nfd_points.specs.Points.{points}
-use Rattle.nfd_points.specs.Reordering.{is_closed}
+use Rattle.nfd_points.specs.Reordering.{IsSoundPoint, code_points, is_closed}
+use Rattle.std.proofs.lemmas.List.Elements.{All-same, All-nil}
+use Rattle.std.specs.List.{Contains}
+use Rattle.unicode_normalization.specs.StreamSafe.{has_short_runs}
 use Rattle.collation_elements.specs.Items.{items}
 use Rattle.collation_elements.specs.Units.{units}
 use Rattle.collation_search.specs.Matching.{HasMatched}
 use Rattle.collation_search.specs.Walks.{WalksOver}
-use Rattle.collation_search.proofs.MatchingLemmas.{matched-first, matched-all}
+use Rattle.collation_search.proofs.MatchingLemmas.{matched-first, matched-all, among-pushed}
 use Rattle.collation_search.proofs.finder.Finder.end.Goals as goal
 
 pub invariant_of-self : goal.invariant_of-self
-unfolding is_closed
+unfolding is_closed has_short_runs
 invariant_of-self g c =
     let none = c.cut_units.ensures.all (ap (λ w. w.has_ended) c.end.ensures.ended) in
     record {
@@ -18,6 +20,8 @@ invariant_of-self g c =
       short = c.args.self.now.short;
       undecided = let zero = ap length none in omega (arith, zero);
       closed = ap is_closed none;
+      sound = All-same IsSoundPoint _ _ none (All-nil IsSoundPoint);
+      short_runs = ap (λ ps. has_short_runs 0 (code_points ps)) none;
       state = omega (arith, c.cut_units.ensures.state, c.requires.pattern_len);
     }
 
@@ -28,9 +32,11 @@ returns-clause-ended g c = λ taken ranges h.
     let out = c.finish.new.out.items in
     let none = c.cut_units.ensures.all (ap (λ w. w.has_ended) c.end.ensures.ended) in
     let cut = c.end.ensures.stands table (h.points ++ c.as_slice.result.now) h.matched.units (c.push_points.ensures.stands table h.points h.matched.units h.matched.cut) in
+    let points_now = ap (λ w. w.points) c.end.ensures.ended ∙ ap (λ w. w.points) c.push_points.ensures.points in
+    let kept = All-same (Contains (h.points ++ c.as_slice.result.now)) _ _ points_now (among-pushed h.points c.args.self.now.window.points c.as_slice.result.now h.matched.kept) in
     let pushed = subst (λ (ps : List Point). HasMatched table pattern c.end.new.self c.args.self.now.weigher c.args.self.now.walk (h.points ++ ps) ranges)
     c.as_slice.ensures.value
-    (record { units = h.matched.units; items = h.matched.items; cut = cut; weighed = h.matched.weighed; walked = h.matched.walked; strength = h.matched.strength; variable = h.matched.variable }) in
+    (record { units = h.matched.units; items = h.matched.items; cut = cut; weighed = h.matched.weighed; walked = h.matched.walked; strength = h.matched.strength; variable = h.matched.variable; kept = kept }) in
     let before = matched-first table pattern c.end.new.self c.args.self.now.weigher c.args.self.now.walk (h.points ++ out) ranges c.args.found.now.items c.requires.empty pushed in
     let all = matched-all table pattern c.cut_units.new.window c.cut_units.new.weigher c.cut_units.new.walk (h.points ++ out) (ranges ++ c.cut_units.new.found.items)
     (c.cut_units.ensures.stands (h.points ++ out) ranges before) none in

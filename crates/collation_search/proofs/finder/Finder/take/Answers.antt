@@ -1,20 +1,29 @@
-use Rattle.std.proofs.Common.{◌≡◌, ◌∙◌, ◌+◌, ◌≤◌, ℕ, List, [], ◌∷◌, ◌++◌, length, sym, ap, subst, arith, append_assoc}
+use Rattle.std.proofs.Common.{◌∙◌, List, ◌++◌, ap, subst, arith}
 use Rattle.nfd_points.specs.declared.points.Point.{Point}
-use Rattle.nfd_points.specs.Reordering.{is_closed}
+use Rattle.nfd_points.specs.Reordering.{IsSoundPoint, code_points, is_closed}
+use Rattle.std.proofs.lemmas.List.Elements.{All-same, All-append}
+use Rattle.std.specs.List.{Contains}
+use Rattle.unicode_normalization.specs.StreamSafe.{has_short_runs}
 use Rattle.collation_search.specs.Matching.{HasMatched}
-use Rattle.collation_search.proofs.MatchingLemmas.{matched-first}
+use Rattle.collation_search.proofs.MatchingLemmas.{matched-first, all-among, among-pushed}
 use Rattle.collation_search.proofs.finder.Finder.take.Goals as goal
 
 pub invariant_of-self-2 : goal.invariant_of-self-2
 invariant_of-self-2 g c =
     let open_window = ap (λ w. w.has_ended) c.push_points.ensures.points ∙ c.requires.open in
-    let closed = ap is_closed (ap (λ w. w.points) c.push_points.ensures.points ∙ ap (λ ps. c.args.self.now.window.points ++ ps) c.as_slice.ensures.value)
+    let pushed = ap (λ w. w.points) c.push_points.ensures.points ∙ ap (λ ps. c.args.self.now.window.points ++ ps) c.as_slice.ensures.value in
+    let closed = ap is_closed pushed
     ∙ c.closed_points_append.ensures c.args.self.now.window.points c.push.new.out.items c.args.self.now.closed c.in_ok-push.ensures.closed in
+    let sound = All-same IsSoundPoint _ _ pushed (All-append IsSoundPoint c.args.self.now.window.points c.push.new.out.items c.args.self.now.sound c.in_ok-push.ensures.sound) in
+    let short = ap (λ ps. has_short_runs 0 (code_points ps)) pushed
+    ∙ c.laws_of_runs.ensures.join c.args.self.now.window.points c.push.new.out.items c.args.self.now.sound c.args.self.now.closed c.args.self.now.short_runs c.in_ok-push.ensures.short in
     record {
       capacity = c.cut_units.ensures.capacity ∙ ap (λ w. w.capacity) c.push_points.ensures.points ∙ c.args.self.now.capacity;
       short = c.args.self.now.short;
       undecided = let few = c.cut_units.ensures.rest open_window closed in omega (arith, few, c.requires.longest);
       closed = c.cut_units.ensures.last open_window closed;
+      sound = all-among IsSoundPoint c.push_points.new.window.points c.cut_units.new.window.points sound c.cut_units.ensures.kept;
+      short_runs = c.cut_units.ensures.short sound short;
       state = omega (arith, c.cut_units.ensures.state, c.requires.pattern_len);
     }
 
@@ -33,6 +42,8 @@ returns-clause-stands g c = λ taken ranges h offset.
       walked = h.matched.walked;
       strength = h.matched.strength;
       variable = h.matched.variable;
+      kept = All-same (Contains (h.points ++ c.as_slice.result.now)) _ _ (ap (λ w. w.points) c.push_points.ensures.points)
+          (among-pushed h.points c.args.self.now.window.points c.as_slice.result.now h.matched.kept);
     }) in
     let before = matched-first table pattern c.push_points.new.window c.args.self.now.weigher c.args.self.now.walk (h.points ++ out) ranges c.args.found.now.items c.requires.empty pushed in
     record {

@@ -1,0 +1,159 @@
+-- The words of the points that a finder holds: they give the points back, and they pass the tests of a state.
+use Rattle.std.proofs.Common.{◌≡◌, ℕ, ◌+◌, ◌-◌, ◌*◌, ◌<◌, ◌≤◌, ◌==◌, Bool, true, false, List, [], ◌∷◌, ◌++◌, length, take, drop, refl, sym, ap, ap₂, ◌∙◌, arith, lt-ltb, append_assoc, length-append}
+use Rattle.std.proofs.Math.Seq.{take-append_seam, drop-append_seam}
+use Rattle.std.proofs.lemmas.Bool.{and_from}
+use Rattle.std.proofs.lemmas.List.{append-nil}
+use Rattle.std.proofs.lemmas.List.Elements.{All-head, All-tail, All-same, All-weaker, All-contains_itself, Contains-append_left, Contains-append_right}
+use Rattle.std.specs.List.{All, Contains, list_all}
+use Rattle.unicode_normalization.specs.Lookups.{canonical_combining_class}
+use Rattle.unicode_normalization.specs.StreamSafe.{has_short_runs}
+use Rattle.nfd_points.specs.declared.points.Point.{Point}
+use Rattle.nfd_points.specs.Laws.{OffsetsAreWithin, WaitingAreOthers}
+use Rattle.nfd_points.specs.Points.{byte_len, points, is_in_order}
+use Rattle.nfd_points.specs.Reordering.{code_points, IsSoundPoint, is_closed, is_non_starter}
+use Rattle.collation_table.specs.Table.{TableMap}
+use Rattle.collation_pattern.specs.Compiled.{Compiled}
+use Rattle.collation_search.specs.declared.finder.Finder.{Finder}
+use Rattle.collation_search.specs.Finding.{FinderStandsFor}
+use Rattle.collation_search.specs.State.{flag_word, point_words}
+use Rattle.collation_search.specs.StateTests.{Head, is_flag, are_places, are_points, points_in, may_be_in_window, may_wait, has_open_tail}
+use Rattle.collation_search.proofs.MatchingLemmas.{all-among}
+use Rattle.collation_search.proofs.SavingLemmas.{point_words-length}
+
+-- ---- points back from their words
+
+flag-back : (b : Bool) → (flag_word b == 1) ≡ b
+flag-back true = refl
+flag-back false = refl
+
+flag-is_flag : (b : Bool) → is_flag (flag_word b) ≡ true
+flag-is_flag true = refl
+flag-is_flag false = refl
+
+point-back : (p : Point) → IsSoundPoint p → record { cp = p.cp; ccc = canonical_combining_class p.cp; offset = p.offset; first = flag_word p.first == 1 } ≡ p
+point-back p sound =
+    ap₂ (λ (class : ℕ) (is_first : Bool). let q : Point = record { cp = p.cp; ccc = class; offset = p.offset; first = is_first } in q) (sym sound.class) (flag-back p.first)
+
+pub points_in-saved_before : (ps : List Point) (more : List ℕ) → All IsSoundPoint ps → points_in (point_words ps ++ more) ≡ ps ++ points_in more
+points_in-saved_before [] more sound = refl
+points_in-saved_before (p ∷ ps) more sound =
+    ap₂ (λ (q : Point) (qs : List Point). q ∷ qs) (point-back p (All-head IsSoundPoint p ps sound))
+    (points_in-saved_before ps more (All-tail IsSoundPoint p ps sound))
+
+pub points_in-saved : (ps : List Point) → All IsSoundPoint ps → points_in (point_words ps) ≡ ps
+points_in-saved ps sound =
+    ap points_in (sym (append-nil (point_words ps))) ∙ points_in-saved_before ps [] sound ∙ append-nil ps
+
+-- ---- the words of some points, and words after them
+
+pub length-saved : (ps : List Point) → length (point_words ps) ≡ 4 * length ps
+length-saved ps = point_words-length ps
+
+pub take-saved : (ps : List Point) (more : List ℕ) → take (4 * length ps) (point_words ps ++ more) ≡ point_words ps
+take-saved ps more =
+    ap (λ n. take n (point_words ps ++ more)) (sym (length-saved ps)) ∙ take-append_seam (point_words ps) more
+
+pub drop-saved : (ps : List Point) (more : List ℕ) → drop (4 * length ps) (point_words ps ++ more) ≡ more
+drop-saved ps more =
+    ap (λ n. drop n (point_words ps ++ more)) (sym (length-saved ps)) ∙ drop-append_seam (point_words ps) more
+
+-- ---- the test of points
+
+pub are_points-saved : (end : ℕ) (ps : List Point) → All IsSoundPoint ps → All (λ (p : Point). p.offset < end) ps → are_points end (point_words ps) ≡ true
+are_points-saved end [] sound below = refl
+are_points-saved end (p ∷ ps) sound below =
+    and_from _ _ (All-head IsSoundPoint p ps sound).scalar
+    (and_from _ _ (lt-ltb p.offset end (All-head (λ (q : Point). q.offset < end) p ps below))
+    (and_from _ _ (flag-is_flag p.first)
+    (and_from _ _ refl
+    (are_points-saved end ps (All-tail IsSoundPoint p ps sound) (All-tail (λ (q : Point). q.offset < end) p ps below)))))
+
+-- ---- where the points of a finder stand
+
+given-points : (given held all : List Point) (end : ℕ) → all ≡ given ++ held → All (λ (p : Point). p.offset < end) all → (All (λ (p : Point). p.offset < end) given) × (All (λ (p : Point). p.offset < end) held)
+given-points given held all end parts below =
+    let whole : All (λ (p : Point). p.offset < end) (given ++ held) = All-same (λ (p : Point). p.offset < end) _ _ (sym parts) below in (
+      all-among (λ (p : Point). p.offset < end) (given ++ held) given whole
+          (All-weaker (Contains given) (Contains (given ++ held)) (λ p there. Contains-append_left given held p there) given (All-contains_itself given)),
+      all-among (λ (p : Point). p.offset < end) (given ++ held) held whole
+          (All-weaker (Contains held) (Contains (given ++ held)) (λ p there. Contains-append_right given held p there) held (All-contains_itself held)),
+    )
+
+pub window-offsets : OffsetsAreWithin → WaitingAreOthers → (table : TableMap) (pattern : Compiled) (finder : Finder) (taken : List ℕ) (ranges : List (ℕ × ℕ)) → FinderStandsFor table pattern finder taken ranges → All (λ (p : Point). p.offset < byte_len taken) finder.window.points
+window-offsets within others table pattern finder taken ranges h =
+    let given = (given-points h.points finder.reorder.held (points taken) (byte_len taken) (others finder.reorder taken h.points h.reordered) (within taken)).0 in
+    all-among (λ (p : Point). p.offset < byte_len taken) h.points finder.window.points given h.matched.kept
+
+pub waiting-offsets : OffsetsAreWithin → WaitingAreOthers → (table : TableMap) (pattern : Compiled) (finder : Finder) (taken : List ℕ) (ranges : List (ℕ × ℕ)) → FinderStandsFor table pattern finder taken ranges → All (λ (p : Point). p.offset < byte_len taken) finder.reorder.held
+waiting-offsets within others table pattern finder taken ranges h =
+    (given-points h.points finder.reorder.held (points taken) (byte_len taken) (others finder.reorder taken h.points h.reordered) (within taken)).1
+
+-- ---- what a finder may hold
+
+pub window-may_be : (finder : Finder) → may_be_in_window finder.window.points ≡ true
+window-may_be finder = and_from (is_closed finder.window.points) (has_short_runs 0 (code_points finder.window.points)) finder.closed finder.short_runs
+
+pub window-few : (finder : Finder) → length finder.window.points ≤ finder.longest_key
+window-few finder = finder.undecided
+
+pub waiting-may_wait : (table : TableMap) (pattern : Compiled) (finder : Finder) (taken : List ℕ) (ranges : List (ℕ × ℕ)) → FinderStandsFor table pattern finder taken ranges → may_wait finder.reorder.held ≡ true
+waiting-may_wait table pattern finder taken ranges h =
+    let held = h.reordered.held in
+    and_from (list_all is_non_starter finder.reorder.held) (is_in_order finder.reorder.held) held.non_starters held.in_order
+
+pub waiting-few : (table : TableMap) (pattern : Compiled) (finder : Finder) (taken : List ℕ) (ranges : List (ℕ × ℕ)) → FinderStandsFor table pattern finder taken ranges → length finder.reorder.held ≤ 30
+waiting-few table pattern finder taken ranges h = h.reordered.held.few
+
+-- ---- all of it, for a finder
+
+-- the words of the points that a finder holds, after code points of so many bytes
+pub record PointsAreSaved (finder : Finder) (end : ℕ) : Type 0 where
+  pub window_back : points_in (point_words finder.window.points) ≡ finder.window.points
+  pub waiting_back : points_in (point_words finder.reorder.held) ≡ finder.reorder.held
+  pub window_points : are_points end (point_words finder.window.points) ≡ true
+  pub waiting_points : are_points end (point_words finder.reorder.held) ≡ true
+  pub window_may_be : may_be_in_window (points_in (point_words finder.window.points)) ≡ true
+  pub waiting_may_wait : may_wait (points_in (point_words finder.reorder.held)) ≡ true
+  pub window_few : length finder.window.points ≤ finder.longest_key
+  pub waiting_few : length finder.reorder.held ≤ 30
+
+pub points-saved : OffsetsAreWithin → WaitingAreOthers → (table : TableMap) (pattern : Compiled) (finder : Finder) (taken : List ℕ) (ranges : List (ℕ × ℕ)) → FinderStandsFor table pattern finder taken ranges → PointsAreSaved finder (byte_len taken)
+points-saved within others table pattern finder taken ranges h =
+    let held = h.reordered.held in
+    let window_back = points_in-saved finder.window.points finder.sound in
+    let waiting_back = points_in-saved finder.reorder.held held.sound in
+    record {
+      window_back = window_back;
+      waiting_back = waiting_back;
+      window_points = are_points-saved (byte_len taken) finder.window.points finder.sound (window-offsets within others table pattern finder taken ranges h);
+      waiting_points = are_points-saved (byte_len taken) finder.reorder.held held.sound (waiting-offsets within others table pattern finder taken ranges h);
+      window_may_be = ap may_be_in_window window_back ∙ window-may_be finder;
+      waiting_may_wait = ap may_wait waiting_back ∙ waiting-may_wait table pattern finder taken ranges h;
+      window_few = window-few finder;
+      waiting_few = waiting-few table pattern finder taken ranges h;
+    }
+
+-- ---- the test of all records after the first five
+
+-- `places` are the words of the places of keys, which pass their test
+pub has_open_tail-saved : (finder : Finder) (end : ℕ) (h : Head) (places : List ℕ) → PointsAreSaved finder end → h.taken - h.held_len ≡ end → h.window_len ≡ length finder.window.points → length places ≡ 4 * h.state → are_places 0 h.start places ≡ true → has_open_tail h ((places ++ point_words finder.window.points) ++ point_words finder.reorder.held) ≡ true
+has_open_tail-saved finder end h places saved whole window_len state placed =
+    let window = point_words finder.window.points in
+    let waiting = point_words finder.reorder.held in
+    let words = (places ++ window) ++ waiting in
+    let joined : words ≡ places ++ (window ++ waiting) = append_assoc places window waiting in
+    let of_places : take (4 * h.state) words ≡ places =
+    ap₂ (λ n l. take n l) (sym state) joined ∙ take-append_seam places (window ++ waiting) in
+    let after_places : drop (4 * h.state) words ≡ window ++ waiting =
+    ap₂ (λ n l. drop n l) (sym state) joined ∙ drop-append_seam places (window ++ waiting) in
+    let of_window : take (4 * h.window_len) (drop (4 * h.state) words) ≡ window =
+    ap₂ (λ n l. take (4 * n) l) window_len after_places ∙ take-saved finder.window.points waiting in
+    let before_waiting : 4 * (h.state + h.window_len) ≡ length (places ++ window) =
+    omega (arith, state, window_len, length-append places window, length-saved finder.window.points) in
+    let of_waiting : drop (4 * (h.state + h.window_len)) words ≡ waiting =
+    ap (λ n. drop n words) before_waiting ∙ drop-append_seam (places ++ window) waiting in
+    and_from _ _ (ap (are_places 0 h.start) of_places ∙ placed)
+    (and_from _ _ (ap₂ are_points whole of_window ∙ saved.window_points)
+    (and_from _ _ (ap₂ are_points whole of_waiting ∙ saved.waiting_points)
+    (and_from _ _ (ap (λ l. may_be_in_window (points_in l)) of_window ∙ saved.window_may_be)
+    (ap (λ l. may_wait (points_in l)) of_waiting ∙ saved.waiting_may_wait))))
