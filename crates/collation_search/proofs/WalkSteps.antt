@@ -1,20 +1,20 @@
 -- How a walk by the borders of a pattern goes on: by the start of a cluster, by a key, and to the end.
-use Rattle.std.proofs.Common.{◌≡◌, ℕ, zero, suc, ◌+◌, ◌-◌, Bool, true, false, cond, not, nat_lt, ◌==◌, List, [], ◌∷◌, ◌++◌, length, drop, map, min, slice_get, Some, None, refl, sym, ap, ◌∙◌, arith, inl, inr, length-append, append_assoc}
-use Rattle.std.proofs.lemmas.Bool.{cond-true, cond-false, cases_Bool, lt-ltb, eq-eqb, ne_eqb}
-use Rattle.std.proofs.lemmas.List.{append-nil, map-append, length-map, drop-drop, drop-append-le, length-drop}
-use Rattle.std.proofs.Math.Seq.{drop-nil}
+use Rattle.std.proofs.Common.{◌≡◌, ℕ, zero, suc, ◌+◌, ◌-◌, ◌≤◌, Bool, true, false, cond, not, nat_lt, ◌==◌, List, [], ◌∷◌, ◌++◌, length, take, drop, map, min, slice_get, Some, None, refl, sym, ap, ◌∙◌, arith, inl, inr, length-append, append_assoc}
+use Rattle.std.proofs.lemmas.Bool.{cond-true, cond-false, cases_Bool, lt-ltb, eqb-true, eq-eqb, ne_eqb}
+use Rattle.std.proofs.lemmas.List.{append-nil, map-append, length-map, drop-drop, drop-append-le, length-drop, length-take-le}
 use Rattle.std.proofs.lemmas.List.Concat.{flat_map-append}
 use Rattle.circular_buffer.specs.Buffer.{keep_last}
 use Rattle.collation_elements.specs.declared.keys.Key.{Key}
 use Rattle.collation_elements.specs.declared.keys.Item.{Item}
 use Rattle.collation_elements.specs.declared.keys.Item.TheVariants.{ClusterStart, Element}
 use Rattle.collation_elements.specs.Clusters.{Cluster, clusters_from}
-use Rattle.collation_pattern.specs.Border.{border}
+use Rattle.collation_pattern.specs.Border.{same_keys, ends_with_prefix, border_up_to, border}
 use Rattle.collation_search.specs.declared.walk.Walk.{Walk}
 use Rattle.collation_search.specs.declared.walk.KeyPlace.{KeyPlace}
 use Rattle.collation_search.specs.ByClusters.{PlacedKey}
 use Rattle.collation_search.specs.ByClusters.{text_begin, has_keys, last_has_keys, ended, found, found_before_last, placed, placed_at, range_from, ended_by_keys}
 use Rattle.collation_search.specs.Walks.{place_of, WalksOver}
+use Rattle.collation_search.proofs.BridgeKeys.{same_keys-same}
 use Rattle.collation_search.proofs.BridgeGrowing.{found-more, found-begins, before_last-prefix, before_last-begins}
 use Rattle.collation_search.proofs.BridgeFlat.{ended-by_keys}
 use Rattle.collation_search.proofs.BridgeBorder.{ended-by_border, border_up_to-le}
@@ -77,14 +77,29 @@ clusters_begin c (ClusterStart s ∷ items) =
 abbrev key_of : PlacedKey → Key
 key_of k = k.key
 
-keep_last-push : {A : Type 0} (n : ℕ) (xs : List A) (x : A) → keep_last n (keep_last n xs ++ x ∷ []) ≡ keep_last n (xs ++ x ∷ [])
+pub keep_last-less : {A : Type 0} (n m : ℕ) (xs : List A) → n ≤ m → keep_last n (keep_last m xs) ≡ keep_last n xs
+keep_last-less n m xs less =
+    let some = length xs - m in
+    let more = length (drop some xs) - n in
+    let all : some + more ≡ length xs - n = omega (arith, less, length-drop some xs) in
+    drop-drop more some xs ∙ ap (λ i. drop i xs) all
+
+pub keep_last-all : {A : Type 0} (n : ℕ) (xs : List A) → length xs ≤ n → keep_last n xs ≡ xs
+keep_last-all n xs few =
+    let none : length xs - n ≡ 0 = omega (arith, few) in ap (λ i. drop i xs) none
+
+keep_last-push : {A : Type 0} (n : ℕ) (xs : List A) (x : A) → keep_last (n + 1) (xs ++ x ∷ []) ≡ keep_last n xs ++ x ∷ []
 keep_last-push n xs x =
-    let some = length xs - n in
-    let kept = drop some xs in
-    let more = length (kept ++ x ∷ []) - n in
-    let all : some + more ≡ length (xs ++ x ∷ []) - n =
-    omega (arith, length-append kept (x ∷ []), length-append xs (x ∷ []), length-drop some xs) in
-    ap (drop more) (sym (drop-append-le some xs (x ∷ []) (omega arith))) ∙ drop-drop more some (xs ++ x ∷ []) ∙ ap (λ i. drop i (xs ++ x ∷ [])) all
+    let some : length (xs ++ x ∷ []) - (n + 1) ≡ length xs - n = omega (arith, length-append xs (x ∷ [])) in
+    ap (λ i. drop i (xs ++ x ∷ [])) some ∙ drop-append-le (length xs - n) xs (x ∷ []) (omega arith)
+
+-- one more, of which at most one more is looked at
+keep_last-more : {A : Type 0} (n m : ℕ) (xs ys : List A) (x : A) → m ≤ n + 1 → keep_last n xs ≡ keep_last n ys →
+    keep_last m (xs ++ x ∷ []) ≡ keep_last m (ys ++ x ∷ [])
+keep_last-more {A} n m xs ys x less same =
+    sym (keep_last-less m (n + 1) (xs ++ x ∷ []) less)
+    ∙ ap (keep_last m) (keep_last-push n xs x ∙ ap (λ (l : List A). l ++ x ∷ []) same ∙ sym (keep_last-push n ys x))
+    ∙ keep_last-less m (n + 1) (ys ++ x ∷ []) less
 
 map_drop : (n : ℕ) (ks : List PlacedKey) → map place_of (drop n ks) ≡ drop n (map place_of ks)
 map_drop zero ks = refl
@@ -118,6 +133,36 @@ range_at-last pattern ks end =
 border_none : (pattern : List Key) → border pattern [] ≡ 0
 border_none pattern = omega (arith, border_up_to-le pattern [] (min (length pattern) 0))
 
+-- ---- how a state grows
+
+border-within : (pattern ks : List Key) → border pattern ks ≤ length pattern
+border-within pattern ks = omega (arith, border_up_to-le pattern ks (min (length pattern) (length ks)))
+
+border-few : (pattern ks : List Key) → border pattern ks ≤ length ks
+border-few pattern ks = omega (arith, border_up_to-le pattern ks (min (length pattern) (length ks)))
+
+-- so many keys of the pattern's beginning end themselves
+border-prefix : (pattern : List Key) (n : ℕ) → n ≤ length pattern → border pattern (take n pattern) ≡ n
+border-prefix pattern n within =
+    let len : length (take n pattern) ≡ n = length-take-le n pattern within in
+    let least : min (length pattern) (length (take n pattern)) ≡ n = omega (arith, len, within) in
+    ap (border_up_to pattern (take n pattern)) least ∙ whole n len
+  where
+    whole : (i : ℕ) → length (take i pattern) ≡ i → border_up_to pattern (take i pattern) i ≡ i
+    whole zero len = refl
+    whole (suc i) len =
+        let ks = take (suc i) pattern in
+        let none : length ks - suc i ≡ 0 = omega (arith, len) in
+        let ends : ends_with_prefix pattern ks (suc i) ≡ true = ap (λ j. same_keys (drop j ks) ks) none ∙ same_keys-same ks in
+        cond-true (ends_with_prefix pattern ks (suc i)) (suc i) (border_up_to pattern ks i) ends
+
+-- by one key more at most
+state-grows : (pattern : List Key) (k : Key) (state next : ℕ) → state ≤ length pattern →
+    ((ks : List Key) → border pattern ks ≡ state → next ≡ border pattern (ks ++ k ∷ [])) → next ≤ state + 1
+state-grows pattern k state next within goes =
+    let ks = take state pattern in
+    omega (arith, goes ks (border-prefix pattern state within), border-few pattern (ks ++ k ∷ []), length-append ks (k ∷ []), length-take-le state pattern within)
+
 -- ---- the walk
 
 pub walks-new : (pattern : List Key) (w : Walk) → w.state ≡ 0 → w.start ≡ 0 → w.has_keys ≡ false → w.places.items ≡ [] → w.places.capacity ≡ length pattern →
@@ -131,9 +176,31 @@ walks-new pattern w state at none items capacity =
       has_keys = none;
       state = state ∙ sym (border_none pattern);
       capacity = capacity;
-      places = items ∙ sym (drop-nil (0 - length pattern));
+      few = omega (arith, ap length items);
+      places = ap (keep_last w.state) items;
       handed_out = refl;
     }
+
+pub walks-within : (pattern : List Key) (items : List Item) (ranges : List (ℕ × ℕ)) (w : Walk) → WalksOver pattern items ranges w → w.state ≤ length pattern
+walks-within pattern items ranges w h = omega (arith, h.state, border-within pattern (map key_of (placed (h.before ++ h.current ∷ []))))
+
+-- not more than there are keys
+pub walks-few : (pattern : List Key) (items : List Item) (ranges : List (ℕ × ℕ)) (w : Walk) → (h : WalksOver pattern items ranges w) →
+    w.state ≤ length (map place_of (placed (h.before ++ h.current ∷ [])))
+walks-few pattern items ranges w h =
+    let ks = placed (h.before ++ h.current ∷ []) in
+    omega (arith, h.state, border-few pattern (map key_of ks), length-map ks key_of, length-map ks place_of)
+
+-- where the whole pattern ends the keys, the places are those of its keys
+all_places : {pattern : List Key} {items : List Item} {ranges : List (ℕ × ℕ)} {w : Walk} → (h : WalksOver pattern items ranges w) → w.state ≡ length pattern →
+    keep_last (length pattern) (map place_of (placed (h.before ++ h.current ∷ []))) ≡ w.places.items
+all_places {pattern} {items} {ranges} {w} h whole =
+    let ps = map place_of (placed (h.before ++ h.current ∷ [])) in
+    ap (λ n. keep_last n ps) (sym whole) ∙ sym h.places ∙ keep_last-all w.state w.places.items (omega (arith, whole, h.few))
+
+cond_same : (b : Bool) (xs ys : List (ℕ × ℕ)) → (b ≡ true → xs ≡ ys) → cond b xs [] ≡ cond b ys []
+cond_same true xs ys h = h refl
+cond_same false xs ys h = refl
 
 -- the ranges that are found if the current cluster ends there
 ranges_at : {pattern : List Key} {items : List Item} {ranges : List (ℕ × ℕ)} {w : Walk} → (h : WalksOver pattern items ranges w) → (end : ℕ) →
@@ -145,7 +212,8 @@ ranges_at {pattern} {items} {ranges} {w} h end =
     ended-by_border pattern ks end
     ∙ ap (λ n. cond (n == length pattern) (range_from (drop (length ks - length pattern) ks) end) []) (sym h.state)
     ∙ ap (λ (rs : List (ℕ × ℕ)). cond (w.state == length pattern) rs []) (range_at-last pattern ks end)
-    ∙ ap (λ (ps : List KeyPlace). cond (w.state == length pattern) (range_at ps end) []) (sym h.places) in
+    ∙ cond_same (w.state == length pattern) (range_at (keep_last (length pattern) (map place_of ks)) end) (range_at w.places.items end)
+    (λ whole. ap (λ (ps : List KeyPlace). range_at ps end) (all_places h (eqb-true w.state (length pattern) whole))) in
     found-more pattern h.before h.current end
     ∙ ap (λ (rs : List (ℕ × ℕ)). rs ++ ended pattern cs end) (sym h.handed_out)
     ∙ ap (λ (rs : List (ℕ × ℕ)). ranges ++ rs)
@@ -200,6 +268,7 @@ walks-zero pattern items ranges w h =
       has_keys = h.has_keys;
       state = h.state;
       capacity = h.capacity;
+      few = h.few;
       places = h.places;
       handed_out = append-nil ranges ∙ h.handed_out;
     }
@@ -222,7 +291,10 @@ walks-start pattern items ranges last s w v h after at none state places handed 
       has_keys = none;
       state = state ∙ h.state ∙ ap (λ (ks : List PlacedKey). border pattern (map key_of ks)) same;
       capacity = ap (λ b. b.capacity) places ∙ h.capacity;
-      places = ap (λ b. b.items) places ∙ h.places ∙ ap (λ (ks : List PlacedKey). keep_last (length pattern) (map place_of ks)) same;
+      few = omega (arith, ap (λ b. length b.items) places, h.few);
+      places = ap (λ n. keep_last n v.places.items) state ∙ ap (λ b. keep_last w.state b.items) places ∙ h.places
+          ∙ ap (λ (ks : List PlacedKey). keep_last w.state (map place_of ks)) same
+          ∙ sym (ap (λ n. keep_last n (map place_of (placed ((h.before ++ h.current ∷ []) ++ next ∷ [])))) state);
       handed_out = handed ∙ ap (λ (cs : List Cluster). found pattern cs s) (all_clusters h);
     }
 
@@ -247,22 +319,26 @@ walks-key pattern items ranges k w v h at some state capacity places =
     let same_place : place ≡ place_of new =
     ap (λ n. record { start = n; is_first = not w.has_keys }) h.start
     ∙ ap (λ b. record { start = h.current.start; is_first = b }) (ap not h.has_keys ∙ flag (has_keys h.current)) in
+    let more = w.places.items ++ place ∷ [] in
+    let kept : v.places.items ≡ keep_last (length pattern) more = places ∙ ap (λ n. keep_last n more) h.capacity in
+    let next_state : v.state ≡ border pattern (map key_of ks ++ k ∷ []) = state (map key_of ks) (sym h.state) in
     record {
       before = h.before;
       current = longer;
       clusters = λ rest. ap (clusters_from text_begin) (append_assoc items (Element k ∷ []) rest) ∙ h.clusters (Element k ∷ rest);
       start = at ∙ h.start;
       has_keys = some ∙ sym (lt-ltb 0 (length longer.keys) (omega (arith, length-append h.current.keys (k ∷ []))));
-      state = state (map key_of ks) (sym h.state)
+      state = next_state
           ∙ ap (border pattern) (sym (map-append key_of ks (new ∷ []))) ∙ ap (λ (l : List PlacedKey). border pattern (map key_of l)) all;
       capacity = capacity ∙ h.capacity;
-      places = places
-          ∙ ap (λ n. keep_last n (w.places.items ++ place ∷ [])) h.capacity
-          ∙ ap (λ (l : List KeyPlace). keep_last (length pattern) (l ++ place ∷ [])) h.places
-          ∙ keep_last-push (length pattern) (map place_of ks) place
-          ∙ ap (λ (p : KeyPlace). keep_last (length pattern) (map place_of ks ++ p ∷ [])) same_place
-          ∙ ap (keep_last (length pattern)) (sym (map-append place_of ks (new ∷ [])))
-          ∙ ap (λ (l : List PlacedKey). keep_last (length pattern) (map place_of l)) all;
+      few = omega (arith, ap length kept, length-drop (length more - length pattern) more);
+      places = ap (keep_last v.state) kept
+          ∙ keep_last-less v.state (length pattern) more (omega (arith, next_state, border-within pattern (map key_of ks ++ k ∷ [])))
+          ∙ keep_last-more w.state v.state w.places.items (map place_of ks) place
+          (state-grows pattern k w.state v.state (walks-within pattern items ranges w h) state) h.places
+          ∙ ap (λ (p : KeyPlace). keep_last v.state (map place_of ks ++ p ∷ [])) same_place
+          ∙ ap (keep_last v.state) (sym (map-append place_of ks (new ∷ [])))
+          ∙ ap (λ (l : List PlacedKey). keep_last v.state (map place_of l)) all;
       handed_out = append-nil ranges ∙ h.handed_out;
     }
 

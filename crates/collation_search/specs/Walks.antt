@@ -1,5 +1,5 @@
 -- What a walk over some items of a text stands for: the ranges that end with the clusters that have ended, and where the last keys stand.
-use Rattle.std.specs.Prelude.{◌≡◌, ℕ, List, [], ◌∷◌, ◌++◌, length, map}
+use Rattle.std.specs.Prelude.{◌≡◌, ℕ, ◌≤◌, List, [], ◌∷◌, ◌++◌, length, map}
 use Rattle.circular_buffer.specs.Buffer.{keep_last}
 use Rattle.collation_elements.specs.declared.keys.Key.{Key}
 use Rattle.collation_elements.specs.declared.keys.Item.{Item}
@@ -16,6 +16,7 @@ place_of k = record { start = k.start; is_first = k.is_first }
 
 -- A walk over these items by this pattern, which has handed out these ranges: with any items that follow, the clusters are
 -- those `before`, which have ended, and those from the current one on. The ranges are those that end with one of the former.
+-- Of the last keys it has where they stand, of as many as the state says at least.
 pub record WalksOver (pattern : List Key) (items : List Item) (ranges : List (ℕ × ℕ)) (walk : Walk) : Type 0 where
   pub before : List Cluster
   pub current : Cluster
@@ -24,5 +25,6 @@ pub record WalksOver (pattern : List Key) (items : List Item) (ranges : List (�
   pub has_keys : walk.has_keys ≡ Rattle.collation_search.specs.ByClusters.has_keys current
   pub state : walk.state ≡ border pattern (map (λ k. k.key) (placed (before ++ current ∷ [])))
   pub capacity : walk.places.capacity ≡ length pattern
-  pub places : walk.places.items ≡ keep_last (length pattern) (map place_of (placed (before ++ current ∷ [])))
+  pub few : length walk.places.items ≤ length pattern
+  pub places : keep_last walk.state walk.places.items ≡ keep_last walk.state (map place_of (placed (before ++ current ∷ [])))
   pub handed_out : ranges ≡ found pattern before current.start

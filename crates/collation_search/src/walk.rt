@@ -1,5 +1,5 @@
 //! The walk over the items of a text by a pattern's borders. It keeps no key of the text: how much of the pattern ends the
-//! keys so far is a number, and of the last keys, as many as the pattern has, it keeps where they stand.
+//! keys so far is a number, and of the last keys, of as many as that at least, it keeps where they stand.
 
 ghost use Rattle.std.specs.Prelude.{ℕ, List, [], ◌++◌, IfOk};
 ghost use Rattle.collation_search.specs.Walks.{WalksOver};
@@ -23,7 +23,7 @@ pub(crate) struct KeyPlace {
 pub(crate) struct Walk {
     /// How many keys at the beginning of the pattern, at most, end the keys so far.
     pub(crate) state: usize,
-    /// The places of the last keys, as many as the pattern has.
+    /// The places of the last keys: of as many as the state says at least, and at most as many as the pattern has.
     pub(crate) places: HeapCircularBuffer<KeyPlace>,
     /// Where the current cluster starts, in bytes from the beginning of the text.
     pub(crate) start: u64,

@@ -22,6 +22,10 @@ find_first-requires-clause-stands g c = record {
   stands = subst (λ cs. FinderStandsFor (g.W.Weights.table c.args.table.now) c.args.pattern.now c.in-Ok.finder cs []) (sym chars-nil) c.in-Ok.ensures.stands;
 }
 
+pub end-requires-in-Ok-find_first-clause-empty : goal.end-requires-in-Ok-find_first-clause-empty
+end-requires-in-Ok-find_first-clause-empty g c =
+    none_found c.find_first.new.found.items c.is_empty.result c.is_empty.ensures c.if-not-is_empty.false
+
 pub returns-in-Err : goal.returns-in-Err
 returns-in-Err g c = record {
   first = λ p compiled.
