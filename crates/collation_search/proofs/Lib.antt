@@ -24,5 +24,6 @@ pub mod FeedLemmas
 pub mod MatchingLemmas
 pub mod SavedPoints
 pub mod SavingLemmas
+pub mod RestoredWalk
 pub mod WorkedStateLemmas
 pub mod IndexLemmas

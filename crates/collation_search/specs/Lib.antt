@@ -12,6 +12,7 @@ pub mod Search
 pub mod Feeding
 pub mod State
 pub mod StateTests
+pub mod Restoring
 pub mod WorkedStates
 pub mod Saving
 pub mod WorkedRows

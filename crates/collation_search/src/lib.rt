@@ -20,6 +20,7 @@ mod finder;
 mod indexing;
 mod lag;
 mod matching;
+mod resuming_walk;
 mod saving;
 mod search;
 #[cfg(test)]
