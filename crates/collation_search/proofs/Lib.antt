@@ -25,5 +25,6 @@ pub mod MatchingLemmas
 pub mod SavedPoints
 pub mod SavingLemmas
 pub mod RestoredWalk
+pub mod SavedWalk
 pub mod WorkedStateLemmas
 pub mod IndexLemmas

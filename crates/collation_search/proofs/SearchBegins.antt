@@ -34,7 +34,7 @@ abbrev pub BeginsRanges : List (ℕ × ℕ) → List (ℕ × ℕ) → Type 0
 BeginsRanges ranges all = (rest : List (ℕ × ℕ)) × (all ≡ ranges ++ rest)
 
 -- the items of a text that the code points so far begin: those given, and others after them
-items_go_on : (s : Sought) (finder : Finder) (taken more : List ℕ) (handed : List (ℕ × ℕ)) → (h : FinderStandsFor s.table s.pattern finder taken handed) → finder.window.has_ended ≡ false →
+pub items_go_on : (s : Sought) (finder : Finder) (taken more : List ℕ) (handed : List (ℕ × ℕ)) → (h : FinderStandsFor s.table s.pattern finder taken handed) → finder.window.has_ended ≡ false →
     (rest : List Item) × (items s.table s.pattern.strength s.pattern.variable false (units s.table (points (taken ++ more))) ≡ h.matched.items ++ rest)
 items_go_on s finder taken more handed h goes_on =
     let m = h.matched in

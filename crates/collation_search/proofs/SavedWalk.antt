@@ -1,0 +1,254 @@
+-- What a search that goes on saves of its walk is as a state says.
+use Rattle.std.specs.Str.{chars, IsUtf8}
+use Rattle.std.proofs.Common.{◌≡◌, ℕ, zero, suc, ◌+◌, ◌-◌, ◌<◌, ◌≤◌, ◌==◌, nat_le, Bool, true, false, cond, ◌&&◌, ◌||◌, not, List, [], ◌∷◌, ◌++◌, length, take, drop, map, slice_get, slice_index, Option, Some, None, refl, sym, ap, ◌∙◌, subst, arith, inl, inr, append-nil}
+use Rattle.std.proofs.lemmas.Bool.{and_parts, le-leb, cases_Bool, leb-true, or_right}
+use Rattle.std.proofs.lemmas.List.{length-drop, length-take-le}
+use Rattle.std.proofs.lemmas.Str.{chars-nil}
+use Rattle.utf8_cut.specs.Characters.{characters_end, after_characters}
+use Rattle.utf8_cut.specs.Value.{CutState}
+use Rattle.nfd_points.specs.Points.{points_from, points, ordered}
+use Rattle.collation_table.specs.Table.{TableMap}
+use Rattle.collation_elements.specs.declared.keys.Key.{Key}
+use Rattle.collation_elements.specs.declared.keys.Item.{Item}
+use Rattle.collation_elements.specs.Units.{units}
+use Rattle.collation_elements.specs.Items.{items}
+use Rattle.collation_elements.specs.Clusters.{Cluster, clusters, clusters_from, starts}
+use Rattle.collation_elements.specs.Context.{BoundariesAreStarts}
+use Rattle.collation_pattern.specs.Compiled.{Compiled}
+use Rattle.circular_buffer.specs.Buffer.{keep_last}
+use Rattle.collation_search.specs.declared.faults.TextFault.{TextFault}
+use Rattle.collation_search.specs.declared.finder.Finder.{Finder}
+use Rattle.collation_search.specs.declared.walk.KeyPlace.{KeyPlace}
+use Rattle.collation_search.specs.ByClusters.{PlacedKey, text_begin, placed, placed_at}
+use Rattle.collation_search.specs.Finding.{FinderStandsFor}
+use Rattle.collation_search.specs.GoodPrefix.{whole}
+use Rattle.collation_search.specs.Search.{Sought}
+use Rattle.collation_search.specs.Searching.{Searched}
+use Rattle.collation_search.specs.State.{flag_word, place_words, point_words, kept_places, match_waits, is_first_place, state_words}
+use Rattle.collation_search.specs.StateTests.{Resumed, head, is_flag, are_places, may_match_wait}
+use Rattle.collation_search.specs.Walks.{place_of}
+use Rattle.collation_search.proofs.BridgeLists.{In, Rising, in_left, in_right}
+use Rattle.collation_search.proofs.BridgeRanges.{Below}
+use Rattle.collation_search.proofs.BridgeMatches.{rising_boundaries}
+use Rattle.collation_search.proofs.LagRanges.{begins-with}
+use Rattle.collation_search.proofs.SavingLemmas.{drop-some}
+use Rattle.collation_search.proofs.SearchBegins.{items_go_on}
+use Rattle.collation_search.proofs.SearchLemmas.{either}
+use Rattle.collation_search.proofs.TextCheckLemmas.{open_cut}
+use Rattle.collation_search.proofs.WalkSteps.{walks-within}
+use Rattle.collation_search.proofs.RestoredWalk.{flag-read}
+
+-- ---- the starts of the clusters of a text rise
+
+-- none starts before `least` nor before the one before it, and none after `most`
+abbrev pub InOrder : ℕ → ℕ → List Cluster → Type 0
+InOrder least most [] = Unit {0}
+InOrder least most (c ∷ cs) = (least ≤ c.start) × (c.start ≤ most) × InOrder c.start most cs
+
+rising-in_order : (before : List Cluster) (current c : Cluster) (following : List Cluster) (end least : ℕ) → current.start ≡ c.start →
+    Rising Below (starts (before ++ c ∷ following) ++ end ∷ []) → ((at : ℕ) → In (starts (before ++ c ∷ following)) at → least ≤ at) →
+    InOrder least current.start (before ++ current ∷ [])
+rising-in_order [] current c following end least same up from = (omega (arith, same, from c.start (inl refl)), omega arith, tt)
+rising-in_order (d ∷ before) current c following end least same up from =
+    let after : (at : ℕ) → In (starts (before ++ c ∷ following)) at → d.start < at =
+    λ at h. up.0 at (in_left (starts (before ++ c ∷ following)) (end ∷ []) at h) in (
+      from d.start (inl refl),
+      omega (arith, same, after c.start (among before)),
+      rising-in_order before current c following end d.start same up.1 (λ at h. omega (arith, after at h)),
+    )
+  where
+    among : (before : List Cluster) → In (starts (before ++ c ∷ following)) c.start
+    among [] = inl refl
+    among (e ∷ before) = inr (among before)
+
+below-end : (before : List Cluster) (c : Cluster) (following : List Cluster) (end : ℕ) → Rising Below (starts (before ++ c ∷ following) ++ end ∷ []) → c.start < end
+below-end [] c following end up = up.0 end (in_right (starts following) (end ∷ []) end (inl refl))
+below-end (d ∷ before) c following end up = below-end before c following end up.1
+
+-- ---- their places
+
+abbrev pub ArePlaces : ℕ → ℕ → List KeyPlace → Type 0
+ArePlaces least most ps = are_places least most (place_words ps) ≡ true
+
+flag-is : (b : Bool) → is_flag (flag_word b) ≡ true
+flag-is true = refl
+flag-is false = refl
+
+places-first : (least most : ℕ) (p : KeyPlace) (ps : List KeyPlace) → least ≤ p.start → p.start ≤ most → ArePlaces p.start most ps → ArePlaces least most (p ∷ ps)
+places-first least most p ps above below later =
+    let a = le-leb least p.start above in
+    let b = le-leb p.start most below in
+    let c = flag-is p.is_first in
+    rw (a, b, c, later) refl
+
+-- what the first one says
+places-parts : (least most : ℕ) (p : KeyPlace) (ps : List KeyPlace) → ArePlaces least most (p ∷ ps) → (least ≤ p.start) × (p.start ≤ most) × ArePlaces p.start most ps
+places-parts least most p ps h =
+    let words = place_words ps in
+    let a = and_parts (nat_le least p.start) (nat_le p.start most && (is_flag (flag_word p.is_first) && are_places p.start most words)) h in
+    let b = and_parts (nat_le p.start most) (is_flag (flag_word p.is_first) && are_places p.start most words) a.1 in
+    let c = and_parts (is_flag (flag_word p.is_first)) (are_places p.start most words) b.1 in
+    (leb-true least p.start a.0, leb-true p.start most b.0, c.1)
+
+places-from : (least later most : ℕ) (ps : List KeyPlace) → least ≤ later → ArePlaces later most ps → ArePlaces least most ps
+places-from least later most [] h places = refl
+places-from least later most (p ∷ ps) h places =
+    let parts = places-parts later most p ps places in
+    places-first least most p ps (omega (arith, h, parts.0)) parts.1 parts.2
+
+places-drop : (least most n : ℕ) (ps : List KeyPlace) → ArePlaces least most ps → ArePlaces least most (drop n ps)
+places-drop least most zero ps places = places
+places-drop least most (suc n) [] places = refl
+places-drop least most (suc n) (p ∷ ps) places =
+    let parts = places-parts least most p ps places in
+    places-from least p.start most (drop n ps) parts.0 (places-drop p.start most n ps parts.2)
+
+-- the keys of a cluster before others
+places-keys : (least most start : ℕ) (is_first : Bool) (ks : List Key) (rest : List PlacedKey) → least ≤ start → start ≤ most → ArePlaces start most (map place_of rest) →
+    ArePlaces least most (map place_of (placed_at start is_first ks ++ rest))
+places-keys least most start is_first [] rest above below later = places-from least start most (map place_of rest) above later
+places-keys least most start is_first (k ∷ ks) rest above below later =
+    places-first least most (record { start = start; is_first = is_first }) (map place_of (placed_at start false ks ++ rest)) above below
+    (places-keys start most start false ks rest (omega arith) below later)
+
+places-placed : (least most : ℕ) (cs : List Cluster) → InOrder least most cs → ArePlaces least most (map place_of (placed cs))
+places-placed least most [] h = refl
+places-placed least most (c ∷ cs) h =
+    places-keys least most c.start true c.keys (placed cs) h.0 h.1 (places-placed c.start most cs h.2)
+
+-- ---- what a search has walked over
+
+-- the clusters of the walk stand in order in the whole characters
+pub record StandsInOrder (before : List Cluster) (current : Cluster) (end : ℕ) : Type 0 where
+  pub in_order : InOrder 0 current.start (before ++ current ∷ [])
+  pub within : current.start ≤ end
+
+-- the clusters that a text begins with
+text-in_order : BoundariesAreStarts → (s : Sought) (text : List ℕ) (before : List Cluster) (current : Cluster) (rest : List Item) → IsUtf8 text → 1 ≤ length text →
+    clusters s.table s.pattern.strength s.pattern.variable text ≡ before ++ clusters_from current rest → StandsInOrder before current (length text)
+text-in_order law s text before current rest utf8 some all =
+    let end = length text in
+    let first = begins-with current rest in
+    let parts = all ∙ ap (λ (l : List Cluster). before ++ l) first.are in
+    let rising : Rising Below (starts (clusters s.table s.pattern.strength s.pattern.variable text) ++ end ∷ []) =
+    subst (Rising Below) (law s.table s.pattern.strength s.pattern.variable text utf8) (rising_boundaries s.table text) in
+    let up = subst (λ (l : List Cluster). Rising Below (starts l ++ end ∷ [])) parts rising in
+    record {
+      in_order = rising-in_order before current first.first first.following end 0 (sym first.start) up (λ at h. omega arith);
+      within = omega (arith, first.start, below-end before first.first first.following end up);
+    }
+
+-- a text without code points has none
+no_points : points (chars []) ≡ []
+unfolding points_from ordered
+no_points = ap points chars-nil
+
+no_items : (items rest : List Item) → [] ≡ items ++ rest → items ≡ []
+no_items [] rest h = refl
+no_items (i ∷ items) rest h = cc
+
+begin-in_order : (before : List Cluster) (current : Cluster) → text_begin ∷ [] ≡ before ++ current ∷ [] → StandsInOrder before current 0
+begin-in_order [] current h =
+    let same : text_begin ≡ current = cc in
+    let start = ap (λ c. c.start) same in
+    record { in_order = (omega (arith, start), omega arith, tt); within = omega (arith, start) }
+begin-in_order (d ∷ []) current h = cc
+begin-in_order (d ∷ e ∷ before) current h = cc
+
+pub walked-in_order : BoundariesAreStarts → (s : Sought) (finder : Finder) (text : List ℕ) (handed : List (ℕ × ℕ)) → (h : FinderStandsFor s.table s.pattern finder (chars text) handed) → finder.window.has_ended ≡ false →
+    IsUtf8 text → StandsInOrder h.matched.walked.before h.matched.walked.current (length text)
+walked-in_order law s finder [] handed h goes_on utf8 =
+    let w = h.matched.walked in
+    let more = items_go_on s finder (chars []) [] handed h goes_on in
+    let all_items = items s.table s.pattern.strength s.pattern.variable false in
+    let nothing = ap (λ ps. all_items (units s.table ps)) (sym no_points) ∙ ap (λ cs. all_items (units s.table (points cs))) (sym (append-nil (chars []))) ∙ more.1 in
+    let none = no_items h.matched.items more.0 nothing in
+    begin-in_order w.before w.current (ap (clusters_from text_begin) (sym (append-nil h.matched.items ∙ none)) ∙ w.clusters [])
+walked-in_order law s finder (b ∷ bs) handed h goes_on utf8 =
+    let text = b ∷ bs in
+    let w = h.matched.walked in
+    let more = items_go_on s finder (chars text) [] handed h goes_on in
+    let all_items = items s.table s.pattern.strength s.pattern.variable false in
+    let all = ap (λ cs. clusters_from text_begin (all_items (units s.table (points cs)))) (sym (append-nil (chars text)))
+    ∙ ap (clusters_from text_begin) more.1 ∙ w.clusters more.0 in
+    text-in_order law s text w.before w.current more.0 utf8 (omega arith) all
+
+-- ---- what a state may say of the walk
+
+abbrev TextLaw : Type 0
+TextLaw = (bytes : List ℕ) → IsUtf8 (take (characters_end bytes) bytes)
+
+abbrev WithinLaw : Type 0
+WithinLaw = (bytes : List ℕ) → characters_end bytes ≤ length bytes
+
+-- the bytes before those held are the whole characters
+pub searched-whole : WithinLaw → (s : Sought) (cut : CutState) (finder : Finder) (fault : Option TextFault) (taken : List ℕ) (handed : List (ℕ × ℕ)) →
+    Searched s.table s.pattern cut finder fault taken handed → cut.count - length cut.held ≡ length (whole taken)
+searched-whole within s cut finder fault taken handed h =
+    let stands = h.cut_stands in
+    let good : cut.is_bad ≡ false = stands.bad ∙ ap not (open_cut taken h.open_bytes) in
+    let held : cut.held ≡ after_characters taken = stands.held ∙ ap (λ b. cond b [] (after_characters taken)) good in
+    omega (arith, stands.count, ap length held, length-drop (characters_end taken) taken, length-take-le (characters_end taken) taken (within taken), within taken)
+
+-- the starts of the clusters of the last keys do not fall, and none is after that of the current one
+pub searched-places : BoundariesAreStarts → TextLaw → (s : Sought) (cut : CutState) (finder : Finder) (fault : Option TextFault) (taken : List ℕ) (handed : List (ℕ × ℕ)) →
+    Searched s.table s.pattern cut finder fault taken handed → finder.window.has_ended ≡ false →
+    are_places 0 finder.walk.start (place_words (kept_places finder.walk)) ≡ true
+searched-places law text_law s cut finder fault taken handed h goes_on =
+    let w = h.found.matched.walked in
+    let order = walked-in_order law s finder (whole taken) handed h.found goes_on (text_law taken) in
+    let cs = w.before ++ w.current ∷ [] in
+    let ps = map place_of (placed cs) in
+    let all : ArePlaces 0 w.current.start ps = places-placed 0 w.current.start cs order.in_order in
+    let kept : ArePlaces 0 w.current.start (keep_last finder.walk.state ps) = places-drop 0 w.current.start (length ps - finder.walk.state) ps all in
+    ap (λ n. are_places 0 n (place_words (kept_places finder.walk))) w.start
+    ∙ ap (λ (l : List KeyPlace). are_places 0 w.current.start (place_words l)) w.places ∙ kept
+
+-- the current cluster starts within the whole characters
+pub searched-start : BoundariesAreStarts → TextLaw → WithinLaw → (s : Sought) (cut : CutState) (finder : Finder) (fault : Option TextFault) (taken : List ℕ) (handed : List (ℕ × ℕ)) →
+    Searched s.table s.pattern cut finder fault taken handed → finder.window.has_ended ≡ false →
+    finder.walk.start ≤ cut.count - length cut.held
+searched-start law text_law within s cut finder fault taken handed h goes_on =
+    let w = h.found.matched.walked in
+    let order = walked-in_order law s finder (whole taken) handed h.found goes_on (text_law taken) in
+    omega (arith, w.start, order.within, searched-whole within s cut finder fault taken handed h)
+
+pub searched-state : (s : Sought) (cut : CutState) (finder : Finder) (fault : Option TextFault) (taken : List ℕ) (handed : List (ℕ × ℕ)) →
+    Searched s.table s.pattern cut finder fault taken handed → finder.walk.state ≤ length s.pattern.keys
+searched-state s cut finder fault taken handed h =
+    let m = h.found.matched in walks-within s.pattern.keys m.items handed finder.walk m.walked
+
+-- ---- a match that waits
+
+-- a place that is the first of its cluster
+first-place : (ps : List KeyPlace) (i : ℕ) → is_first_place (slice_get ps i) ≡ true → (p : KeyPlace) × (later : List KeyPlace) × (drop i ps ≡ p ∷ later) × (p.is_first ≡ true)
+first-place ps i h =
+    elim (either (slice_get ps i)) [
+      | inl none ↦ let no : false ≡ true = sym (ap is_first_place none) ∙ h in cc
+      | inr some ↦ (some.0, drop (i + 1) ps, drop-some ps i some.0 some.1, sym (ap is_first_place some.1) ∙ h)
+    ]
+
+-- a match waits as a state says
+pub saved-match_waits : (r : Resumed) (table : TableMap) (pattern : Compiled) (cut : CutState) (finder : Finder) (fault : Option TextFault) → r.pattern_len ≡ length pattern.keys →
+    may_match_wait r (head (state_words table pattern cut finder fault)) (state_words table pattern cut finder fault) ≡ true
+saved-match_waits r table pattern cut finder (Some fault) same = refl
+saved-match_waits r table pattern cut finder None same =
+    let walk = finder.walk in
+    let words = state_words table pattern cut finder None in
+    let later = point_words finder.window.points in
+    let last = point_words finder.reorder.held in
+    let at = length walk.places.items - walk.state in
+    let oldest = is_first_place (slice_get walk.places.items at) in
+    elim (cases_Bool (match_waits (length pattern.keys) walk)) [
+      | inl waits ↦
+          let a = and_parts walk.has_keys (walk.state == length pattern.keys && oldest) waits in
+          let b = and_parts (walk.state == length pattern.keys) oldest a.1 in
+          let first = first-place walk.places.items at b.1 in
+          let state : (walk.state == r.pattern_len) ≡ true = ap (λ n. walk.state == n) same ∙ b.0 in
+          let flag : (slice_index words 21 == 1) ≡ true =
+          ap (λ (ps : List KeyPlace). slice_index ((place_words ps ++ later) ++ last) 1 == 1) first.2 ∙ flag-read first.0.is_first ∙ first.3 in
+          let keyed : (flag_word walk.has_keys == 1) ≡ true = flag-read walk.has_keys ∙ a.0 in
+          or_right (flag_word (match_waits (length pattern.keys) walk) == 0) (walk.state == r.pattern_len && (slice_index words 21 == 1 && flag_word walk.has_keys == 1))
+          (rw (state, flag, keyed) refl)
+      | inr none ↦ ap (λ b. flag_word b == 0 || (walk.state == r.pattern_len && (slice_index words 21 == 1 && flag_word walk.has_keys == 1))) none
+    ]
