@@ -1,12 +1,12 @@
 -- What a search that goes on saves of its walk is as a state says.
 use Rattle.std.specs.Str.{chars, IsUtf8}
-use Rattle.std.proofs.Common.{◌≡◌, ℕ, zero, suc, ◌+◌, ◌-◌, ◌<◌, ◌≤◌, ◌==◌, nat_le, Bool, true, false, cond, ◌&&◌, ◌||◌, not, List, [], ◌∷◌, ◌++◌, length, take, drop, map, slice_get, slice_index, Option, Some, None, refl, sym, ap, ◌∙◌, subst, arith, inl, inr, append-nil}
+use Rattle.std.proofs.Common.{◌≡◌, ℕ, zero, suc, ◌+◌, ◌-◌, ◌*◌, ◌<◌, ◌≤◌, ◌==◌, nat_le, Bool, true, false, cond, ◌&&◌, ◌||◌, not, List, [], ◌∷◌, ◌++◌, length, take, drop, map, slice_get, slice_index, Option, Some, None, refl, sym, ap, ◌∙◌, subst, arith, inl, inr, append-nil}
 use Rattle.std.proofs.lemmas.Bool.{and_parts, le-leb, cases_Bool, leb-true, or_right}
 use Rattle.std.proofs.lemmas.List.{length-drop, length-take-le}
 use Rattle.std.proofs.lemmas.Str.{chars-nil}
 use Rattle.utf8_cut.specs.Characters.{characters_end, after_characters}
 use Rattle.utf8_cut.specs.Value.{CutState}
-use Rattle.nfd_points.specs.Points.{points_from, points, ordered}
+use Rattle.nfd_points.specs.Points.{byte_len, points_from, points, ordered}
 use Rattle.collation_table.specs.Table.{TableMap}
 use Rattle.collation_elements.specs.declared.keys.Key.{Key}
 use Rattle.collation_elements.specs.declared.keys.Item.{Item}
@@ -19,9 +19,11 @@ use Rattle.circular_buffer.specs.Buffer.{keep_last}
 use Rattle.collation_search.specs.declared.faults.TextFault.{TextFault}
 use Rattle.collation_search.specs.declared.finder.Finder.{Finder}
 use Rattle.collation_search.specs.declared.walk.KeyPlace.{KeyPlace}
+use Rattle.collation_search.specs.declared.walk.Walk.{Walk}
 use Rattle.collation_search.specs.ByClusters.{PlacedKey, text_begin, placed, placed_at}
 use Rattle.collation_search.specs.Finding.{FinderStandsFor}
 use Rattle.collation_search.specs.GoodPrefix.{whole}
+use Rattle.collation_search.specs.Restoring.{places_in}
 use Rattle.collation_search.specs.Search.{Sought}
 use Rattle.collation_search.specs.Searching.{Searched}
 use Rattle.collation_search.specs.State.{flag_word, place_words, point_words, kept_places, match_waits, is_first_place, state_words}
@@ -31,12 +33,12 @@ use Rattle.collation_search.proofs.BridgeLists.{In, Rising, in_left, in_right}
 use Rattle.collation_search.proofs.BridgeRanges.{Below}
 use Rattle.collation_search.proofs.BridgeMatches.{rising_boundaries}
 use Rattle.collation_search.proofs.LagRanges.{begins-with}
-use Rattle.collation_search.proofs.SavingLemmas.{drop-some}
+use Rattle.collation_search.proofs.SavingLemmas.{drop-some, place_words-length}
 use Rattle.collation_search.proofs.SearchBegins.{items_go_on}
 use Rattle.collation_search.proofs.SearchLemmas.{either}
-use Rattle.collation_search.proofs.TextCheckLemmas.{open_cut}
+use Rattle.collation_search.proofs.TextCheckLemmas.{open_cut, next_offset}
 use Rattle.collation_search.proofs.WalkSteps.{walks-within}
-use Rattle.collation_search.proofs.RestoredWalk.{flag-read}
+use Rattle.collation_search.proofs.RestoredWalk.{flag-read, places_in-words, kept_places-length}
 
 -- ---- the starts of the clusters of a text rise
 
@@ -190,6 +192,11 @@ searched-whole within s cut finder fault taken handed h =
     let held : cut.held ≡ after_characters taken = stands.held ∙ ap (λ b. cond b [] (after_characters taken)) good in
     omega (arith, stands.count, ap length held, length-drop (characters_end taken) taken, length-take-le (characters_end taken) taken (within taken), within taken)
 
+pub searched-end : TextLaw → WithinLaw → (s : Sought) (cut : CutState) (finder : Finder) (fault : Option TextFault) (taken : List ℕ) (handed : List (ℕ × ℕ)) →
+    Searched s.table s.pattern cut finder fault taken handed → cut.count - length cut.held ≡ byte_len (chars (whole taken))
+searched-end text_law within s cut finder fault taken handed h =
+    omega (arith, searched-whole within s cut finder fault taken handed h, length-take-le (characters_end taken) taken (within taken), next_offset taken (text_law taken) (within taken))
+
 -- the starts of the clusters of the last keys do not fall, and none is after that of the current one
 pub searched-places : BoundariesAreStarts → TextLaw → (s : Sought) (cut : CutState) (finder : Finder) (fault : Option TextFault) (taken : List ℕ) (handed : List (ℕ × ℕ)) →
     Searched s.table s.pattern cut finder fault taken handed → finder.window.has_ended ≡ false →
@@ -217,6 +224,28 @@ pub searched-state : (s : Sought) (cut : CutState) (finder : Finder) (fault : Op
     Searched s.table s.pattern cut finder fault taken handed → finder.walk.state ≤ length s.pattern.keys
 searched-state s cut finder fault taken handed h =
     let m = h.found.matched in walks-within s.pattern.keys m.items handed finder.walk m.walked
+
+-- what a state says of the walk, where the whole characters end there
+pub record WalkIsSaved (pattern_len : ℕ) (walk : Walk) (end : ℕ) : Type 0 where
+  pub back : places_in (place_words (kept_places walk)) ≡ kept_places walk
+  pub many : length (place_words (kept_places walk)) ≡ 4 * walk.state
+  pub places : are_places 0 walk.start (place_words (kept_places walk)) ≡ true
+  pub start : walk.start ≤ end
+  pub state : walk.state ≤ pattern_len
+
+pub walk-saved : BoundariesAreStarts → TextLaw → WithinLaw → (s : Sought) (cut : CutState) (finder : Finder) (fault : Option TextFault) (taken : List ℕ) (handed : List (ℕ × ℕ)) →
+    Searched s.table s.pattern cut finder fault taken handed → finder.window.has_ended ≡ false →
+    WalkIsSaved (length s.pattern.keys) finder.walk (cut.count - length cut.held)
+walk-saved law text_law within s cut finder fault taken handed h goes_on =
+    let m = h.found.matched in
+    let kept = kept_places finder.walk in
+    record {
+      back = places_in-words kept;
+      many = place_words-length kept ∙ ap (λ n. 4 * n) (kept_places-length s.pattern.keys m.items handed finder.walk m.walked);
+      places = searched-places law text_law s cut finder fault taken handed h goes_on;
+      start = searched-start law text_law within s cut finder fault taken handed h goes_on;
+      state = searched-state s cut finder fault taken handed h;
+    }
 
 -- ---- a match that waits
 
