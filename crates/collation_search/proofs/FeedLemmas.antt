@@ -8,7 +8,7 @@ use Rattle.collation_search.specs.declared.faults.TextFault.{TextFault}
 use Rattle.collation_search.specs.declared.search.Search.{Search}
 use Rattle.collation_search.specs.Answer.{Answer}
 use Rattle.collation_search.specs.GoodPrefix.{is_good_so_far}
-use Rattle.collation_search.specs.Search.{HasSearched, HasReported, IsCompiledFrom, Sought, sought, answer_to}
+use Rattle.collation_search.specs.Search.{HasSearched, HasReported, HasReportedNone, IsCompiledFrom, Sought, sought, answer_to}
 use Rattle.collation_search.specs.Feeding.{Feeds}
 
 -- ---- results
@@ -38,6 +38,13 @@ folds-append R p (x ∷ xs) ys q r c h = (c.0, c.1, folds-append R c.0 xs ys q r
 err_of : (f g : TextFault) → Some f ≡ Some g → let r : Result (Unit {0}) TextFault = Err f in r ≡ Err g
 err_of f g e = let same : f ≡ g = cc in ap (λ t. let r : Result (Unit {0}) TextFault = Err t in r) same
 
+none_of : (o : Option TextFault) → ((f : TextFault) → o ≡ Some f → ⊥) → o ≡ None
+none_of None h = refl
+none_of (Some f) h = absurd (h f refl)
+
+none_or_some : (o : Option TextFault) (f : TextFault) → o ≡ None → o ≡ Some f → ⊥
+none_or_some o f none some = cc
+
 one_byte : (u : List ℕ) (byte : ℕ) (more : List ℕ) → (u ++ byte ∷ []) ++ more ≡ u ++ byte ∷ more
 one_byte u byte more = append_assoc u (byte ∷ []) more
 
@@ -51,6 +58,8 @@ module _ {W : Type 0} {G : Ghosts W} where
     closed = λ u more handed h. tt;
     reported = tt;
     again = λ f h. absurd (none f h);
+    none = none_of search.fault none;
+    memory = tt;
     same_sought = refl;
   }
 
@@ -77,6 +86,8 @@ module _ {W : Type 0} {G : Ghosts W} where
         (second.closed (u ++ p) more (handed ++ xs) (first.stands u handed h));
     reported = second.reported;
     again = λ f h. absurd (ok_not_err tt f (first.again f h).0);
+    none = second.none;
+    memory = if_err-map r _ _ (λ f h kind. absurd (none_or_some b.fault f first.none (h kind))) second.memory;
     same_sought = second.same_sought ∙ first.same_sought;
   }
 
@@ -90,6 +101,8 @@ module _ {W : Type 0} {G : Ghosts W} where
     closed = λ u more handed s. ap is_good_so_far (ap (λ t. t ++ more) (sym (append_assoc u p q)) ∙ append_assoc (u ++ p) q more) ∙ h.closed u (q ++ more) handed s;
     reported = h.reported;
     again = h.again;
+    none = tt;
+    memory = h.memory;
     same_sought = h.same_sought;
   }
 
@@ -99,9 +112,10 @@ module _ {W : Type 0} {G : Ghosts W} where
       ((text u more : List ℕ) (handed : List (ℕ × ℕ)) → IsCompiledFrom (sought a) text → HasSearched a u handed →
       IfErr r (λ f. answer_to (sought a) text (u ++ byte ∷ more) ≡ record { ranges = handed ++ found; fault = Some f })) →
       ((u more : List ℕ) (handed : List (ℕ × ℕ)) → HasSearched a u handed → OnErr r (is_good_so_far (u ++ byte ∷ more) ≡ false)) →
-      IfErr r (λ f. HasReported b f) → ((f : TextFault) → HasReported a f → (r ≡ Err f) × (found ≡ [])) → sought b ≡ sought a →
+      IfErr r (λ f. HasReported b f) → ((f : TextFault) → HasReported a f → (r ≡ Err f) × (found ≡ [])) →
+      OnOk r (HasReportedNone b) → IfErr r (λ f. f.kind ≡ 35 → HasReported a f) → sought b ≡ sought a →
       Feeds a (byte ∷ []) r found b
-  feeds-byte a b byte r found stands answer closed reported again same = record {
+  feeds-byte a b byte r found stands answer closed reported again none memory same = record {
     stands = stands;
     answer = λ text u more handed compiled h.
         let Q : List ℕ → Type 0 = λ t. IfErr r (λ f. answer_to (sought a) text t ≡ record { ranges = handed ++ found; fault = Some f }) in
@@ -110,6 +124,8 @@ module _ {W : Type 0} {G : Ghosts W} where
         let Q : List ℕ → Type 0 = λ t. OnErr r (is_good_so_far t ≡ false) in subst Q (sym (one_byte u byte more)) (closed u more handed h);
     reported = reported;
     again = again;
+    none = none;
+    memory = memory;
     same_sought = same;
   }
 
@@ -123,5 +139,7 @@ module _ {W : Type 0} {G : Ghosts W} where
     closed = λ u more handed h. absurd (not_open u handed h);
     reported = reported;
     again = λ g h. (err_of f g (again g h), refl);
+    none = tt;
+    memory = λ kind. reported;
     same_sought = refl;
   }

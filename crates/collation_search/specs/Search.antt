@@ -1,5 +1,5 @@
 -- What a search looks for, and what it stands for.
-use Rattle.std.specs.Prelude.{◌≡◌, ℕ, List, Some}
+use Rattle.std.specs.Prelude.{◌≡◌, ℕ, List, None, Some}
 use Rattle.collation_table.specs.Table.{TableMap}
 use Rattle.collation_table.specs.declared.lookup.Weights.{Ghosts}
 use Rattle.collation_pattern.specs.Compiled.{Compiled, IsCompiledWith}
@@ -36,3 +36,7 @@ HasSearched {W} {G} search taken handed =
 -- a fault was reported, at which the text counts as ended
 abbrev pub HasReported : {W : Type 0} {G : Ghosts W} → Search W G → TextFault → Type 0
 HasReported {W} {G} search fault = search.fault ≡ Some fault
+
+-- no fault was reported
+abbrev pub HasReportedNone : {W : Type 0} {G : Ghosts W} → Search W G → Type 0
+HasReportedNone {W} {G} search = search.fault ≡ None

@@ -31,7 +31,8 @@ impl<'a, W: Weights> Search<'a, W> {
     /// # Errors
     ///
     /// The first fault of the text, at which it counts as ended; the sink got the rest of the settled ranges, and the bytes
-    /// of the piece after the fault were not read. From then on the same fault, and nothing is handed out.
+    /// of the piece after the fault were not read. From then on the same fault, and nothing is handed out. No memory is taken,
+    /// so that 35 is only a fault that the search began with.
     pub fn feed<F: FnMut(u64, u64)>(&mut self, piece: &[u8], sink: &mut F) -> Result<(), TextFault>
         requires { F.IsAlwaysCallable sink.old }
         ensures fed { (found : List (ℕ × ℕ)) × FoldsTo (λ f range g. F.step f range.0 range.1 tt g) sink.old found sink.new

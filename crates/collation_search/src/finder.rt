@@ -11,7 +11,7 @@ use arrayvec::ArrayVec;
 use collation_elements::{Item, MOST_ITEMS, Weigher, Window, closed_points_append};
 use collation_pattern::Pattern;
 use collation_table::{MOST_STRING_POINTS, Weights};
-use nfd_points::laws::laws_of_runs;
+use nfd_points::laws::{laws_of_faults, laws_of_runs};
 use nfd_points::{MOST_GIVEN, Point, PointFault, Reorder};
 use std::alloc::{AllocError, Global};
 
@@ -99,6 +99,7 @@ impl Finder {
             → OnErr result (FinderStandsFor (W.table table.now) pattern.now self.new taken ranges) }
         ensures fault { (taken rest : List ℕ) (ranges : List _) → FinderStandsFor (W.table table.now) pattern.now self.old taken ranges
             → IfErr result (λ f. point_fault (taken ++ c ∷ rest) ≡ Some (byte_len taken, f.kind)) }
+        ensures kind { IfErr result (λ f. f.kind ≡ 32) }
         ensures none { OnErr result (found.new.items ≡ []) }
         ensures few { array_vec_len found.new ≤ longest_key_of (W.table table.now) + MOST_GIVEN }
         ensures open { self.new.window.has_ended ≡ false }
@@ -106,6 +107,7 @@ impl Finder {
         ensures pattern_len { self.new.pattern_len ≡ self.old.pattern_len }
     {
         closed_points_append();
+        laws_of_faults();
         laws_of_runs();
         self.reorder.push(c, offset, &mut self.given)?;
         push_points(&mut self.window, self.given.as_slice());

@@ -1,6 +1,8 @@
 //! The search over a stream of bytes.
 ghost use Rattle.std.specs.Prelude.{◌≡◌, ◌+◌, ◌≤◌, length, None, false};
+ghost use Rattle.std.specs.Option.{ForSome};
 ghost use Rattle.collation_table.specs.Table.{longest_mapped as longest_key_of};
+ghost use Rattle.collation_search.specs.GoodPrefix.{most_bytes};
 
 use crate::bridge::matches_by_clusters;
 use crate::faults::TextFault;
@@ -37,6 +39,8 @@ pub struct Search<'a, W: Weights> {
     ghost longest: { finder.longest_key ≡ query.longest_key },
     ghost pattern_len: { finder.pattern_len ≡ length query.pattern.now.keys },
     ghost open: { fault ≡ None → finder.window.has_ended ≡ false },
+    ghost count: { cut.count ≤ most_bytes },
+    ghost kept: { ForSome fault (λ f. (31 ≤ f.kind) × (f.kind ≤ 35) × (f.offset ≤ most_bytes)) },
 }
 
 impl<'a, W: Weights> Search<'a, W> {
@@ -48,8 +52,8 @@ impl<'a, W: Weights> Search<'a, W> {
     ghost use Rattle.collation_search.specs.declared.faults.TextFault.{TextFault};
     ghost use Rattle.collation_search.specs.Finding.{FinderStandsFor};
     ghost use Rattle.collation_search.specs.Lag.{code_points_from};
-    ghost use Rattle.collation_search.specs.Search.{HasSearched, HasReported, IsCompiledFrom, sought, answer_to, settled_in};
-    ghost use Rattle.collation_search.specs.GoodPrefix.{fault as fault_of, is_good_so_far, whole};
+    ghost use Rattle.collation_search.specs.Search.{HasSearched, HasReported, HasReportedNone, IsCompiledFrom, sought, answer_to, settled_in};
+    ghost use Rattle.collation_search.specs.GoodPrefix.{fault as fault_of, is_good_so_far, most_bytes, whole};
 
     /// A search at the beginning of a text.
     ///
@@ -88,6 +92,8 @@ impl<'a, W: Weights> Search<'a, W> {
             → IfErr result (λ f. f.offset ≡ characters_end u) }
         ensures closed { (u more : List ℕ) (ranges : List _) → HasSearched self.old u ranges
             → OnErr result (is_good_so_far (u ++ byte ∷ more) ≡ false) }
+        ensures kind { IfErr result (λ f. (31 ≤ f.kind) × (f.kind ≤ 34)) }
+        ensures place { IfErr result (λ f. f.offset ≤ most_bytes) }
         ensures none { OnErr result (found.new.items ≡ []) }
         ensures same { self.new.query ≡ self.old.query }
         ensures good { self.new.fault ≡ None }
@@ -128,7 +134,7 @@ impl<'a, W: Weights> Search<'a, W> {
     /// # Errors
     ///
     /// The first fault of the text, at which it counts as ended; then `found` has the rest of the settled ranges. From then on
-    /// the same fault, and nothing is found.
+    /// the same fault, and nothing is found. No memory is taken, so that 35 is only a fault that the search began with.
     pub fn step(&mut self, byte: u8, found: &mut Found) -> Result<(), TextFault>
         ensures stands { (u : List ℕ) (handed : List _) → HasSearched self.old u handed
             → OnOk result (HasSearched self.new (u ++ byte ∷ []) (handed ++ found.new.items)) }
@@ -138,6 +144,8 @@ impl<'a, W: Weights> Search<'a, W> {
         ensures few { length found.new.items ≤ longest_key_of (sought self.old).table + 34 }
         ensures reported { IfErr result (λ f. HasReported self.new f) }
         ensures again { (f : TextFault) → HasReported self.old f → (result ≡ Err f) × (found.new.items ≡ []) }
+        ensures none { OnOk result (HasReportedNone self.new) }
+        ensures memory { IfErr result (λ f. f.kind ≡ 35 → HasReported self.old f) }
         ensures sought { sought self.new ≡ sought self.old }
     {
         matches_by_clusters(self.query.table);

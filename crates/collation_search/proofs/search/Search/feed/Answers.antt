@@ -26,7 +26,7 @@ returns-in-Err-clause-fed g c =
     let before = c.loop-byte.invariant.1 in
     let step = c.in-Err.ensures in
     let found = c.step.new.found.items in
-    let byte = feeds-byte c.loop-byte.self c.step.new.self b (Err c.in-Err.fault) found step.stands step.answer step.closed step.reported step.again step.sought in
+    let byte = feeds-byte c.loop-byte.self c.step.new.self b (Err c.in-Err.fault) found step.stands step.answer step.closed step.reported step.again step.none step.memory step.sought in
     let both = feeds-append c.args.self.now c.loop-byte.self c.step.new.self (take i piece) (b ∷ []) (Err c.in-Err.fault) before.0 found before.2 byte in
     let all = feeds-stop c.args.self.now c.step.new.self (take i piece ++ b ∷ []) (drop (suc i) piece) c.in-Err.fault (before.0 ++ found) both in
     let whole : (take i piece ++ b ∷ []) ++ drop (suc i) piece ≡ piece = append_assoc (take i piece) (b ∷ []) (drop (suc i) piece) ∙ sym (split_at piece i 0 c.loop-byte-test.true) in
@@ -44,7 +44,7 @@ loop-byte-preserved g c =
     let before = c.loop-byte.invariant.1 in
     let step = c.in-Ok.ensures in
     let found = c.step.new.found.items in
-    let byte = feeds-byte c.loop-byte.self c.step.new.self b (Ok tt) found step.stands step.answer step.closed step.reported step.again step.sought in
+    let byte = feeds-byte c.loop-byte.self c.step.new.self b (Ok tt) found step.stands step.answer step.closed step.reported step.again step.none step.memory step.sought in
     let both = feeds-append c.args.self.now c.loop-byte.self c.step.new.self (take i piece) (b ∷ []) (Ok tt) before.0 found before.2 byte in
     let calls = subst (λ (t : List (ℕ × ℕ)). FoldsTo (λ f range t'. goal.F-step g f range.0 range.1 tt t') c.loop-byte.sink t c.hand_out.new.sink) c.as_slice.ensures.value c.hand_out.ensures.called in (
       c.hand_out.ensures.callable,
