@@ -38,11 +38,11 @@ folds-append R p (x ∷ xs) ys q r c h = (c.0, c.1, folds-append R c.0 xs ys q r
 err_of : (f g : TextFault) → Some f ≡ Some g → let r : Result (Unit {0}) TextFault = Err f in r ≡ Err g
 err_of f g e = let same : f ≡ g = cc in ap (λ t. let r : Result (Unit {0}) TextFault = Err t in r) same
 
-none_of : (o : Option TextFault) → ((f : TextFault) → o ≡ Some f → ⊥) → o ≡ None
+pub none_of : (o : Option TextFault) → ((f : TextFault) → o ≡ Some f → ⊥) → o ≡ None
 none_of None h = refl
 none_of (Some f) h = absurd (h f refl)
 
-none_or_some : (o : Option TextFault) (f : TextFault) → o ≡ None → o ≡ Some f → ⊥
+pub none_or_some : (o : Option TextFault) (f : TextFault) → o ≡ None → o ≡ Some f → ⊥
 none_or_some o f none some = cc
 
 one_byte : (u : List ℕ) (byte : ℕ) (more : List ℕ) → (u ++ byte ∷ []) ++ more ≡ u ++ byte ∷ more
@@ -142,4 +142,18 @@ module _ {W : Type 0} {G : Ghosts W} where
     none = tt;
     memory = λ kind. reported;
     same_sought = refl;
+  }
+
+  -- a piece without a fault
+  pub feeds-good : (a b : Search W G) (piece : List ℕ) (found : List (ℕ × ℕ)) → a.fault ≡ None → b.fault ≡ None → sought b ≡ sought a →
+      ((u : List ℕ) (handed : List (ℕ × ℕ)) → HasSearched a u handed → HasSearched b (u ++ piece) (handed ++ found)) → Feeds a piece (Ok tt) found b
+  feeds-good a b piece found none_before none same stands = record {
+    stands = stands;
+    answer = λ text u more handed compiled h. tt;
+    closed = λ u more handed h. tt;
+    reported = tt;
+    again = λ f h. absurd (none_or_some a.fault f none_before h);
+    none = none;
+    memory = tt;
+    same_sought = same;
   }

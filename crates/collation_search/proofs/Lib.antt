@@ -28,3 +28,4 @@ pub mod RestoredWalk
 pub mod SavedWalk
 pub mod WorkedStateLemmas
 pub mod IndexLemmas
+pub mod AsciiRunLemmas

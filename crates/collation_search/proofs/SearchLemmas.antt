@@ -108,7 +108,7 @@ prefix_of_text text at utf8 h =
     )
 
 -- a prefix of a prefix
-take_within : (n m : ℕ) (xs : List ℕ) → n ≤ length (take m xs) → take n (take m xs) ≡ take n xs
+pub take_within : (n m : ℕ) (xs : List ℕ) → n ≤ length (take m xs) → take n (take m xs) ≡ take n xs
 take_within n m xs h =
     let whole = sym (take-append-drop m xs) in
     sym (ap (take n) whole ∙ take-append-le n (take m xs) (drop m xs) h)

@@ -79,6 +79,12 @@ pub next_code : (u : List ℕ) (b c at : ℕ) → characters (u ++ b ∷ []) ≡
 next_code u b c at h =
     sym (codes_whole (u ++ b ∷ [])) ∙ ap codes_of h ∙ map-append (λ (c : ℕ × ℕ). c.0) (characters u) ((c, at) ∷ []) ∙ ap (λ t. t ++ c ∷ []) (codes_whole u)
 
+-- characters appended
+pub next_codes : (u later : List ℕ) (from : ℕ) (cs : List ℕ) → characters (u ++ later) ≡ characters u ++ with_offsets from cs → chars (whole (u ++ later)) ≡ chars (whole u) ++ cs
+next_codes u later from cs h =
+    sym (codes_whole (u ++ later)) ∙ ap codes_of h ∙ map-append (λ (c : ℕ × ℕ). c.0) (characters u) (with_offsets from cs)
+    ∙ ap (λ t. codes_of (characters u) ++ t) (with_offsets_codes from cs) ∙ ap (λ t. t ++ cs) (codes_whole u)
+
 pub still_open : (u : List ℕ) (b : ℕ) → length u < most_bytes → ill_formed_at (u ++ b ∷ []) ≡ None → point_fault (chars (whole (u ++ b ∷ []))) ≡ None → is_good_so_far (u ++ b ∷ []) ≡ true
 still_open u b short formed good = open_from (u ++ b ∷ []) (longer u b short) (not_formed (u ++ b ∷ []) formed) good
 

@@ -8,7 +8,7 @@ use crate::search::Search;
 use collation_table::Weights;
 
 /// Calls the sink once for each range, in order.
-fn hand_out<F: FnMut(u64, u64)>(ranges: &[(u64, u64)], sink: &mut F)
+pub(crate) fn hand_out<F: FnMut(u64, u64)>(ranges: &[(u64, u64)], sink: &mut F)
     requires { F.IsAlwaysCallable sink.old }
     ensures called { FoldsTo (λ f range g. F.step f range.0 range.1 tt g) sink.old ranges.now sink.new }
     ensures callable { F.IsAlwaysCallable sink.new }
@@ -43,14 +43,17 @@ impl<'a, W: Weights> Search<'a, W> {
             return Err(fault);
         }
         let mut found = Found::new();
-        for byte in piece {
-            match self.step(*byte, &mut found) {
+        let mut at = self.take_run(piece, &mut found, sink);
+        while at < piece.len() {
+            match self.step(piece[at], &mut found) {
                 Ok(()) => hand_out(found.as_slice(), sink),
                 Err(fault) => {
                     hand_out(found.as_slice(), sink);
                     return Err(fault);
                 }
             }
+            at += 1;
+            at += self.take_run(&piece[at..], &mut found, sink);
         }
         Ok(())
     }

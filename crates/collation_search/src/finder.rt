@@ -39,7 +39,7 @@ pub(crate) struct Finder {
 }
 
 impl Finder {
-    ghost use Rattle.std.specs.Prelude.{◌≡◌, ℕ, ◌+◌, ◌<◌, ◌≤◌, List, [], ◌∷◌, ◌++◌, length, IfOk, OnOk, OnErr, IfErr, Some, false};
+    ghost use Rattle.std.specs.Prelude.{◌≡◌, ℕ, ◌+◌, ◌<◌, ◌≤◌, List, [], ◌∷◌, ◌++◌, length, IfOk, OnOk, OnErr, IfErr, Ok, Some, false};
     ghost use Rattle.arrayvec.specs.ArrayVec.{array_vec_len};
     ghost use Rattle.nfd_points.specs.Points.{byte_len, points};
     ghost use Rattle.nfd_points.specs.PointFaults.{point_fault};
@@ -100,6 +100,7 @@ impl Finder {
         ensures fault { (taken rest : List ℕ) (ranges : List _) → FinderStandsFor (W.table table.now) pattern.now self.old taken ranges
             → IfErr result (λ f. point_fault (taken ++ c ∷ rest) ≡ Some (byte_len taken, f.kind)) }
         ensures kind { IfErr result (λ f. f.kind ≡ 32) }
+        ensures ascii { c < 128 → result ≡ Ok tt }
         ensures none { OnErr result (found.new.items ≡ []) }
         ensures few { array_vec_len found.new ≤ longest_key_of (W.table table.now) + MOST_GIVEN }
         ensures open { self.new.window.has_ended ≡ false }

@@ -12,6 +12,7 @@
 //! rows in [`worked_states`].
 #![tactic(auto)]
 
+mod ascii;
 mod bridge;
 mod faults;
 mod feed;

@@ -1,0 +1,19 @@
+use Rattle.std.specs.Prelude.{false}
+use Rattle.std.specs.List.{FoldsTo}
+use Rattle.std.proofs.Common.{◌≡◌, ◌+◌, ℕ, List, ◌++◌, length, take}
+use Rattle.nfd_points.specs.Points.{byte_len}
+use Rattle.collation_search.specs.Finding.{FinderStandsFor}
+use Rattle.collation_search.proofs.finder.Finder.take_ascii.Given as goal
+
+-- the characters so far were taken, and the sink was called for the ranges so far
+abbrev pub invariant-loop-byte : goal.invariant-loop-byte
+invariant-loop-byte g l = record {
+  callable : goal.F-IsAlwaysCallable g l.sink;
+  open_window : l.self.window.has_ended ≡ false;
+  longest : l.self.longest_key ≡ l.initial.self.longest_key;
+  pattern_len : l.self.pattern_len ≡ l.initial.self.pattern_len;
+  place : l.at ≡ l.offset + l.byte-index;
+  taken : (ranges : List (ℕ × ℕ)) × FoldsTo (λ f range t. goal.F-step g f range.0 range.1 tt t) l.fn.sink ranges l.sink
+      × ((taken : List ℕ) (handed : List (ℕ × ℕ)) → FinderStandsFor (g.W.Weights.table l.table) l.pattern l.initial.self taken handed → l.offset ≡ byte_len taken
+      → FinderStandsFor (g.W.Weights.table l.table) l.pattern l.self (taken ++ take l.byte-index l.run) (handed ++ ranges));
+}
