@@ -7,6 +7,7 @@ use collation_pattern::Pattern;
 use collation_table::Table;
 use std::test::Fail;
 
+mod ascii_runs;
 mod first_ranges;
 mod long_texts;
 mod pieces;

@@ -37,7 +37,7 @@ pub(super) const KEPT: Variable = Variable::NonIgnorable;
 
 pub(super) const SHIFTED: Variable = Variable::Shifted;
 
-const ONE: Strength = Strength::One;
+pub(super) const ONE: Strength = Strength::One;
 
 const TWO: Strength = Strength::Two;
 
@@ -90,7 +90,7 @@ pub(super) fn fed(
 }
 
 /// What a search answers of a text whose bytes come one by one.
-fn stepped(
+pub(super) fn stepped(
     alloc: Global,
     table: &Table,
     pattern: &Pattern,
