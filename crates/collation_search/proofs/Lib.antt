@@ -25,7 +25,13 @@ pub mod MatchingLemmas
 pub mod SavedPoints
 pub mod SavingLemmas
 pub mod RestoredWalk
+pub mod SavedBytes
 pub mod SavedWalk
+pub mod SavedState
+pub mod RestoredState
+pub mod ResumeLemmas
+pub mod StateLemmas
+pub mod StatePointLemmas
 pub mod WorkedStateLemmas
 pub mod IndexLemmas
 pub mod AsciiRunLemmas

@@ -16,7 +16,8 @@ use Rattle.collation_pattern.specs.Compiled.{Compiled}
 use Rattle.collation_search.specs.declared.finder.Finder.{Finder}
 use Rattle.collation_search.specs.Finding.{FinderStandsFor}
 use Rattle.collation_search.specs.State.{flag_word, point_words}
-use Rattle.collation_search.specs.StateTests.{Head, is_flag, are_places, are_points, points_in, may_be_in_window, may_wait, has_open_tail}
+use Rattle.collation_search.specs.declared.states.Head.{Head}
+use Rattle.collation_search.specs.StateTests.{place_part, window_part, waiting_part, is_flag, are_places, are_points, points_in, may_be_in_window, may_wait, has_open_tail}
 use Rattle.collation_search.proofs.MatchingLemmas.{all-among}
 use Rattle.collation_search.proofs.SavingLemmas.{point_words-length}
 
@@ -133,27 +134,34 @@ points-saved within others table pattern finder taken ranges h =
       waiting_few = waiting-few table pattern finder taken ranges h;
     }
 
--- ---- the test of all records after the first five
+-- ---- the records after the first five
 
--- `places` are the words of the places of keys, which pass their test
-pub has_open_tail-saved : (finder : Finder) (end : ℕ) (h : Head) (places : List ℕ) → PointsAreSaved finder end → h.taken - h.held_len ≡ end → h.window_len ≡ length finder.window.points → length places ≡ 4 * h.state → are_places 0 h.start places ≡ true → has_open_tail h ((places ++ point_words finder.window.points) ++ point_words finder.reorder.held) ≡ true
-has_open_tail-saved finder end h places saved whole window_len state placed =
-    let window = point_words finder.window.points in
-    let waiting = point_words finder.reorder.held in
-    let words = (places ++ window) ++ waiting in
-    let joined : words ≡ places ++ (window ++ waiting) = append_assoc places window waiting in
-    let of_places : take (4 * h.state) words ≡ places =
-    ap₂ (λ n l. take n l) (sym state) joined ∙ take-append_seam places (window ++ waiting) in
-    let after_places : drop (4 * h.state) words ≡ window ++ waiting =
-    ap₂ (λ n l. drop n l) (sym state) joined ∙ drop-append_seam places (window ++ waiting) in
-    let of_window : take (4 * h.window_len) (drop (4 * h.state) words) ≡ window =
-    ap₂ (λ n l. take (4 * n) l) window_len after_places ∙ take-saved finder.window.points waiting in
-    let before_waiting : 4 * (h.state + h.window_len) ≡ length (places ++ window) =
-    omega (arith, state, window_len, length-append places window, length-saved finder.window.points) in
-    let of_waiting : drop (4 * (h.state + h.window_len)) words ≡ waiting =
-    ap (λ n. drop n words) before_waiting ∙ drop-append_seam (places ++ window) waiting in
-    and_from _ _ (ap (are_places 0 h.start) of_places ∙ placed)
-    (and_from _ _ (ap₂ are_points whole of_window ∙ saved.window_points)
-    (and_from _ _ (ap₂ are_points whole of_waiting ∙ saved.waiting_points)
-    (and_from _ _ (ap (λ l. may_be_in_window (points_in l)) of_window ∙ saved.window_may_be)
-    (ap (λ l. may_wait (points_in l)) of_waiting ∙ saved.waiting_may_wait))))
+-- what stands where in them, where the places of keys have these words
+pub record PartsAre (h : Head) (of_places : List ℕ) (in_window that_wait : List Point) (words : List ℕ) : Type 0 where
+  pub places : place_part h words ≡ of_places
+  pub window : window_part h words ≡ point_words in_window
+  pub waiting : waiting_part h words ≡ point_words that_wait
+
+pub parts-saved : (h : Head) (places : List ℕ) (window waiting : List Point) → h.window_len ≡ length window → length places ≡ 4 * h.state →
+    PartsAre h places window waiting ((places ++ point_words window) ++ point_words waiting)
+parts-saved h places window waiting window_len state =
+    let first = point_words window in
+    let last = point_words waiting in
+    let words = (places ++ first) ++ last in
+    let joined : words ≡ places ++ (first ++ last) = append_assoc places first last in
+    let after_places : drop (4 * h.state) words ≡ first ++ last = ap₂ (λ n l. drop n l) (sym state) joined ∙ drop-append_seam places (first ++ last) in
+    record {
+      places = ap₂ (λ n l. take n l) (sym state) joined ∙ take-append_seam places (first ++ last);
+      window = ap₂ (λ n l. take (4 * n) l) window_len after_places ∙ take-saved window last;
+      waiting = ap₂ (λ n l. drop (4 * n) l) window_len after_places ∙ drop-saved window last;
+    }
+
+-- the records of places pass their test, and so do the others
+pub has_open_tail-saved : (finder : Finder) (end : ℕ) (h : Head) (places words : List ℕ) → PointsAreSaved finder end → h.taken - h.held_len ≡ end →
+    PartsAre h places finder.window.points finder.reorder.held words → are_places 0 h.start places ≡ true → has_open_tail h words ≡ true
+has_open_tail-saved finder end h places words saved whole parts placed =
+    and_from _ _ (ap (are_places 0 h.start) parts.places ∙ placed)
+    (and_from _ _ (ap₂ are_points whole parts.window ∙ saved.window_points)
+    (and_from _ _ (ap₂ are_points whole parts.waiting ∙ saved.waiting_points)
+    (and_from _ _ (ap (λ l. may_be_in_window (points_in l)) parts.window ∙ saved.window_may_be)
+    (ap (λ l. may_wait (points_in l)) parts.waiting ∙ saved.waiting_may_wait))))

@@ -27,7 +27,8 @@ use Rattle.collation_search.specs.Restoring.{places_in}
 use Rattle.collation_search.specs.Search.{Sought}
 use Rattle.collation_search.specs.Searching.{Searched}
 use Rattle.collation_search.specs.State.{flag_word, place_words, point_words, kept_places, match_waits, is_first_place, state_words}
-use Rattle.collation_search.specs.StateTests.{Resumed, head, is_flag, are_places, may_match_wait}
+use Rattle.collation_search.specs.declared.states.Resumed.{Resumed}
+use Rattle.collation_search.specs.StateTests.{head, is_flag, are_places, may_match_wait}
 use Rattle.collation_search.specs.Walks.{place_of}
 use Rattle.collation_search.proofs.BridgeLists.{In, Rising, in_left, in_right}
 use Rattle.collation_search.proofs.BridgeRanges.{Below}

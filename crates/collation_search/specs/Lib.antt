@@ -11,8 +11,9 @@ pub mod Searching
 pub mod Search
 pub mod Feeding
 pub mod State
-pub mod StateTests
 pub mod Restoring
+pub mod StateTests
+pub mod Resuming
 pub mod WorkedStates
 pub mod Saving
 pub mod WorkedRows

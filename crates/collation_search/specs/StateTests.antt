@@ -10,30 +10,9 @@ use Rattle.nfd_points.specs.Points.{is_in_order}
 use Rattle.nfd_points.specs.Reordering.{code_points, is_non_starter, is_closed}
 use Rattle.collation_elements.specs.declared.settings.Strength.{Strength}
 use Rattle.collation_elements.specs.declared.settings.Variable.{Variable}
+use Rattle.collation_search.specs.declared.states.Resumed.{Resumed}
+use Rattle.collation_search.specs.declared.states.Head.{Head}
 use Rattle.collation_search.specs.State.{strength_word, variable_word}
-
--- what a state is resumed with: the sizes of the pattern and the table, and the settings
-pub record Resumed : Type 0 where
-  pub pattern_len : ℕ
-  pub longest_key : ℕ
-  pub most_elements : ℕ
-  pub strength : Strength
-  pub variable : Variable
-
--- the words of the first five records, after the form, the sizes and the settings
-pub record Head : Type 0 where
-  pub taken : ℕ
-  pub kind : ℕ
-  pub fault_offset : ℕ
-  pub held_len : ℕ
-  pub held : ℕ
-  pub after_variable : ℕ
-  pub start : ℕ
-  pub has_keys : ℕ
-  pub waits : ℕ
-  pub state : ℕ
-  pub window_len : ℕ
-  pub waiting_len : ℕ
 
 abbrev pub head : List ℕ → Head
 head words = record {
@@ -113,24 +92,39 @@ abbrev pub may_match_wait : Resumed → Head → List ℕ → Bool
 may_match_wait r h words =
     h.waits == 0 || (h.state == r.pattern_len && (slice_index words 21 == 1 && h.has_keys == 1))
 
+-- as many records as the head says, no more of each kind than a search can hold
+abbrev pub has_records : Resumed → Head → List ℕ → Bool
+has_records r h words =
+    nat_le h.state r.pattern_len && (nat_le h.window_len r.longest_key && (nat_le h.waiting_len 30
+    && length words == 4 * (5 + (h.state + (h.window_len + h.waiting_len)))))
+
 -- a search that has met no fault
 abbrev pub is_open_head : Resumed → Head → List ℕ → Bool
 is_open_head r h words =
-    let flags = is_flag h.after_variable && (is_flag h.has_keys && is_flag h.waits) in
-    let bytes = nat_le h.held_len h.taken && may_be_held h.held_len h.held in
-    let sizes = nat_le h.state r.pattern_len && (nat_le h.window_len r.longest_key && nat_le h.waiting_len 30) in
-    let records = length words == 4 * (5 + (h.state + (h.window_len + h.waiting_len))) in
-    h.fault_offset == 0 && (flags && (bytes && (sizes && (records && nat_le h.start (h.taken - h.held_len)))))
+    h.fault_offset == 0
+    && (is_flag h.after_variable && (is_flag h.has_keys && (is_flag h.waits
+    && (nat_le h.held_len h.taken && (may_be_held h.held_len h.held
+    && (has_records r h words && nat_le h.start (h.taken - h.held_len)))))))
+
+-- ---- the records after the first five: the places of the last keys, the points in the window and those that wait
+
+abbrev pub place_part : Head → List ℕ → List ℕ
+place_part h words = take (4 * h.state) words
+
+abbrev pub window_part : Head → List ℕ → List ℕ
+window_part h words = take (4 * h.window_len) (drop (4 * h.state) words)
+
+abbrev pub waiting_part : Head → List ℕ → List ℕ
+waiting_part h words = drop (4 * h.window_len) (drop (4 * h.state) words)
 
 abbrev pub has_open_tail : Head → List ℕ → Bool
 has_open_tail h words =
     let end = h.taken - h.held_len in
-    let places = take (4 * h.state) words in
-    let window = take (4 * h.window_len) (drop (4 * h.state) words) in
-    let waiting = drop (4 * (h.state + h.window_len)) words in
-    are_places 0 h.start places
-    && (are_points end window && (are_points end waiting
-    && (may_be_in_window (points_in window) && may_wait (points_in waiting))))
+    are_places 0 h.start (place_part h words)
+    && (are_points end (window_part h words) && (are_points end (waiting_part h words)
+    && (may_be_in_window (points_in (window_part h words)) && may_wait (points_in (waiting_part h words)))))
+
+-- ---- the whole
 
 -- a search that has reported a fault, and holds nothing else
 abbrev pub is_reported : Head → List ℕ → Bool

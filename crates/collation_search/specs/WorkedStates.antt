@@ -4,7 +4,8 @@ use Rattle.std.specs.Prelude.{◌≡◌, ℕ, ◌+◌, ◌^◌, List, ◌++◌, 
 use Rattle.collation_elements.specs.declared.settings.Variable.TheVariants.{NonIgnorable}
 use Rattle.collation_elements.specs.declared.settings.Strength.TheVariants.{Three}
 use Rattle.collation_search.specs.State.{four}
-use Rattle.collation_search.specs.StateTests.{Resumed, state_fault}
+use Rattle.collation_search.specs.declared.states.Resumed.{Resumed}
+use Rattle.collation_search.specs.StateTests.{state_fault}
 
 abbrev pub worked : Resumed
 worked = record { pattern_len = 2; longest_key = 2; most_elements = 2; strength = Three; variable = NonIgnorable }

@@ -21,11 +21,14 @@ mod finder;
 mod indexing;
 mod lag;
 mod matching;
+mod resuming;
 mod resuming_walk;
 mod saving;
 mod search;
 #[cfg(test)]
 mod state_tests;
+mod state_points;
+mod states;
 #[cfg(test)]
 mod tests;
 mod walk;
@@ -33,7 +36,7 @@ pub mod worked;
 pub mod worked_states;
 
 pub use crate::bridge::{growing_text, last_keys, matches_by_clusters, minimal_ranges};
-pub use crate::faults::TextFault;
+pub use crate::faults::{StateFault, TextFault};
 pub use crate::few_ranges::one_range_begins_at_an_offset;
 pub use crate::indexing::index;
 pub use crate::lag::{answers_in_time, matches_in_time, ranges_in_time};

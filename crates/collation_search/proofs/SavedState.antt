@@ -1,0 +1,192 @@
+-- The words that a search saves are a state, and what is restored from them stands for what the search stood for.
+use Rattle.std.specs.Str.{chars, IsUtf8}
+use Rattle.std.proofs.Common.{◌≡◌, ℕ, ◌+◌, ◌-◌, ◌*◌, ◌%◌, ◌^◌, ◌<◌, ◌≤◌, ◌==◌, Bool, true, false, nat_le, cond, ◌&&◌, ◌||◌, not, List, [], ◌∷◌, ◌++◌, length, take, drop, slice_index, Option, Some, None, refl, sym, ap, ap₂, ◌∙◌, subst, arith}
+use Rattle.std.proofs.Math.Dec.{eqb-suc-zero}
+use Rattle.std.proofs.Math.Nat.{mul-mod_right}
+use Rattle.std.proofs.lemmas.Bool.{and_parts, and_from, leb-true, le-leb, eq-eqb, ne_eqb}
+use Rattle.std.proofs.lemmas.List.{length-append, length-drop}
+use Rattle.std.specs.List.{list_all}
+use Rattle.utf8_cut.specs.Characters.{characters_end, after_characters, is_incomplete_or_empty}
+use Rattle.utf8_cut.specs.State.{StandsFor}
+use Rattle.utf8_cut.specs.Value.{CutState}
+use Rattle.nfd_points.specs.Laws.{OffsetsAreWithin, WaitingAreOthers}
+use Rattle.nfd_points.specs.Points.{byte_len}
+use Rattle.collation_table.specs.Table.{TableMap, longest_mapped, most_elements}
+use Rattle.collation_elements.specs.declared.settings.Strength.{Strength}
+use Rattle.collation_elements.specs.declared.settings.Strength.TheVariants.{One, Two, Three}
+use Rattle.collation_elements.specs.declared.settings.Variable.{Variable}
+use Rattle.collation_elements.specs.declared.settings.Variable.TheVariants.{NonIgnorable, Shifted}
+use Rattle.collation_elements.specs.Context.{BoundariesAreStarts}
+use Rattle.collation_elements.specs.Weighing.{is_after_variable}
+use Rattle.collation_pattern.specs.Compiled.{Compiled}
+use Rattle.collation_search.specs.declared.faults.TextFault.{TextFault}
+use Rattle.collation_search.specs.declared.finder.Finder.{Finder}
+use Rattle.collation_search.specs.declared.states.Resumed.{Resumed}
+use Rattle.collation_search.specs.declared.states.Head.{Head}
+use Rattle.collation_search.specs.Finding.{FinderStandsFor}
+use Rattle.collation_search.specs.GoodPrefix.{whole, most_bytes, is_good_so_far}
+use Rattle.collation_search.specs.Resuming.{sizes_of}
+use Rattle.collation_search.specs.Search.{Sought}
+use Rattle.collation_search.specs.Searching.{Searched}
+use Rattle.collation_search.specs.State.{flag_word, strength_word, variable_word, number_of, place_words, point_words, kept_places, match_waits, head_words, tail_words, state_words}
+use Rattle.collation_search.specs.StateTests.{is_flag, head, has_form, is_for, may_be_held, may_match_wait, has_records, is_open_head, has_open_tail, is_reported, is_state, state_fault, bytes_in}
+use Rattle.collation_search.proofs.SavedBytes.{bytes_in-held, held-few}
+use Rattle.collation_search.proofs.SavedPoints.{PointsAreSaved, points-saved, PartsAre, parts-saved, has_open_tail-saved}
+use Rattle.collation_search.proofs.SavedWalk.{WalkIsSaved, walk-saved, searched-end, saved-match_waits}
+use Rattle.collation_search.proofs.SavingLemmas.{state-records, place_words-length, point_words-length}
+use Rattle.collation_search.proofs.TextCheckLemmas.{open_cut}
+
+-- the laws of texts and points that this needs
+pub record SavedLaws : Type 0 where
+  pub boundaries : BoundariesAreStarts
+  pub text : (bytes : List ℕ) → IsUtf8 (take (characters_end bytes) bytes)
+  pub within : (bytes : List ℕ) → characters_end bytes ≤ length bytes
+  pub offsets : OffsetsAreWithin
+  pub others : WaitingAreOthers
+
+same : (n : ℕ) → (n == n) ≡ true
+same n = eq-eqb n n refl
+
+-- ---- the first five records
+
+-- the words of the first five records, where no fault was reported
+abbrev pub open_head : Compiled → CutState → Finder → Head
+open_head pattern cut finder = record {
+  taken = cut.count;
+  kind = 0;
+  fault_offset = 0;
+  held_len = length cut.held;
+  held = number_of cut.held;
+  after_variable = flag_word (is_after_variable finder.weigher);
+  start = finder.walk.start;
+  has_keys = flag_word finder.walk.has_keys;
+  waits = flag_word (match_waits (length pattern.keys) finder.walk);
+  state = finder.walk.state;
+  window_len = length finder.window.points;
+  waiting_len = length finder.reorder.held;
+}
+
+pub head-saved : (table : TableMap) (pattern : Compiled) (cut : CutState) (finder : Finder) → head (state_words table pattern cut finder None) ≡ open_head pattern cut finder
+head-saved table pattern cut finder = refl
+
+pub tail-saved : (table : TableMap) (pattern : Compiled) (cut : CutState) (finder : Finder) → drop 20 (state_words table pattern cut finder None) ≡ tail_words finder None
+tail-saved table pattern cut finder = refl
+
+-- ---- the form, the sizes and the settings
+
+flag-is : (b : Bool) → is_flag (flag_word b) ≡ true
+flag-is true = refl
+flag-is false = refl
+
+whole-records : (n k : ℕ) → n ≡ 4 * k → (n % 4 == 0) ≡ true
+whole-records n k e = eq-eqb (n % 4) 0 (ap (λ i. i % 4) e ∙ mul-mod_right 4 k)
+
+form-saved : (table : TableMap) (pattern : Compiled) (cut : CutState) (finder : Finder) (fault : Option TextFault) (k : ℕ) →
+    length (state_words table pattern cut finder fault) ≡ 4 * k → 5 ≤ k → has_form (state_words table pattern cut finder fault) ≡ true
+form-saved table pattern cut finder (Some fault) k len some = refl
+form-saved table pattern cut finder None k len some =
+    let words = state_words table pattern cut finder None in
+    and_from (nat_le 20 (length words)) _ (le-leb 20 (length words) (omega arith)) (and_from _ _ (whole-records (length words) k len) refl)
+
+strengths : (s : Strength) → (strength_word s == strength_word s) ≡ true
+strengths s = same (strength_word s)
+
+sizes-saved : (table : TableMap) (pattern : Compiled) (cut : CutState) (finder : Finder) (fault : Option TextFault) →
+    is_for (sizes_of table pattern) (state_words table pattern cut finder fault) ≡ true
+sizes-saved table pattern cut finder None =
+    and_from _ _ (same (length pattern.keys)) (and_from _ _ (same (longest_mapped table)) (and_from _ _ (same (most_elements table))
+    (and_from _ _ (same (strength_word pattern.strength)) (same (variable_word pattern.variable)))))
+sizes-saved table pattern cut finder (Some fault) =
+    and_from _ _ (same (length pattern.keys)) (and_from _ _ (same (longest_mapped table)) (and_from _ _ (same (most_elements table))
+    (and_from _ _ (same (strength_word pattern.strength)) (same (variable_word pattern.variable)))))
+
+accepted : (r : Resumed) (words : List ℕ) → has_form words ≡ true → is_for r words ≡ true → is_state r words ≡ true → state_fault r words ≡ None
+accepted r words form sizes state = rw (form, sizes, state) refl
+
+-- ---- a search that goes on
+
+module _ (laws : SavedLaws) (s : Sought) (cut : CutState) (finder : Finder) (taken : List ℕ) (handed : List (ℕ × ℕ))
+  (h : Searched s.table s.pattern cut finder None taken handed) (goes_on : finder.window.has_ended ≡ false) (longest : finder.longest_key ≡ longest_mapped s.table) where
+
+  abbrev pub words : List ℕ
+  words = state_words s.table s.pattern cut finder None
+
+  pub points : PointsAreSaved finder (byte_len (chars (whole taken)))
+  points = points-saved laws.offsets laws.others s.table s.pattern finder (chars (whole taken)) handed h.found
+
+  pub walk : WalkIsSaved (length s.pattern.keys) finder.walk (cut.count - length cut.held)
+  walk = walk-saved laws.boundaries laws.text laws.within s cut finder None taken handed h goes_on
+
+  pub is_good : cut.is_bad ≡ false
+  is_good = h.cut_stands.bad ∙ ap not (open_cut taken h.open_bytes)
+
+  pub held_after : cut.held ≡ after_characters taken
+  held_after = h.cut_stands.held ∙ ap (λ b. cond b [] (after_characters taken)) is_good
+
+  pub sound_held : is_incomplete_or_empty cut.held ≡ true
+  sound_held = ap is_incomplete_or_empty held_after ∙ open_cut taken h.open_bytes
+
+  held_within : length cut.held ≤ cut.count
+  held_within =
+      omega (arith, h.cut_stands.count, ap length held_after, length-drop (characters_end taken) taken)
+
+  many : length words ≡ 4 * (5 + (finder.walk.state + (length finder.window.points + length finder.reorder.held)))
+  many =
+      let places = place_words (kept_places finder.walk) in
+      let window = point_words finder.window.points in
+      let waiting = point_words finder.reorder.held in
+      let all : length words ≡ 20 + length ((places ++ window) ++ waiting) = length-append (head_words s.table s.pattern cut finder None) ((places ++ window) ++ waiting) in
+      omega (arith, all, length-append (places ++ window) waiting, length-append places window, walk.many, point_words-length finder.window.points, point_words-length finder.reorder.held)
+
+  held : may_be_held (length cut.held) (number_of cut.held) ≡ true
+  held = and_from _ _ (le-leb (length cut.held) 3 (held-few cut.held sound_held))
+      (and_from _ _ (ap is_incomplete_or_empty (bytes_in-held cut.held sound_held) ∙ sound_held) (none-is-zero cut.held))
+    where
+      none-is-zero : (bytes : List ℕ) → (not (length bytes == 0) || number_of bytes == 0) ≡ true
+      none-is-zero [] = refl
+      none-is-zero (b ∷ bytes) = ap (λ empty. not empty || number_of (b ∷ bytes) == 0) (eqb-suc-zero (length bytes))
+
+  records : has_records (sizes_of s.table s.pattern) (open_head s.pattern cut finder) words ≡ true
+  records = and_from _ _ (le-leb finder.walk.state (length s.pattern.keys) walk.state)
+      (and_from _ _ (le-leb (length finder.window.points) (longest_mapped s.table) (omega (arith, points.window_few, longest)))
+      (and_from _ _ (le-leb (length finder.reorder.held) 30 points.waiting_few)
+      (eq-eqb (length words) (4 * (5 + (finder.walk.state + (length finder.window.points + length finder.reorder.held)))) many)))
+
+  open_first : is_open_head (sizes_of s.table s.pattern) (open_head s.pattern cut finder) words ≡ true
+  open_first = and_from _ _ refl (and_from _ _ (flag-is (is_after_variable finder.weigher)) (and_from _ _ (flag-is finder.walk.has_keys)
+      (and_from _ _ (flag-is (match_waits (length s.pattern.keys) finder.walk)) (and_from _ _ (le-leb (length cut.held) cut.count held_within)
+      (and_from _ _ held (and_from _ _ records (le-leb finder.walk.start (cut.count - length cut.held) walk.start)))))))
+
+  pub parts : PartsAre (open_head s.pattern cut finder) (place_words (kept_places finder.walk)) finder.window.points finder.reorder.held (tail_words finder None)
+  parts = parts-saved (open_head s.pattern cut finder) (place_words (kept_places finder.walk)) finder.window.points finder.reorder.held refl walk.many
+
+  open_rest : has_open_tail (open_head s.pattern cut finder) (tail_words finder None) ≡ true
+  open_rest = has_open_tail-saved finder (byte_len (chars (whole taken))) (open_head s.pattern cut finder) (place_words (kept_places finder.walk)) (tail_words finder None) points
+      (searched-end laws.text laws.within s cut finder None taken handed h) parts walk.places
+
+  short : cut.count ≤ most_bytes
+  short = omega (arith, h.cut_stands.count, leb-true (length taken) most_bytes (and_parts (nat_le (length taken) most_bytes) _ (and_parts (nat_le (length taken) most_bytes && _) _ h.open_bytes).0).0)
+
+  pub open-accepted : state_fault (sizes_of s.table s.pattern) words ≡ None
+  open-accepted = accepted (sizes_of s.table s.pattern) words
+      (form-saved s.table s.pattern cut finder None _ many (omega arith))
+      (sizes-saved s.table s.pattern cut finder None)
+      (and_from _ _ (le-leb cut.count most_bytes short) (and_from _ _ refl (and_from _ _ refl
+      (and_from _ _ open_first (and_from _ _ (saved-match_waits (sizes_of s.table s.pattern) s.table s.pattern cut finder None refl) open_rest)))))
+
+-- ---- a search that has reported a fault
+
+pub reported-accepted : (s : Sought) (cut : CutState) (finder : Finder) (f : TextFault) → 31 ≤ f.kind → f.kind ≤ 35 → f.offset ≤ most_bytes →
+    state_fault (sizes_of s.table s.pattern) (state_words s.table s.pattern cut finder (Some f)) ≡ None
+reported-accepted s cut finder f least most short =
+    let words = state_words s.table s.pattern cut finder (Some f) in
+    let some : (f.kind == 0) ≡ false = ne_eqb f.kind 0 (λ none. let no : ⊥ = omega (arith, none) in no) in
+    let reported : is_reported (head words) words ≡ true =
+    and_from _ _ (le-leb 31 f.kind least) (and_from _ _ (le-leb f.kind 35 most) (and_from _ _ (same f.offset) refl)) in
+    let r = sizes_of s.table s.pattern in
+    let whole = is_open_head r (head words) words && (may_match_wait r (head words) words && has_open_tail (head words) (drop 20 words)) in
+    let chosen : cond (f.kind == 0) whole (is_reported (head words) words) ≡ true = ap (λ b. cond b whole (is_reported (head words) words)) some ∙ reported in
+    accepted (sizes_of s.table s.pattern) words
+    (form-saved s.table s.pattern cut finder (Some f) 5 refl (omega arith))
+    (sizes-saved s.table s.pattern cut finder (Some f))
+    (and_from _ _ (le-leb f.offset most_bytes short) (and_from _ _ refl (and_from _ _ refl chosen)))

@@ -1,0 +1,23 @@
+-- The tests of a state, record by record.
+use Rattle.std.proofs.Common.{◌≡◌, ℕ, zero, suc, ◌+◌, ◌-◌, ◌≤◌, ◌<◌, Bool, true, false, ◌&&◌, nat_le, ◌==◌, List, [], ◌∷◌, length, take, drop, slice_index_or, refl, ap, sym, ◌∙◌, arith}
+use Rattle.std.proofs.lemmas.Bool.{le-leb}
+use Rattle.std.proofs.lemmas.List.{take_all}
+use Rattle.collation_search.specs.StateTests.{are_places, is_flag}
+
+place-test : (least most s f a b : ℕ) (later : List ℕ) → least ≤ s → s ≤ most → f ≤ 1 → a ≡ 0 → b ≡ 0 →
+    are_places least most (s ∷ f ∷ a ∷ b ∷ later) ≡ are_places s most later
+place-test least most s f a b later l m flag za zb = rw (le-leb least s l, le-leb s most m, le-leb f 1 flag, za, zb) refl
+
+all_of : (n : ℕ) (xs : List ℕ) → length xs ≤ n → take n xs ≡ xs
+all_of n xs h = take_all n xs h
+
+-- the first place is right, so the others decide
+pub places-next : (least most : ℕ) (words : List ℕ) → 4 ≤ length words →
+    least ≤ slice_index_or words 0 0 → slice_index_or words 0 0 ≤ most → slice_index_or words 1 0 ≤ 1 → slice_index_or words 2 0 ≡ 0 → slice_index_or words 3 0 ≡ 0 →
+    are_places least most words ≡ are_places (slice_index_or words 0 0) most (take (length words - 4) (drop 4 words))
+places-next least most [] len l m f a b = let no : ⊥ = omega arith in elim no [ ]
+places-next least most (s ∷ []) len l m f a b = let no : ⊥ = omega arith in elim no [ ]
+places-next least most (s ∷ t ∷ []) len l m f a b = let no : ⊥ = omega arith in elim no [ ]
+places-next least most (s ∷ t ∷ u ∷ []) len l m f a b = let no : ⊥ = omega arith in elim no [ ]
+places-next least most (s ∷ t ∷ u ∷ v ∷ later) len l m f a b =
+    place-test least most s t u v later l m f a b ∙ ap (are_places s most) (sym (all_of (suc (suc (suc (suc (length later)))) - 4) later (omega arith)))

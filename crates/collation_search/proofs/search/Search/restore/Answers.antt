@@ -1,0 +1,81 @@
+-- The words say a search that has reported a fault, or one that goes on.
+use Rattle.std.specs.Prelude.{IfSome, is_some}
+use Rattle.std.proofs.Common.{◌≡◌, ◌∙◌, ◌≤◌, ◌-◌, ℕ, List, length, take, drop, sym, ap, ap₂, subst, refl}
+use Rattle.collation_search.specs.declared.states.Head.{Head}
+use Rattle.collation_search.specs.declared.faults.TextFault.{TextFault}
+use Rattle.collation_search.specs.declared.search.Search.{Search}
+use Rattle.collation_search.specs.Resuming.{GoesOn, IsRestored}
+use Rattle.collation_search.specs.Search.{Sought, sought, HasReported}
+use Rattle.collation_search.specs.StateTests.{head, bytes_in, is_open_head, may_match_wait, has_open_tail, is_reported}
+use Rattle.collation_search.proofs.SavedState.{SavedLaws}
+use Rattle.collation_search.proofs.ResumeLemmas.{open-goes_on, reported-goes_on, after-head, same-ok, both-ok, state-reported, state-open, records-follow}
+use Rattle.collation_search.proofs.search.Search.restore.Goals as goal
+
+pub returns-then-head-ne0-clause-right : goal.returns-then-head-ne0-clause-right
+returns-then-head-ne0-clause-right g c =
+    let words = c.args.words.now in
+    let e = c.read_head-head.ensures in
+    let short = subst (λ (h : Head). h.taken ≤ 4611686018427387904) e c.if-head-gt-MOST_BYTES.false in
+    let kind = subst (λ (h : Head). h.kind ≡ 0 → ⊥) e c.if-head-ne0.true in
+    let right = state-reported c.args.sizes.now words short c.if-words-ne0.false c.if-words-ne0-2.false kind in
+    same-ok c.restore_reported.result _ _ (right ∙ ap (λ (h : Head). is_reported h words) (sym e)) c.restore_reported.ensures.right
+
+pub returns-then-head-ne0-clause-goes_on : goal.returns-then-head-ne0-clause-goes_on
+returns-then-head-ne0-clause-goes_on g c =
+    let words = c.args.words.now in
+    let e = c.read_head-head.ensures in
+    let s : Sought = record { table = g.W.Weights.table c.args.table.now; pattern = c.args.pattern.now } in
+    let fault : Head → TextFault = λ h. record { kind = h.kind; offset = h.fault_offset } in
+    let kind = subst (λ (h : Head). h.kind ≡ 0 → ⊥) e c.if-head-ne0.true in
+    both-ok c.restore_reported.result (λ new. HasReported new (fault c.read_head-head.result)) (λ new. sought new ≡ s) (λ new. GoesOn new s words)
+    (λ new reported same. reported-goes_on new s words same kind (subst (λ (h : Head). HasReported new (fault h)) e reported))
+    c.restore_reported.ensures.reported c.restore_reported.ensures.sought
+
+pub restore-requires-clause-records : goal.restore-requires-clause-records
+restore-requires-clause-records g c =
+    records-follow c.args.sizes.now c.read_head-head.result c.args.words.now (sym c.if-not-is_open_head.ensures)
+
+pub returns-in_default-2-clause-right : goal.returns-in_default-2-clause-right
+returns-in_default-2-clause-right g c =
+    let words = c.args.words.now in
+    let e = c.read_head-head.ensures in
+    let whole = state-open c.args.sizes.now words
+    (subst (λ (h : Head). h.taken ≤ 4611686018427387904) e c.if-head-gt-MOST_BYTES.false) c.if-words-ne0.false c.if-words-ne0-2.false
+    (sym (ap (λ (h : Head). h.kind) e) ∙ c.if-head-ne0.false)
+    (ap (λ (h : Head). is_open_head c.args.sizes.now h words) (sym e) ∙ sym c.if-not-is_open_head.ensures)
+    (ap (λ (h : Head). may_match_wait c.args.sizes.now h words) (sym e) ∙ sym c.if-not-may_match_wait.ensures) in
+    whole ∙ ap₂ (λ (h : Head) l. has_open_tail h l) (sym e) (sym (after-head words)) ∙ c.in_ok-finder.ensures.right ∙ ap is_some c.in_default-2.is
+
+pub returns-clause-right : goal.returns-clause-right
+returns-clause-right g c =
+    let words = c.args.words.now in
+    let e = c.read_head-head.ensures in
+    let whole = state-open c.args.sizes.now words
+    (subst (λ (h : Head). h.taken ≤ 4611686018427387904) e c.if-head-gt-MOST_BYTES.false) c.if-words-ne0.false c.if-words-ne0-2.false
+    (sym (ap (λ (h : Head). h.kind) e) ∙ c.if-head-ne0.false)
+    (ap (λ (h : Head). is_open_head c.args.sizes.now h words) (sym e) ∙ sym c.if-not-is_open_head.ensures)
+    (ap (λ (h : Head). may_match_wait c.args.sizes.now h words) (sym e) ∙ sym c.if-not-may_match_wait.ensures) in
+    whole ∙ ap₂ (λ (h : Head) l. has_open_tail h l) (sym e) (sym (after-head words)) ∙ c.in_ok-finder.ensures.right ∙ ap is_some c.in-Some-2.is
+
+pub returns-clause-goes_on : goal.returns-clause-goes_on
+returns-clause-goes_on g c =
+    let words = c.args.words.now in
+    let e = c.read_head-head.ensures in
+    let laws : SavedLaws = record {
+      boundaries = c.clusters_are_parts.ensures.boundaries;
+      text = c.whole_characters_are_the_longest_text.ensures.text;
+      within = c.whole_characters_are_the_longest_text.ensures.within;
+      offsets = c.laws_of_points.ensures.offsets;
+      others = c.laws_of_reordering.ensures.others;
+    } in
+    let s : Sought = record { table = g.W.Weights.table c.args.table.now; pattern = c.args.pattern.now } in
+    let finder = c.in-Some-2.finder in
+    let slice = take (length words - 20) (drop 20 words) in
+    let there : IsRestored s.table s.pattern c.read_head-head.result slice finder =
+    subst (λ o. IfSome o (IsRestored s.table s.pattern c.read_head-head.result slice)) c.in-Some-2.is c.in_ok-finder.ensures.restored in
+    let restored : IsRestored s.table s.pattern (head words) (drop 20 words) finder =
+    subst (λ l. IsRestored s.table s.pattern (head words) l finder) (after-head words) (subst (λ (h : Head). IsRestored s.table s.pattern h slice finder) e there) in
+    let value : c.as_slice.result.now ≡ c.in-Some.held.items = c.as_slice.ensures.value in
+    open-goes_on laws _ s words c.in-Some.held.items refl refl (sym (ap (λ (h : Head). h.kind) e) ∙ c.if-head-ne0.false) restored
+    (c.in-Some.ensures.bytes ∙ ap (λ (h : Head). bytes_in h.held_len h.held) e)
+    (λ cut bytes given stands good held count. c.restore-2.ensures.stands_for cut bytes given stands good (held ∙ sym value) (count ∙ sym (ap (λ (h : Head). h.taken) e)))

@@ -1,0 +1,200 @@
+//! Tests whether words are a state: whole records of the right form, for the same pattern, table and settings, with numbers that
+//! a search can hold.
+
+ghost use Rattle.std.specs.Prelude.{◌≡◌, ◌≤◌, ◌==◌, length, true, false, IfSome, IfNone, IsTrue};
+ghost use Rattle.std.specs.List.{list_all};
+ghost use Rattle.utf8_cut.specs.Characters.{is_incomplete_or_empty};
+ghost use Rattle.collation_search.specs.StateTests as tests;
+
+use crate::saving::{FORM, HEAD_WORDS, word_of_strength, word_of_variable};
+use crate::search::MOST_BYTES;
+use arrayvec::ArrayVec;
+use collation_elements::{Strength, Variable};
+use nfd_points::MOST_WAITING;
+use utf8_cut::Cut;
+
+/// How many words a record has.
+pub(crate) const RECORD_WORDS: usize = 4;
+
+/// What a state is resumed with: the sizes of the pattern and the table, and the settings.
+#[derive(Clone, Copy)]
+pub(crate) struct Resumed {
+    pub(crate) pattern_len: usize,
+    pub(crate) longest_key: usize,
+    pub(crate) most_elements: usize,
+    pub(crate) strength: Strength,
+    pub(crate) variable: Variable,
+}
+
+/// The words of the first five records, after the form, the sizes and the settings.
+#[derive(Clone, Copy)]
+pub(crate) struct Head {
+    pub(crate) taken: u64,
+    pub(crate) kind: u64,
+    pub(crate) fault_offset: u64,
+    pub(crate) held_len: u64,
+    pub(crate) held: u64,
+    pub(crate) after_variable: u64,
+    pub(crate) start: u64,
+    pub(crate) has_keys: u64,
+    pub(crate) waits: u64,
+    pub(crate) state: u64,
+    pub(crate) window_len: u64,
+    pub(crate) waiting_len: u64,
+}
+
+/// Whether there are whole records, five at least, of the form that `save` gives.
+pub(crate) fn has_form(words: &[u64]) -> bool
+    ensures right { result ≡ tests.has_form words.now }
+    ensures long { IsTrue result → 20 ≤ length words.now }
+{
+    words.len() >= HEAD_WORDS && words.len() % RECORD_WORDS == 0 && words[0] == FORM
+}
+
+/// Whether the words are of the same sizes and settings.
+pub(crate) fn is_for(resumed: &Resumed, words: &[u64]) -> bool
+    requires { 20 ≤ length words.now }
+    ensures { result ≡ tests.is_for resumed.now words.now }
+{
+    words[1] == resumed.pattern_len as u64
+        && words[2] == resumed.longest_key as u64
+        && words[3] == resumed.most_elements as u64
+        && words[4] == word_of_strength(resumed.strength)
+        && words[5] == word_of_variable(resumed.variable)
+}
+
+/// The words of the first five records, after the form, the sizes and the settings.
+pub(crate) fn read_head(words: &[u64]) -> Head
+    requires { 20 ≤ length words.now }
+    ensures { result ≡ tests.head words.now }
+{
+    Head {
+        taken: words[6],
+        kind: words[7],
+        fault_offset: words[8],
+        held_len: words[9],
+        held: words[10],
+        after_variable: words[11],
+        start: words[12],
+        has_keys: words[13],
+        waits: words[14],
+        state: words[15],
+        window_len: words[16],
+        waiting_len: words[17],
+    }
+}
+
+/// The bytes that a number spells, the first one most significant; `None` where it spells no `len` bytes, or more than three.
+pub(crate) fn bytes_in(len: u64, number: u64) -> Option<ArrayVec<u8, 3>>
+    ensures bytes { IfSome result (λ bytes. bytes.items ≡ tests.bytes_in len number) }
+    ensures few { IfSome result (λ bytes. length bytes.items ≡ len) }
+    ensures none { IfNone result (len ≤ 3 → is_incomplete_or_empty (tests.bytes_in len number) ≡ false) }
+{
+    let mut bytes = ArrayVec::new();
+    let (first, later) = match len {
+        0 => return Some(bytes),
+        1 => (number, 0),
+        2 => (number / 256, number % 256),
+        3 => (number / 65536, number % 65536),
+        _ => return None,
+    };
+    if first >= 256 {
+        return None;
+    }
+    bytes.push(first as u8);
+    if len == 3 {
+        bytes.push((later / 256) as u8);
+    }
+    if len >= 2 {
+        bytes.push((later % 256) as u8);
+    }
+    Some(bytes)
+}
+
+/// Whether a number spells so many bytes that properly begin a character, or none and is 0.
+fn may_be_held(len: u64, number: u64) -> bool
+    ensures { result ≡ tests.may_be_held len number }
+{
+    if len > 3 || (len == 0 && number != 0) {
+        return false;
+    }
+    match bytes_in(len, number) {
+        Some(bytes) => Cut::may_hold(bytes.as_slice()),
+        None => false,
+    }
+}
+
+/// Whether as many records follow as the first five say, no more of each kind than a search can hold.
+fn has_records(resumed: &Resumed, head: &Head, words: &[u64]) -> bool
+    requires { tests.has_form words.now ≡ true }
+    ensures { result ≡ tests.has_records resumed.now head.now words.now }
+{
+    let records = (words.len() / RECORD_WORDS - 5) as u64;
+    head.state <= resumed.pattern_len as u64
+        && head.window_len <= resumed.longest_key as u64
+        && head.waiting_len <= MOST_WAITING as u64
+        && head.state <= records
+        && head.window_len <= records - head.state
+        && head.waiting_len == records - head.state - head.window_len
+}
+
+/// Whether the first five records are those of a search that has met no fault.
+pub(crate) fn is_open_head(resumed: &Resumed, head: &Head, words: &[u64]) -> bool
+    requires { tests.has_form words.now ≡ true }
+    ensures { result ≡ tests.is_open_head resumed.now head.now words.now }
+{
+    head.fault_offset == 0
+        && head.after_variable <= 1
+        && head.has_keys <= 1
+        && head.waits <= 1
+        && head.held_len <= head.taken
+        && may_be_held(head.held_len, head.held)
+        && has_records(resumed, head, words)
+        && head.start <= head.taken - head.held_len
+}
+
+/// Whether a match waits only where the whole pattern ends the keys so far, the first of them is the first of its cluster, and
+/// the current cluster has keys.
+pub(crate) fn may_match_wait(resumed: &Resumed, head: &Head, words: &[u64]) -> bool
+    ensures { result ≡ tests.may_match_wait resumed.now head.now words.now }
+{
+    head.waits == 0
+        || (head.state == resumed.pattern_len as u64
+            && words.get(21).copied() == Some(1)
+            && head.has_keys == 1)
+}
+
+/// Whether the words are those of a search that has reported a fault, and hold nothing else.
+pub(crate) fn is_reported(head: &Head, words: &[u64]) -> bool
+    requires { 20 ≤ length words.now }
+    ensures { result ≡ tests.is_reported head.now words.now }
+{
+    31 <= head.kind
+        && head.kind <= 35
+        && head.fault_offset == head.taken
+        && words.len() == HEAD_WORDS
+        && are_zero(&words[9..])
+}
+
+/// Whether all words are 0.
+fn are_zero(words: &[u64]) -> bool
+    ensures { result ≡ list_all (λ word. word == 0) words.now }
+{
+    words.iter().all(|word| *word == 0)
+}
+
+/// Whether the places of keys are those of a search: their clusters' starts do not fall, and none is after `most`.
+pub(crate) fn are_places(most: u64, words: &[u64]) -> bool
+    ensures { result ≡ tests.are_places 0 most words.now }
+{
+    let mut least = 0;
+    let mut rest = words;
+    while let [start, is_first, a, b, later @ ..] = rest {
+        if *start < least || *start > most || *is_first > 1 || *a != 0 || *b != 0 {
+            return false;
+        }
+        least = *start;
+        rest = later;
+    }
+    rest.is_empty()
+}
