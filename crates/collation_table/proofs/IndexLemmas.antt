@@ -1,6 +1,7 @@
 -- Lemmas on the rows of a table as places in its vectors, and on the index that answers by them.
-use Rattle.std.proofs.Common.{◌≡◌, ℕ, zero, suc, ◌+◌, ◌-◌, ◌<◌, ◌≤◌, max, Bool, true, false, cond, ◌||◌, get_or, List, [], ◌∷◌, ◌++◌, length, take, drop, map, flat_map, Option, Some, None, is_some, option_map, refl, sym, ap, subst, ◌∙◌, arith, bytes_eq, length-append, append_assoc}
-use Rattle.std.proofs.lemmas.List.{take-append-le}
+use Rattle.std.proofs.Common.{◌≡◌, ℕ, zero, suc, ◌+◌, ◌-◌, ◌<◌, ◌≤◌, max, Bool, true, false, cond, ◌||◌, get_or, List, [], ◌∷◌, ◌++◌, length, take, drop, map, flat_map, Option, Some, None, is_some, option_map, refl, sym, ap, subst, ◌∙◌, arith, bytes_eq, slice_get, length-append, append_assoc}
+use Rattle.std.proofs.lemmas.Option.{slice_get-map, slice_get_read}
+use Rattle.std.proofs.lemmas.List.{take-append-le, length-map}
 use Rattle.std.specs.List.{AllByRecursion, list_any}
 use Rattle.std.proofs.lemmas.List.{drop_more}
 use Rattle.std.specs.Cmp.Lexicographic.{bytes_decides}
@@ -62,6 +63,13 @@ pub rows_at-push : (points string : List ℕ) (elements row : List Element) (pla
 rows_at-push points string elements row places r all ks ke rs re =
     map-push (λ (q : RowPlaces). (part (points ++ string) q.string, part (elements ++ row) q.row)) places r
     ∙ (λ i. rows_at-append points string elements row places all i ++ (part-end points string r.string ks ke i, part-end elements row r.row rs re i) ∷ [])
+
+-- a row lies where its places say
+pub rows_at-place : (points : List ℕ) (elements : List Element) (places : List RowPlaces) (i : ℕ) (r : RowPlaces) → i < length (rows_at points elements places) → r ≡ get_or places i r
+    → slice_get (rows_at points elements places) i ≡ Some (part points r.string, part elements r.row)
+rows_at-place points elements places i r lt is =
+    slice_get-map (λ (q : RowPlaces). (part points q.string, part elements q.row)) places i
+    ∙ ap (option_map (λ (q : RowPlaces). (part points q.string, part elements q.row))) (slice_get_read places (length places) i r refl (omega (arith, length-map {B = List ℕ × List Element} places (λ (q : RowPlaces). (part points q.string, part elements q.row)))) is)
 
 all_within : (points more : List ℕ) (elements others : List Element) (places : List RowPlaces) → AllByRecursion (IsWithin points elements) places → AllByRecursion (IsWithin (points ++ more) (elements ++ others)) places
 all_within points more elements others [] all = tt

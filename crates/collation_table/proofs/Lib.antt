@@ -3,6 +3,7 @@ pub mod ElementLemmas
 pub mod FileFaults
 pub mod IndexLemmas
 pub mod LinesOfFile
+pub mod OverlayLemmas
 pub mod PageLemmas
 pub mod Parsed
 pub mod RangeLemmas

@@ -1,18 +1,18 @@
 -- Lemmas on the rows of a table, as the map inside `Rows` holds them.
-use Rattle.std.proofs.Common.{◌≡◌, ℕ, zero, suc, Bool, true, false, cond, List, [], ◌∷◌, ◌++◌, length, take, get_or, nat_lt, ◌||◌, ◌<◌, arith, Option, Some, None, slice_get, refl, sym, ap, ◌∙◌, ◌⊎◌, inl, inr}
+use Rattle.std.proofs.Common.{◌≡◌, ℕ, zero, suc, Bool, true, false, cond, List, [], ◌∷◌, ◌++◌, length, take, get_or, nat_lt, ◌||◌, ◌<◌, arith, Option, Some, None, is_some, slice_get, refl, sym, ap, subst, ◌∙◌, ◌⊎◌, inl, inr}
 use Rattle.std.specs.List.{AllByRecursion}
 use Rattle.std.proofs.lemmas.Option.{slice_get_within}
 use Rattle.std.proofs.lemmas.Bool.{or_parts, ltb-false}
 use Rattle.std.specs.List.{list_any}
 use Rattle.collation_table.specs.declared.limits.TheConstants.{MOST_STRING_POINTS, MOST_ROW_ELEMENTS}
-use Rattle.collation_table.specs.Table.{TableMap, is_mapped}
+use Rattle.collation_table.specs.Table.{TableMap, row_with, is_mapped}
 use Rattle.collation_table.specs.Faults.{entry_kind, is_beyond_unicode}
 use Rattle.std.proofs.Math.Nat.{le_of_lt}
 use Rattle.std.proofs.Math.Seq.{take-append_seam}
 use Rattle.std.proofs.lemmas.List.{take-append-le}
 use Rattle.collation_table.specs.declared.elements.Element.{Element}
 use Rattle.collation_table.specs.declared.ranges.ImplicitRange.{ImplicitRange}
-use Rattle.collation_table.specs.WellFormed.{AreRangesSound, breaks_ranges, breaks_wf1, breaks_wf3, breaks_pair_rule, IsRowSound}
+use Rattle.collation_table.specs.WellFormed.{AreStringsDistinct, AreRangesSound, breaks_ranges, breaks_wf1, breaks_wf3, breaks_pair_rule, IsRowSound}
 
 -- ---- one row more, one range more
 
@@ -40,6 +40,27 @@ AreRangesSound-push rs r sound ok = λ k s at. by k s (slice_get_push rs r k s a
         let whole : take k (rs ++ r ∷ []) ≡ rs =
         ap (λ n. take n (rs ++ r ∷ [])) last.0 ∙ take-append_seam rs (r ∷ []) in
         ap (λ l. breaks_ranges l s) whole ∙ ap (breaks_ranges rs) (sym last.1) ∙ ok
+
+pub AreStringsDistinct-push : (rows : List (List ℕ × List Element)) (string : List ℕ) (row : List Element) → AreStringsDistinct rows → is_some (row_with string rows) ≡ false → AreStringsDistinct (rows ++ (string, row) ∷ [])
+AreStringsDistinct-push rows string row distinct absent = λ k r at. by k r (slice_get_push rows (string, row) k r at)
+  where
+    none_of : (o : Option (List Element)) → is_some o ≡ false → o ≡ None
+    none_of None h = refl
+    none_of (Some x) h = cc
+
+    by : (k : ℕ) (r : List ℕ × List Element) → (slice_get rows k ≡ Some r) ⊎ ((k ≡ length rows) × ((string, row) ≡ r)) → row_with r.0 (take k (rows ++ (string, row) ∷ [])) ≡ None
+    by k r (inl found) =
+        rw (take-append-le k rows ((string, row) ∷ []) (le_of_lt (slice_get_within rows k r found))) (distinct k r found)
+    by k r (inr last) =
+        let whole : take k (rows ++ (string, row) ∷ []) ≡ rows =
+        ap (λ n. take n (rows ++ (string, row) ∷ [])) last.0 ∙ take-append_seam rows ((string, row) ∷ []) in
+        ap (row_with r.0) whole ∙ ap (λ (q : List ℕ × List Element). row_with q.0 rows) (sym last.1) ∙ none_of (row_with string rows) absent
+
+-- what holds of each holds of the one at a place
+pub AllByRecursion-at : {X : Type 0} (P : X → Type 0) (xs : List X) (k : ℕ) (x : X) → AllByRecursion P xs → slice_get xs k ≡ Some x → P x
+AllByRecursion-at P [] k x all at = cc
+AllByRecursion-at P (y ∷ ys) zero x all at = let same : y ≡ x = cc in subst P same all.0
+AllByRecursion-at P (y ∷ ys) (suc k) x all at = AllByRecursion-at P ys k x all.1 at
 
 -- ---- a line that is right
 

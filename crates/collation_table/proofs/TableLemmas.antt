@@ -128,7 +128,7 @@ element_passes p string row (r ∷ rows) e none at within = by (bytes_eq string 
 no_element : (T : TableMap) (p : Element → Bool) (e : Element) → list_any p (table_elements T) ≡ false → HasElement T e → p e ≡ false
 no_element T p e none has = element_passes p has.0 has.1 T.rows e none has.2 has.3
 
-no_such_string : (q : List ℕ → Bool) (string : List ℕ) (rows : List (List ℕ × List Element)) → list_any (λ row. q row.0) rows ≡ false → is_some (row_with string rows) ≡ true → q string ≡ false
+pub no_such_string : (q : List ℕ → Bool) (string : List ℕ) (rows : List (List ℕ × List Element)) → list_any (λ row. q row.0) rows ≡ false → is_some (row_with string rows) ≡ true → q string ≡ false
 no_such_string q string [] none at = cc
 no_such_string q string (r ∷ rows) none at = by (bytes_eq string r.0) refl at (or_parts (q r.0) (list_any (λ row. q row.0) rows) none) (no_such_string q string rows)
   where

@@ -2,7 +2,7 @@
 use Rattle.std.proofs.Common.{refl}
 use Rattle.unicode_normalization.proofs.Computing.{unicode_normalization}
 use Rattle.collation_table.specs.Spelling.{the_spelling}
-use Rattle.collation_table.specs.WorkedTables.{LineFaults, RowFaults, RangeFaults, TableFaults, AcceptedTables, ImplicitWeights, LongestPrefixes, Classes}
+use Rattle.collation_table.specs.WorkedTables.{LineFaults, RowFaults, RangeFaults, TableFaults, AcceptedTables, TailoredTables, TailoredFaults, ImplicitWeights, LongestPrefixes, Classes}
 
 pub line_faults-hold : LineFaults
 unfolding the_spelling unicode_normalization
@@ -61,6 +61,31 @@ accepted_tables-hold = record {
   range_just_near = record { accepted = refl; longest = refl; largest = refl };
   string_of_16 = record { accepted = refl; longest = refl; largest = refl };
   row_of_32 = record { accepted = refl; longest = refl; largest = refl };
+}
+
+pub tailored_tables-hold : TailoredTables
+unfolding the_spelling unicode_normalization
+tailored_tables-hold = record {
+  comment_only = record { accepted = refl; longest = refl; largest = refl };
+  row_added = record { accepted = refl; longest = refl; largest = refl };
+  row_replaced = refl;
+  replaced_row_does_not_count = record { accepted = refl; longest = refl; largest = refl };
+  prefix_of_the_tailor = record { accepted = refl; longest = refl; largest = refl };
+  ranges_in_order = refl;
+}
+
+pub tailored_faults-hold : TailoredFaults
+unfolding the_spelling unicode_normalization
+tailored_faults-hold = record {
+  between_variables = refl;
+  low_secondary = refl;
+  prefix_that_is_not_mapped = refl;
+  short_code_point = refl;
+  mapped_twice = refl;
+  lead_alone = refl;
+  range_of_the_base_shared = refl;
+  base_first = refl;
+  no_entry = refl;
 }
 
 pub implicit_weights-hold : ImplicitWeights

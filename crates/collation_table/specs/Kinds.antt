@@ -42,3 +42,7 @@ too_many_lines_kind = 13
 
 abbrev pub allocation_refused_kind : ℕ
 allocation_refused_kind = 14
+
+-- what is added to the kind of a fault that a line of a second file, the tailor, has
+abbrev pub tailor_kinds : ℕ
+tailor_kinds = 60

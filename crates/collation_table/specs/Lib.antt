@@ -2,6 +2,7 @@ pub mod Bounds
 pub mod Entries
 pub mod Faults
 pub mod Kinds
+pub mod Overlay
 pub mod Reading
 pub mod Spelling
 pub mod Table

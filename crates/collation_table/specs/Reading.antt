@@ -1,5 +1,9 @@
--- What a parsed line stands for.
-use Rattle.std.specs.Prelude.{◌<◌, length}
+-- What a parsed line stands for, and which file it is of.
+use Rattle.std.specs.Prelude.{ℕ, ◌+◌, ◌<◌, length}
+use Rattle.collation_table.specs.Kinds.{tailor_kinds}
+use Rattle.collation_table.specs.declared.faults.TableFault.{TableFault}
+use Rattle.collation_table.specs.declared.reader.TableFile.{TableFile}
+use Rattle.collation_table.specs.declared.reader.TableFile.TheVariants as files
 use Rattle.collation_table.specs.declared.lines.Line.{Line}
 use Rattle.collation_table.specs.declared.lines.Line.TheVariants as lines
 use Rattle.collation_table.specs.Spelling as spelled
@@ -17,3 +21,17 @@ HasParts lines.Empty = Unit {0}
 HasParts lines.Version = Unit {0}
 HasParts (lines.Range range) = Unit {0}
 HasParts (lines.Entry string row) = (0 < length string.items) × (0 < length row.items)
+
+-- how many ranges an earlier file has
+abbrev pub earlier_ranges : TableFile → ℕ
+earlier_ranges files.Base = 0
+earlier_ranges (files.Tailor earlier) = earlier
+
+-- the number by which a kind of fault of a line of the file is reported
+abbrev pub reported_kind : TableFile → ℕ → ℕ
+reported_kind files.Base kind = kind
+reported_kind (files.Tailor earlier) kind = tailor_kinds + kind
+
+-- a fault of a line of the file, as it is reported
+abbrev pub reported : TableFile → TableFault → TableFault
+reported file fault = record fault { kind = reported_kind file fault.kind }

@@ -7,7 +7,7 @@ use Rattle.collation_table.specs.declared.limits.TheConstants.{MOST_STRING_POINT
 use Rattle.collation_table.specs.declared.elements.Element.{Element}
 use Rattle.collation_table.specs.declared.ranges.ImplicitRange.{ImplicitRange}
 use Rattle.collation_table.specs.Kinds.{wf2_kind, wf4_kind, wf5_kind, no_entry_kind}
-use Rattle.collation_table.specs.Table.{TableMap, row_of, is_mapped, is_between, greatest, first_with_base, class_of}
+use Rattle.collation_table.specs.Table.{TableMap, row_with, row_of, is_mapped, is_between, greatest, first_with_base, class_of}
 
 -- ---- kinds of elements
 
@@ -131,9 +131,14 @@ pub record IsRowSound (string : List ℕ) (row : List Element) : Type 0 where
 abbrev pub AreRangesSound : List ImplicitRange → Type 0
 AreRangesSound ranges = (k : ℕ) (r : ImplicitRange) → slice_get ranges k ≡ Some r → breaks_ranges (take k ranges) r ≡ false
 
+-- no row has the string of one before it
+abbrev pub AreStringsDistinct : List (List ℕ × List Element) → Type 0
+AreStringsDistinct rows = (k : ℕ) (row : List ℕ × List Element) → slice_get rows k ≡ Some row → row_with row.0 (take k rows) ≡ None
+
 -- what the lines of a file show one by one
 pub record AreLinesSound (T : TableMap) : Type 0 where
   pub rows : AllByRecursion (λ row. IsRowSound row.0 row.1) T.rows
+  pub distinct : AreStringsDistinct T.rows
   pub ranges : AreRangesSound T.ranges
 
 -- e is an element of the row of some mapped string

@@ -1,9 +1,9 @@
 -- Small table files, each the lines given, with what the definitions say of them.
-use Rattle.std.specs.Prelude.{◌≡◌, ℕ, zero, suc, List, [], ◌∷◌, ◌++◌, codes, Some, None}
+use Rattle.std.specs.Prelude.{◌≡◌, ℕ, zero, suc, false, List, [], ◌∷◌, ◌++◌, codes, Some, None}
 use Rattle.std.specs.List.{join_with_byte}
-use Rattle.collation_table.specs.Table.{TableMap, longest_prefix, implicit_weights, longest_mapped, most_elements, class_of}
+use Rattle.collation_table.specs.Table.{TableMap, row_of, longest_prefix, implicit_weights, longest_mapped, most_elements, class_of}
 use Rattle.collation_table.specs.declared.limits.TheConstants.{MOST_STRING_POINTS, MOST_ROW_ELEMENTS, MOST_ENTRY_LINES, MOST_RANGE_LINES}
-use Rattle.collation_table.specs.Faults.{forms_of, map_of, table_fault}
+use Rattle.collation_table.specs.Faults.{forms_of, map_of, tailored_map, table_fault, tailored_fault}
 
 -- the lines of a file, the last without an end
 abbrev pub file : List (List ℕ) → List ℕ
@@ -21,6 +21,16 @@ pub record IsTable (lines : List (List ℕ)) (points elements : ℕ) : Type 0 wh
   pub accepted : table_fault (file lines) ≡ None
   pub longest : longest_mapped (table_of lines) ≡ points
   pub largest : most_elements (table_of lines) ≡ elements
+
+-- the fault that the file of the first lines and the tailor of the others have
+abbrev pub HasTailoredFault : List (List ℕ) → List (List ℕ) → ℕ → ℕ → Type 0
+HasTailoredFault lines tailor kind line = tailored_fault (file lines) (file tailor) ≡ Some (record { line = line; kind = kind })
+
+-- they have none, and sizes as above
+pub record IsTailored (lines tailor : List (List ℕ)) (points elements : ℕ) : Type 0 where
+  pub accepted : tailored_fault (file lines) (file tailor) ≡ None
+  pub longest : longest_mapped (tailored_map (file lines) (file tailor)) ≡ points
+  pub largest : most_elements (tailored_map (file lines) (file tailor)) ≡ elements
 
 -- a text so many times
 abbrev pub copies : ℕ → List ℕ → List ℕ
@@ -103,6 +113,28 @@ pub record AcceptedTables : Type 0 where
   pub range_just_near : IsTable (codes "@implicitweights 17000..17000; FB00" ∷ codes "@implicitweights 1EFFF..1EFFF; FB00" ∷ codes "0061 ; [.1C00.0020.0002]" ∷ []) 1 2
   pub string_of_16 : IsTable ((copies 16 (codes "0061 ") ++ codes "; [.1C00.0020.0002]") ∷ []) 16 2
   pub row_of_32 : IsTable ((codes "0061 ; " ++ copies 32 (codes "[.1C00.0020.0002]")) ∷ []) 1 32
+
+-- files with a tailor
+pub record TailoredTables : Type 0 where
+  pub comment_only : IsTailored letters (codes "# none" ∷ []) 2 2
+  pub row_added : IsTailored letters (codes "0061 0061 ; [.1C05.0020.0002]" ∷ []) 2 2
+  pub row_replaced : row_of (tailored_map (file letters) (codes "0062 ; [.1C00.0020.0008]")) (0x62 ∷ []) ≡ Some (record { is_variable = false; w1 = 0x1C00; w2 = 0x20; w3 = 8 } ∷ [])
+  pub replaced_row_does_not_count : IsTailored (codes "0061 ; [.1C00.0020.0002][.1C00.0020.0002][.1C00.0020.0002]" ∷ []) (codes "0061 ; [.1C00.0020.0002]" ∷ []) 1 2
+  pub prefix_of_the_tailor : IsTailored letters (codes "0065 0327 0301 ; [.1C48.0020.0002]" ∷ codes "0065 0327 ; [.1C46.0020.0002]" ∷ []) 3 2
+  pub ranges_in_order : (tailored_map (codes "@implicitweights 17000..17005; FB00") (codes "@implicitweights 16000..16FFF; FB01")).ranges
+      ≡ record { first = 0x17000; last = 0x17005; base = 0xFB00 } ∷ record { first = 0x16000; last = 0x16FFF; base = 0xFB01 } ∷ []
+
+pub record TailoredFaults : Type 0 where
+  pub between_variables : HasTailoredFault letters (codes "007A ; [.0201.0020.0002]" ∷ []) 8 0
+  pub low_secondary : HasTailoredFault letters (codes "0301 ; [.0000.0020.0002]" ∷ []) 6 0
+  pub prefix_that_is_not_mapped : HasTailoredFault letters (codes "0065 0327 0301 ; [.1C48.0020.0002]" ∷ []) 9 0
+  pub short_code_point : HasTailoredFault letters (codes "61 ; [.1C00.0020.0002]" ∷ []) 61 1
+  pub mapped_twice : HasTailoredFault letters (codes "0062 ; [.1C10.0020.0002]" ∷ codes "0062 ; [.1C10.0020.0002]" ∷ []) 63 2
+  pub lead_alone : HasTailoredFault letters (codes "4E00 ; [.FB40.0020.0002]" ∷ []) 70 1
+  pub range_of_the_base_shared : HasTailoredFault (codes "@implicitweights 17000..17005; FB00" ∷ []) (codes "@implicitweights 17005..17006; FB00" ∷ []) 71 1
+  -- a line of the base at fault before one of the tailor
+  pub base_first : HasTailoredFault (codes "61 ; x" ∷ []) (codes "110000 ; [.1C00.0020.0002]" ∷ []) 1 1
+  pub no_entry : HasTailoredFault [] [] 12 0
 
 -- the sizes that a table may have
 pub record Limits : Type 0 where

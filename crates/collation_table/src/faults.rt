@@ -34,6 +34,8 @@ pub const NO_ENTRY: u8 = 12;
 pub const TOO_MANY_LINES: u8 = 13;
 /// Memory that was refused.
 pub const ALLOCATION_REFUSED: u8 = 14;
+/// What is added to the kind of a fault of a line of a tailor.
+pub const TAILOR_KINDS: u8 = 60;
 
 /// Why a table file is refused. The first line at fault is reported, with the smallest kind of fault that it has; where no line
 /// is, the whole table is at fault, at line 0.
@@ -42,7 +44,7 @@ pub const ALLOCATION_REFUSED: u8 = 14;
 pub struct TableFault {
     /// The line, counted from 1, or 0 for a fault of the whole file.
     pub line: u64,
-    /// The kind, from 1 to 14, as `Table::read` lists them.
+    /// The kind, from 1 to 14, as `Table::read` lists them; 60 more for a line of a tailor.
     pub kind: u8,
 }
 

@@ -1,18 +1,20 @@
 //! Collation element tables (UTS #10, Unicode Collation Algorithm).
 //!
-//! `Table::read` reads a file in the form of allkeys.txt and reports the first fault in it. A `Table` is known to be well
-//! formed (UTS #10, section 5), and answers the trait `Weights`, by which the crates above ask any table: the longest mapped
+//! `Table::read` reads a file in the form of allkeys.txt and reports the first fault in it; `Table::read_tailored` reads a second
+//! file with it, whose rows replace some of the first one's or are added. A `Table` is known to be well formed (UTS #10, section
+//! 5), and answers the trait `Weights`, by which the crates above ask any table: the longest mapped
 //! string that a list of code points begins with, the collation elements of a mapped string, and the implicit weights of a code
 //! point that has no row.
 //!
 //! What a file spells and what is wrong with it stand in `specs/Spelling.antt` and `specs/Faults.antt`, the finite map that a
-//! table stands for in `specs/Table.antt`, and when it is well formed in `specs/WellFormed.antt`. Classes of code points come
+//! table stands for in `specs/Table.antt`, that of two files in `specs/Overlay.antt`, and when it is well formed in `specs/WellFormed.antt`. Classes of code points come
 //! from `unicode_normalization`.
 #![tactic(auto)]
 
 mod elements;
 mod faults;
 mod implicit;
+pub mod laws;
 mod limits;
 mod line_faults;
 mod lines;

@@ -1,6 +1,6 @@
 //! What is wrong with a line of a table file, by itself and after the lines before it.
 
-ghost use Rattle.std.specs.Prelude.{◌≡◌, option_map};
+ghost use Rattle.std.specs.Prelude.{◌≡◌, ◌≤◌, option_map, IfSome};
 ghost use Rattle.std.specs.List.{list_any};
 ghost use Rattle.collation_table.specs.Faults.{is_beyond_unicode, range_kind, entry_kind, line_kind};
 ghost use Rattle.collation_table.specs.Reading.{form};
@@ -26,15 +26,17 @@ fn any_beyond_unicode(points: &[u32]) -> bool
     points.iter().any(|point| *point > LAST_CODE_POINT)
 }
 
-/// The smallest kind of fault of a range line after the lines that gave `rows`.
-fn range_fault(rows: &Rows, range: &ImplicitRange) -> Option<u8>
-    ensures { result ≡ range_kind rows.now range.now }
+/// The smallest kind of fault of a range line after the lines that gave `rows`, of whose ranges the first `earlier` are of an
+/// earlier file.
+fn range_fault(earlier: usize, rows: &Rows, range: &ImplicitRange) -> Option<u8>
+    ensures kind { result ≡ range_kind earlier rows.now range.now }
+    ensures few { IfSome result (λ kind. kind ≤ 13) }
 {
     if any_beyond_unicode(&[range.first, range.last]) {
         Some(BEYOND_UNICODE)
     } else if rows.refuses(range) {
         Some(BAD_RANGE)
-    } else if rows.ranges().len() >= MOST_RANGE_LINES {
+    } else if rows.ranges().len().saturating_sub(earlier) >= MOST_RANGE_LINES {
         Some(TOO_MANY_LINES)
     } else {
         None
@@ -43,7 +45,8 @@ fn range_fault(rows: &Rows, range: &ImplicitRange) -> Option<u8>
 
 /// The smallest kind of fault of an entry line after the lines that gave `rows`.
 fn entry_fault(rows: &Rows, string: &[u32], row: &[Element]) -> Option<u8>
-    ensures { result ≡ entry_kind rows.now string.now row.now }
+    ensures kind { result ≡ entry_kind rows.now string.now row.now }
+    ensures few { IfSome result (λ kind. kind ≤ 13) }
 {
     if any_beyond_unicode(string) {
         Some(BEYOND_UNICODE)
@@ -64,14 +67,16 @@ fn entry_fault(rows: &Rows, string: &[u32], row: &[Element]) -> Option<u8>
     }
 }
 
-/// The smallest kind of fault of a line after the lines that gave `rows`.
-pub(crate) fn line_fault(rows: &Rows, line: &Option<Line>) -> Option<u8>
-    ensures { result ≡ line_kind rows.now (option_map form line.now) }
+/// The smallest kind of fault of a line after the lines that gave `rows`, of whose ranges the first `earlier` are of an earlier
+/// file.
+pub(crate) fn line_fault(earlier: usize, rows: &Rows, line: &Option<Line>) -> Option<u8>
+    ensures kind { result ≡ line_kind earlier rows.now (option_map form line.now) }
+    ensures few { IfSome result (λ kind. kind ≤ 13) }
 {
     match line {
         None => Some(MALFORMED_LINE),
         Some(Line::Empty | Line::Version) => None,
-        Some(Line::Range(range)) => range_fault(rows, range),
+        Some(Line::Range(range)) => range_fault(earlier, rows, range),
         Some(Line::Entry { string, row }) => entry_fault(rows, string, row),
     }
 }

@@ -1,11 +1,12 @@
-//! Reading a table file line by line (UTS #10, the form of allkeys.txt).
+//! Reading a table file, and a second one that tailors it, line by line (UTS #10, the form of allkeys.txt).
 
-ghost use Rattle.std.specs.Prelude.{◌≡◌, None, IfOk, IfErr, OnOk};
+ghost use Rattle.std.specs.Prelude.{◌≡◌, ◌≤◌, [], None, length, option_map, IfOk, IfErr, OnOk};
 ghost use Rattle.collation_table.specs.WellFormed.{IsWellFormed};
 ghost use Rattle.collation_table.specs.Spelling.{line_form};
-ghost use Rattle.collation_table.specs.Faults.{forms_of, map_of, line_kind, fault_at_line, with_line, first_line_fault, table_fault, SpellsTable, IsFaultOrAllocationRefused};
+ghost use Rattle.collation_table.specs.Reading.{earlier_ranges, reported_kind, reported};
+ghost use Rattle.collation_table.specs.Faults.{forms_of, map_after, line_kind, fault_at_line, with_line, first_line_fault, tailored_fault, table_fault, SpellsTailored, SpellsTable, IsFaultOrAllocationRefused};
 
-use crate::faults::TableFault;
+use crate::faults::{TAILOR_KINDS, TableFault};
 use crate::line_faults::line_fault;
 use crate::lines::{Line, parse_line};
 use crate::lookup::Weights;
@@ -14,37 +15,90 @@ use crate::rows::Rows;
 use crate::table::Table;
 use std::alloc::Global;
 
+/// Which of two files a line stands in.
+#[derive(Clone, Copy, PartialEq, Eq, Debug)]
+enum TableFile {
+    /// The first.
+    Base,
+    /// One that tailors a file with so many ranges.
+    Tailor(usize),
+}
+
+impl TableFile {
+    /// How many ranges stand in an earlier file.
+    fn earlier_ranges(self) -> usize
+        ensures { result ≡ earlier_ranges self }
+    {
+        match self {
+            TableFile::Base => 0,
+            TableFile::Tailor(earlier) => earlier,
+        }
+    }
+
+    /// The number by which a kind of fault of one of its lines is reported.
+    fn reported_kind(self, kind: u8) -> u8
+        requires { kind ≤ 13 }
+        ensures { result ≡ reported_kind self kind }
+    {
+        match self {
+            TableFile::Base => kind,
+            TableFile::Tailor(_) => TAILOR_KINDS + kind,
+        }
+    }
+}
+
 /// Adds what the line with this number says, or reports its fault; where memory is refused, that is reported at line 0.
-fn read_line(alloc: Global, rows: Rows, number: u64, text: &[u8]) -> Result<Rows, TableFault>
-    ensures right { OnOk result (line_kind rows (line_form text.now) ≡ None) }
+fn read_line(
+    alloc: Global,
+    file: TableFile,
+    rows: Rows,
+    number: u64,
+    text: &[u8],
+) -> Result<Rows, TableFault>
+    ensures right { OnOk result (line_kind (earlier_ranges file) rows (line_form text.now) ≡ None) }
     ensures rows { IfOk result (λ new. new ≡ with_line rows (line_form text.now)) }
-    ensures fault { IfErr result (IsFaultOrAllocationRefused (fault_at_line number (line_kind rows (line_form text.now)))) }
+    ensures fault { IfErr result (IsFaultOrAllocationRefused (option_map (reported file) (fault_at_line number (line_kind (earlier_ranges file) rows (line_form text.now))))) }
 {
     let line = parse_line(alloc, text)?;
-    match line_fault(&rows, &line) {
-        Some(kind) => return Err(TableFault { line: number, kind }),
+    match line_fault(file.earlier_ranges(), &rows, &line) {
+        Some(kind) => {
+            return Err(TableFault {
+                line: number,
+                kind: file.reported_kind(kind),
+            });
+        }
         None => {}
     }
     match line {
         Some(Line::Range(range)) => Ok(rows.push_range(range)?),
-        Some(Line::Entry { string, row }) => Ok(rows.insert(alloc, string, row)?),
+        Some(Line::Entry { string, row }) => {
+            Ok(rows.insert(alloc, string.as_slice(), row.as_slice())?)
+        }
         Some(Line::Empty | Line::Version) | None => Ok(rows),
     }
 }
 
-/// The rows and ranges of all lines, or the fault of the first line that has one.
-fn read_lines(alloc: Global, bytes: &[u8]) -> Result<Rows, TableFault>
-    ensures ok { OnOk result (first_line_fault (forms_of bytes.now) ≡ None) }
-    ensures rows { IfOk result (λ rows. rows ≡ map_of (forms_of bytes.now)) }
-    ensures fault { IfErr result (IsFaultOrAllocationRefused (first_line_fault (forms_of bytes.now))) }
+/// The rows of all lines of a file, and the ranges of an earlier file followed by its own, or the fault of the first line that has
+/// one.
+fn read_lines(
+    alloc: Global,
+    file: TableFile,
+    earlier: Rows,
+    bytes: &[u8],
+) -> Result<Rows, TableFault>
+    requires none { earlier.rows ≡ [] }
+    requires ranges { earlier_ranges file ≡ length earlier.ranges }
+    ensures ok { OnOk result (first_line_fault earlier.ranges (forms_of bytes.now) ≡ None) }
+    ensures rows { IfOk result (λ rows. rows ≡ map_after earlier.ranges (forms_of bytes.now)) }
+    ensures fault { IfErr result (IsFaultOrAllocationRefused (option_map (reported file) (first_line_fault earlier.ranges (forms_of bytes.now)))) }
 {
-    let mut rows = Rows::new(alloc);
+    let mut rows = earlier;
     let mut rest = bytes;
     let mut number = 0;
     while !rest.is_empty() {
         let (text, following) = first_line(rest);
         number += 1;
-        rows = read_line(alloc, rows, number, text)?;
+        rows = read_line(alloc, file, rows, number, text)?;
         rest = following;
     }
     Ok(rows)
@@ -90,7 +144,31 @@ impl Table {
         // The first fault is reported, unless memory was refused.
         ensures fault { IfErr result (IsFaultOrAllocationRefused (table_fault bytes.now)) }
     {
-        let rows = read_lines(alloc, bytes)?;
+        Table::read_tailored(alloc, bytes, &[])
+    }
+
+    /// Reads a table file and a tailor, a second file of the same form whose rows replace those of the first one that map the same
+    /// strings, or are added; its ranges follow those of the first one. An empty tailor changes nothing.
+    ///
+    /// # Errors
+    ///
+    /// First the lines of the first file are judged, as `read` does. Then those of the tailor, and 60 is added to the kind of a fault,
+    /// whose line is the tailor's: 61 to 65, 67, 70, 71 or 73. Kinds 63 and 73 count within the tailor; the earlier ranges of kind 71
+    /// are those of the first file and of the tailor. Where no line is at fault, line 0 is reported with the first kind of 12 (neither
+    /// file has a row), 6, 8 and 9 that the table has, a row that was replaced not counting; or with 14, as `read` does.
+    pub fn read_tailored(alloc: Global, base: &[u8], tailor: &[u8]) -> Result<Table, TableFault>
+        // A table comes from files with no fault, and is what they spell.
+        ensures accepted { OnOk result (tailored_fault base.now tailor.now ≡ None) }
+        ensures spelled { IfOk result (λ table. SpellsTailored base.now tailor.now (⟦<Table as Weights>⟧.table table)) }
+        ensures well_formed { IfOk result (λ table. IsWellFormed (⟦<Table as Weights>⟧.table table)) }
+        // The first fault is reported, unless memory was refused.
+        ensures fault { IfErr result (IsFaultOrAllocationRefused (tailored_fault base.now tailor.now)) }
+    {
+        let base = read_lines(alloc, TableFile::Base, Rows::new(alloc), base)?;
+        let (base, ranges) = base.apart(alloc);
+        let file = TableFile::Tailor(ranges.ranges().len());
+        let tailor = read_lines(alloc, file, ranges, tailor)?;
+        let rows = base.overlaid(alloc, tailor)?;
         match Table::seal(rows) {
             Ok(table) => Ok(table),
             Err(kind) => Err(TableFault { line: 0, kind }),

@@ -1,6 +1,6 @@
 //! The rows and the implicit ranges of a table, as the lines of its file give them one by one.
-ghost use Rattle.std.specs.Prelude.{◌≡◌, [], ◌∷◌, ◌++◌, false, length, OnOk, OnErr, IfOk, option_copied, ◌≤◌};
-ghost use Rattle.collation_table.specs.Table.{TableMap, BeginsNoLongerString, ContinuesNoString, row_of, is_mapped, longest_prefix, longest_mapped, most_elements};
+ghost use Rattle.std.specs.Prelude.{◌≡◌, [], ◌∷◌, ◌++◌, false, length, take, slice_get, None, Some, IfOk, option_copied, ◌<◌, ◌≤◌};
+ghost use Rattle.collation_table.specs.Table.{TableMap, BeginsNoLongerString, ContinuesNoString, row_of, row_with, is_mapped, longest_prefix, longest_mapped, most_elements};
 ghost use Rattle.collation_table.specs.Entries.{part};
 ghost use Rattle.collation_table.specs.WellFormed.{IsRowSound, breaks_ranges};
 
@@ -12,6 +12,7 @@ use std::alloc::{AllocError, Global};
 use std::marker::Model;
 
 mod conditions;
+mod overlay;
 
 /// Where a row lies: its mapped string among the code points of all mapped strings, its elements among those of all rows.
 #[derive(Clone, Copy, PartialEq, Eq, Debug)]
@@ -120,15 +121,10 @@ impl Rows {
     }
 
     /// The rows with one more after the others.
-    pub fn insert(
-        self,
-        alloc: Global,
-        string: Vec<u32>,
-        row: Vec<Element>,
-    ) -> Result<Rows, AllocError>
-        requires absent { is_mapped self string.items ≡ false }
-        requires sound { IsRowSound string.items row.items }
-        ensures { IfOk result (λ rows. rows ≡ record self { rows = self.rows ++ (string.items, row.items) ∷ [] }) }
+    pub fn insert(self, alloc: Global, string: &[u32], row: &[Element]) -> Result<Rows, AllocError>
+        requires absent { is_mapped self string.now ≡ false }
+        requires sound { IsRowSound string.now row.now }
+        ensures { IfOk result (λ rows. rows ≡ record self { rows = self.rows ++ (string.now, row.now) ∷ [] }) }
     {
         let Rows {
             mut points,
@@ -139,8 +135,6 @@ impl Rows {
             longest,
             largest,
         } = self;
-        let string = string.as_slice();
-        let row = row.as_slice();
         let string_start = points.len();
         points.extend_from_slice(string)?;
         let row_start = elements.len();
@@ -166,6 +160,20 @@ impl Rows {
             longest: longest.max(string.len()),
             largest: largest.max(row.len()),
         })
+    }
+
+    /// The mapped string and the elements of a row, counted from 0.
+    pub fn row_at(&self, number: usize) -> (&[u32], &[Element])
+        requires { number < length self.now.rows }
+        ensures value { slice_get self.now.rows number ≡ Some (result.0.now, result.1.now) }
+        ensures sound { IsRowSound result.0.now result.1.now }
+        ensures distinct { row_with result.0.now (take number self.now.rows) ≡ None }
+    {
+        let places = self.places[number];
+        (
+            points_at(self.points.as_slice(), places.string),
+            elements_at(self.elements.as_slice(), places.row),
+        )
     }
 
     /// How many rows there are.

@@ -212,6 +212,91 @@ fn accepts(rt: HostRuntime) {
     }
 }
 
+/// The table of a file and a tailor, or its fault; read again where memory was refused.
+fn read_both_again(alloc: Global, file: &[u8], tailor: &[u8]) -> Result<Table, TableFault> {
+    match Table::read_tailored(alloc, file, tailor) {
+        Err(TableFault { line: 0, kind: 14 }) => Table::read_tailored(alloc, file, tailor),
+        answer => answer,
+    }
+}
+
+/// The kind and the line of the fault of a file and a tailor.
+fn fault_of_both(alloc: Global, file: &str, tailor: &str) -> Option<(u8, u64)> {
+    match read_both_again(alloc, file.as_bytes(), tailor.as_bytes()) {
+        Ok(_) => None,
+        Err(fault) => Some((fault.kind, fault.line)),
+    }
+}
+
+#[test]
+fn reports_the_fault_of_a_tailor(rt: HostRuntime) {
+    let base = "0061 ; [.1C00.0020.0002]\n@implicitweights 17000..17005; FB00";
+    for (file, tailor, kind, line) in [
+        (base, "61 ; [.1C00.0020.0002]", 61, 1),
+        (base, "# x\n110000 ; [.1C00.0020.0002]", 62, 2),
+        (
+            base,
+            "0062 ; [.1C10.0020.0002]\n0062 ; [.1C10.0020.0002]",
+            63,
+            2,
+        ),
+        (base, "0061 ; [.1C00.0000.0002]", 65, 1),
+        (base, "0020 ; [*0000.0000.0000]", 67, 1),
+        (base, "4E00 ; [.FB40.0020.0002]", 70, 1),
+        (base, "@implicitweights 17005..17006; FB00", 71, 1),
+        (base, "@implicitweights 1F000..1F000; FB00", 71, 1),
+        ("61", "62", 1, 1),
+        (ACCENTED, "007A ; [.0201.0020.0002]", 8, 0),
+        (ACCENTED, "0301 ; [.0000.0020.0002]", 6, 0),
+        (ACCENTED, "0065 0327 0301 ; [.1C48.0020.0002]", 9, 0),
+        ("", "@implicitweights 17000..17005; FB00", 12, 0),
+    ] {
+        assert_eq!(rt;
+            fault_of_both(rt.alloc(), file, tailor),
+            Some((kind, line)),
+            "{tailor}"
+        );
+    }
+}
+
+#[test]
+fn answers_by_both_files(rt: HostRuntime) -> Result<(), Fail> {
+    for (file, tailor, longest, most) in [
+        (ACCENTED, "", 2, 2),
+        ("", ACCENTED, 2, 2),
+        (ACCENTED, ACCENTED, 2, 2),
+        (
+            ACCENTED,
+            "0065 0327 0301 ; [.1C48.0020.0002]\n0065 0327 ; [.1C46.0020.0002]",
+            3,
+            2,
+        ),
+        (
+            "0061 ; [.1C00.0020.0002][.1C00.0020.0002][.1C00.0020.0002]\n0062 ; [.1C10.0020.0002]",
+            "0061 ; [.1C00.0020.0002]",
+            1,
+            2,
+        ),
+    ] {
+        let table = read_both_again(rt.alloc(), file.as_bytes(), tailor.as_bytes())?;
+        assert_eq!(rt; table.longest_key(), longest, "{tailor}");
+        assert_eq!(rt; table.most_elements(), most, "{tailor}");
+    }
+    let tailor = "0062 ; [.1C00.0020.0008]\n0061 0061 ; [.1C05.0020.0002]";
+    let table = read_both_again(rt.alloc(), ACCENTED.as_bytes(), tailor.as_bytes())?;
+    for (string, weight) in [
+        ([0x61].as_slice(), 0x1C00),
+        ([0x62].as_slice(), 0x1C00),
+        ([0x63].as_slice(), 0x1C20),
+        ([0x61, 0x61].as_slice(), 0x1C05),
+    ] {
+        let row = table.row(string).ok_or("a row")?;
+        assert_eq!(rt; row.first().map_or(0, |e| e.w1), weight);
+    }
+    assert_eq!(rt; table.longest(&[0x61, 0x61, 0x61]), 2);
+    Ok(())
+}
+
 #[test]
 fn reads_bytes_that_are_no_text(rt: HostRuntime) {
     let comment = b"0061 ; [.1C00.0020.0002] # \xff\xc3\n";
@@ -256,21 +341,35 @@ fn bounds_a_line(rt: HostRuntime) -> Result<(), Fail> {
     Ok(())
 }
 
-/// A row, and as many ranges of one code point.
-fn ranges_of(alloc: Global, ranges: u32) -> Result<String, AllocError> {
+/// A row, and as many ranges of one code point from `first` on.
+fn ranges_of(alloc: Global, first: u32, ranges: u32) -> Result<String, AllocError> {
     let mut file = String::from_str(alloc, "0061 ; [.1C00.0020.0002]\n")?;
     for range in 0..ranges {
-        let point = 0x17000 + range % 0x8000;
+        let point = first % 0x18000 + range % 0x8000;
         writeln!(file, "@implicitweights {point:X}..{point:X}; FB00")?;
     }
     Ok(file)
 }
 
+/// The same, made again where memory was refused.
+fn ranges_again(alloc: Global, first: u32, ranges: u32) -> Result<String, AllocError> {
+    ranges_of(alloc, first, ranges).or_else(|_| ranges_of(alloc, first, ranges))
+}
+
 #[test]
 fn bounds_the_ranges(rt: HostRuntime) -> Result<(), Fail> {
     for (ranges, fault) in [(256, None), (257, Some((13, 258)))] {
-        let file = ranges_of(rt.alloc(), ranges).or_else(|_| ranges_of(rt.alloc(), ranges))?;
+        let file = ranges_again(rt.alloc(), 0x17000, ranges)?;
         assert_eq!(rt; fault_of(rt.alloc(), file.as_bytes()), fault, "{ranges}");
+    }
+    let base = ranges_again(rt.alloc(), 0x17000, 256)?;
+    for (ranges, fault) in [(256, None), (257, Some((73, 258)))] {
+        let tailor = ranges_again(rt.alloc(), 0x17800, ranges)?;
+        assert_eq!(rt;
+            fault_of_both(rt.alloc(), &base, &tailor),
+            fault,
+            "{ranges}"
+        );
     }
     Ok(())
 }
@@ -409,5 +508,17 @@ fn answers_by_many_rows(rt: HostRuntime) -> Result<(), Fail> {
         );
     }
     assert_eq!(rt; table.longest(&[0x30000 + MANY, 0x61]), 0);
+    Ok(())
+}
+
+#[test]
+fn replaces_one_of_many_rows(rt: HostRuntime) -> Result<(), Fail> {
+    let file = many_rows(rt.alloc()).or_else(|_| many_rows(rt.alloc()))?;
+    let tailor = b"30000 0061 ; [.0001.0020.0002]";
+    let table = read_both_again(rt.alloc(), file.as_bytes(), tailor)?;
+    for (number, elements) in [(0, 1), (10, 2), (99_990, 2)] {
+        let row = table.row(&[0x30000 + number, 0x61]).ok_or("a row")?;
+        assert_eq!(rt; row.len(), elements, "{number}");
+    }
     Ok(())
 }

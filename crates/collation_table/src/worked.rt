@@ -1,6 +1,6 @@
 //! Worked tables: small files with their faults and sizes, and look-ups in them, as the definitions give them, proved by computing.
 
-ghost use Rattle.collation_table.specs.WorkedTables.{LineFaults, RowFaults, RangeFaults, TableFaults, AcceptedTables, Limits, ImplicitWeights, LongestPrefixes, Classes};
+ghost use Rattle.collation_table.specs.WorkedTables.{LineFaults, RowFaults, RangeFaults, TableFaults, AcceptedTables, TailoredTables, TailoredFaults, Limits, ImplicitWeights, LongestPrefixes, Classes};
 
 /// Lines that can't be read, and which of several faults is reported.
 pub fn faults_of_lines()
@@ -25,6 +25,16 @@ pub fn faults_of_tables()
 /// Files with no fault, with the sizes of their longest mapped string and largest row.
 pub fn accepted_tables()
     ensures { AcceptedTables }
+{}
+
+/// Files with a tailor that have no fault.
+pub fn tailored_tables()
+    ensures { TailoredTables }
+{}
+
+/// Files with a tailor, with the fault that they have.
+pub fn faults_of_tailored_tables()
+    ensures { TailoredFaults }
 {}
 
 /// The greatest numbers of code points of a mapped string, of elements of a row, of rows and of ranges.
