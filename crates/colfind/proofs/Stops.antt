@@ -10,7 +10,7 @@ use Rattle.collation_pattern.specs.PatternFaults.{pattern_fault}
 use Rattle.colfind.specs.Patterns.{IsCompiledWith}
 use Rattle.colfind.proofs.Searches.{compiled_from}
 use Rattle.colfind.specs.declared.faults.Stop.{Stop}
-use Rattle.colfind.specs.declared.faults.Stop.TheVariants.{Words, File, Table, Pattern, TextFile, Text, Read, Write, Memory}
+use Rattle.colfind.specs.declared.faults.Stop.TheVariants.{Words, File, Tailor, Table, Pattern, TextFile, Text, Read, Write, Memory}
 use Rattle.colfind.specs.declared.words.Settings.{Settings}
 use Rattle.colfind.specs.Settings.{IsTakenAs}
 use Rattle.colfind.specs.Stopping.{IsReason, StopsAtText, StopsSearch, Seen, of_file}
@@ -29,6 +29,7 @@ pub search_stops : (words : List Word) (Unasked : Type 0) (asked : Settings) (ta
     → StopsSearch table asked stop before after → IsReason words Unasked stop before after
 search_stops words U asked table (Words fault) before after taken file formed stops = never asked stops.1
 search_stops words U asked table (File fault) before after taken file formed stops = never asked stops.1
+search_stops words U asked table (Tailor fault) before after taken file formed stops = never asked stops.1
 search_stops words U asked table (Table fault) before after taken file formed stops = never asked stops.1
 search_stops words U asked table (Pattern fault) before after taken file formed stops = (asked, taken, file, (table, formed, stops))
 search_stops words U asked table TextFile before after taken file formed stops = (asked, taken, file, (table, formed, stops))
@@ -44,6 +45,7 @@ at_file : (table : TableMap) (asked : Settings) (reads_after : ℕ) (stop : Stop
     → StopsSearch table asked stop before after
 at_file table asked reads_after (Words fault) before after good given stops = absurd stops
 at_file table asked reads_after (File fault) before after good given stops = absurd stops
+at_file table asked reads_after (Tailor fault) before after good given stops = absurd stops
 at_file table asked reads_after (Table fault) before after good given stops = absurd stops
 at_file table asked reads_after (Pattern fault) before after good given stops = absurd stops
 at_file table asked reads_after TextFile before after good given stops = absurd stops

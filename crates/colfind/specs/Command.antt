@@ -1,4 +1,4 @@
--- The command `colfind --table FILE [--strength 1|2|3] [--variable shifted|non-ignorable] [--output ranges|count|marks] PATTERN [FILE]`, as its argument parser sees it.
+-- The command `colfind --table FILE [--tailor FILE] [--strength 1|2|3] [--variable shifted|non-ignorable] [--output ranges|count|marks] PATTERN [FILE]`, as its argument parser sees it.
 use Rattle.std.specs.Prelude.{◌≡◌, List, [], ◌∷◌, map, Some, codes, true}
 use Rattle.std.specs.Borrow.{Bor}
 use Rattle.clap.specs.Words.{App, Rule, Text, new_app, new_rule, with_rule}
@@ -20,6 +20,10 @@ output_names = codes "ranges" ∷ codes "count" ∷ codes "marks" ∷ []
 
 abbrev pub table_rule : Rule
 table_rule = record (new_rule (codes "table")) { long = Some (codes "table"); required = true }
+
+-- a second table file, which tailors the first, and may be left out
+abbrev pub tailor_rule : Rule
+tailor_rule = record (new_rule (codes "tailor")) { long = Some (codes "tailor") }
 
 abbrev pub strength_rule : ValueParser → Rule
 strength_rule names = record (new_rule (codes "strength")) {
@@ -56,7 +60,7 @@ empty_command = record { top = record (new_app (codes "colfind")).top { no_binar
 -- the options of the command, by the parsers of the three that take names
 abbrev pub options : ValueParser → ValueParser → ValueParser → App
 options strengths variables outputs =
-    with_rule (with_rule (with_rule (with_rule empty_command table_rule) (strength_rule strengths)) (variable_rule variables)) (output_rule outputs)
+    with_rule (with_rule (with_rule (with_rule (with_rule empty_command table_rule) tailor_rule) (strength_rule strengths)) (variable_rule variables)) (output_rule outputs)
 
 -- the command: its options, the pattern and the text file
 abbrev pub command : ValueParser → ValueParser → ValueParser → App

@@ -4,7 +4,7 @@ use Rattle.std.specs.Fmt.{decimal}
 use Rattle.colfind.specs.declared.faults.Fault.{Fault}
 use Rattle.colfind.specs.declared.faults.Fault.TheVariants.{Usage, At}
 use Rattle.colfind.specs.declared.faults.Stop.{Stop}
-use Rattle.colfind.specs.declared.faults.Stop.TheVariants.{Words, File, Table, Pattern, TextFile, Text, Read, Write, Memory}
+use Rattle.colfind.specs.declared.faults.Stop.TheVariants.{Words, File, Tailor, Table, Pattern, TextFile, Text, Read, Write, Memory}
 use Rattle.colfind.specs.declared.words.SettingsFault.TheVariants as settings
 use Rattle.colfind.specs.declared.files.FileFault.TheVariants as file
 use Rattle.colfind.specs.Devices.{with_piece}
@@ -20,6 +20,8 @@ fault_of (Words settings.Usage) = Usage
 fault_of (Words settings.Memory) = At 36 0
 fault_of (File file.Device) = At 43 0
 fault_of (File file.Memory) = At 14 0
+fault_of (Tailor file.Device) = At 44 0
+fault_of (Tailor file.Memory) = At 14 0
 fault_of (Table fault) = At fault.kind fault.line
 fault_of (Pattern fault) = At fault.kind 0
 fault_of TextFile = At 41 0

@@ -28,6 +28,7 @@ entry id rows = unwrap_or (first_of id rows) []
 -- the settings are those of the entries
 pub record IsReadFrom (rows : List Row) (s : Settings) : Type 0 where
   pub table : s.table.now ≡ entry (codes "table") rows
+  pub tailor : option_map (λ path. path.now) s.tailor ≡ first_of (codes "tailor") rows
   pub pattern : s.pattern.now ≡ entry (codes "pattern") rows
   pub strength : s.strength ≡ strength_of (entry (codes "strength") rows)
   pub variable : s.variable ≡ variable_of (entry (codes "variable") rows)

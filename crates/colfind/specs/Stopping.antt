@@ -1,19 +1,19 @@
--- Why the program ends without an answer, case by case in the order of its work: words, table file, table, pattern, text
--- file, text.
--- No clause can name the table file, so its bytes are some bytes, and its table is some well-formed table; nor can one name the
--- bytes of the text file.
-use Rattle.std.specs.Prelude.{◌≡◌, ◌≢◌, ℕ, Bool, true, false, List, Option, Some, None, is_some, nat_lt}
+-- Why the program ends without an answer, case by case in the order of its work: words, table file, tailor file,
+-- table, pattern, text file, text.
+-- No clause can name the table file and the tailor file, so their bytes are some bytes, and their table is some well-formed table; nor
+-- can one name the bytes of the text file.
+use Rattle.std.specs.Prelude.{◌≡◌, ◌≢◌, ℕ, Bool, true, false, List, [], Option, Some, None, is_some, nat_lt}
 use Rattle.clap.specs.Words.{Text as Word}
 use Rattle.collation_table.specs.Table.{TableMap}
 use Rattle.collation_table.specs.WellFormed.{IsWellFormed}
-use Rattle.collation_table.specs.Faults.{table_fault, IsFaultOrAllocationRefused}
+use Rattle.collation_table.specs.Faults.{tailored_fault, IsFaultOrAllocationRefused}
 use Rattle.collation_elements.specs.declared.settings.Variable.{Variable}
 use Rattle.collation_elements.specs.declared.settings.Strength.{Strength}
 use Rattle.collation_pattern.specs.PatternFaults.{pattern_fault}
 use Rattle.collation_search.specs.Answer.{answer}
 use Rattle.colfind.specs.declared.output.Output.{Output}
 use Rattle.colfind.specs.declared.faults.Stop.{Stop}
-use Rattle.colfind.specs.declared.faults.Stop.TheVariants.{Words, File, Table, Pattern, TextFile, Text, Read, Write, Memory}
+use Rattle.colfind.specs.declared.faults.Stop.TheVariants.{Words, File, Tailor, Table, Pattern, TextFile, Text, Read, Write, Memory}
 use Rattle.colfind.specs.declared.words.Settings.{Settings}
 use Rattle.colfind.specs.declared.words.SettingsFault.TheVariants as of_words
 use Rattle.colfind.specs.declared.run.Outcome.{Outcome}
@@ -37,6 +37,7 @@ seen left reads_failed held writes_failed =
 abbrev pub is_before_text : Stop → Bool
 is_before_text (Words _) = true
 is_before_text (File _) = true
+is_before_text (Tailor _) = true
 is_before_text (Table _) = true
 is_before_text (Pattern _) = true
 is_before_text TextFile = true
@@ -46,11 +47,14 @@ is_before_text _ = false
 abbrev pub Fails : Outcome → Seen → Seen → Type 0
 Fails outcome before after = FailsAs outcome before.reads_failed after.reads_failed before.writes_failed after.writes_failed
 
--- the table file could not be read, or its bytes, whatever they are, have this fault
-abbrev pub StopsAtTable : Stop → Type 0
-StopsAtTable (File _) = Unit {0}
-StopsAtTable (Table fault) = (bytes : List ℕ) × IsFaultOrAllocationRefused (table_fault bytes) fault
-StopsAtTable _ = ⊥
+-- the table file could not be read, or the tailor file, where one is asked for; or their bytes, whatever they are, have this fault,
+-- where a tailor that is not asked for has none
+abbrev pub StopsAtTable : Settings → Stop → Type 0
+StopsAtTable asked (File _) = Unit {0}
+StopsAtTable asked (Tailor _) = is_some asked.tailor ≡ true
+StopsAtTable asked (Table fault) =
+    (base : List ℕ) × (tailor : List ℕ) × (is_some asked.tailor ≡ false → tailor ≡ []) × IsFaultOrAllocationRefused (tailored_fault base tailor) fault
+StopsAtTable asked _ = ⊥
 
 -- the text has this first fault, could not be read further, its ranges could not be written, or memory was refused
 abbrev pub StopsAtText : TableMap → Strength → Variable → List ℕ → Output → Stop → Seen → Seen → Type 0
@@ -93,13 +97,14 @@ StopsSearch table asked TextFile before after =
 StopsSearch table asked stop before after =
     (pattern_fault table asked.strength asked.variable asked.pattern.now ≡ None) × StopsIn table asked stop before after
 
--- the words are not those of the command, or memory was refused for them; else they ask for settings, and the table comes, and
--- then the search with some well-formed table; where the text is a file, `Unasked` holds, by which a clause says that the input
+-- the words are not those of the command, or memory was refused for them; else they ask for settings, and the table comes, of one
+-- file or of two, and then the search with some well-formed table; where the text is a file, `Unasked` holds, by which a clause says that the input
 -- is as it was
 abbrev pub IsReason : List Word → Type 0 → Stop → Seen → Seen → Type 0
 IsReason words Unasked (Words fault) before after = fault ≡ of_words.Usage → IsRefused words
 IsReason words Unasked (File fault) before after = (asked : Settings) × IsTakenAs words asked
-IsReason words Unasked (Table fault) before after = (asked : Settings) × IsTakenAs words asked × StopsAtTable (Table fault)
+IsReason words Unasked (Tailor fault) before after = (asked : Settings) × IsTakenAs words asked × StopsAtTable asked (Tailor fault)
+IsReason words Unasked (Table fault) before after = (asked : Settings) × IsTakenAs words asked × StopsAtTable asked (Table fault)
 IsReason words Unasked stop before after =
     (asked : Settings) × IsTakenAs words asked × (is_some asked.text ≡ true → Unasked) × ((table : TableMap) × IsWellFormed table
     × StopsSearch table asked stop before after)

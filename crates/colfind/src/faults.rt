@@ -12,7 +12,7 @@ use collation_table::TableFault;
 /// Memory was refused for the words of the command line or for the search.
 pub const MEMORY: u8 = 36;
 
-/// Memory was refused while the table file was read.
+/// Memory was refused while the table file or the tailor file was read.
 pub const TABLE_MEMORY: u8 = 14;
 
 /// The text file could not be opened, or the text not be read further.
@@ -24,26 +24,31 @@ pub const WRITE: u8 = 42;
 /// The table file could not be opened or read.
 pub const TABLE_FILE: u8 = 43;
 
+/// The tailor file could not be opened or read.
+pub const TAILOR_FILE: u8 = 44;
+
 /// Why the program has ended without an answer, or before the end of one.
 #[derive(Clone, Copy, Debug, PartialEq, Eq)]
 pub enum Fault {
     /// The words are not those of the command.
     Usage,
-    /// The kind of a fault, and where it stands: for a fault in the table file its line, counted
-    /// from 1; for one in the text, or of its reader, a byte offset from the start of the text.
+    /// The kind of a fault, and where it stands: for a fault in the table file or the tailor file its
+    /// line, counted from 1; for one in the text, or of its reader, a byte offset from the start of the text.
     /// It is 0 where the fault has no such place.
     At(u8, u64),
 }
 
 /// Why the program has ended without an answer, by where in the order of its work that was: the
-/// words, the table file, the table, the pattern, the text file, the text.
+/// words, the table file, the tailor file, the table, the pattern, the text file, the text.
 #[derive(Clone, Copy, Debug, PartialEq, Eq)]
 pub enum Stop {
     /// The words of the command line.
     Words(SettingsFault),
     /// The table file could not be opened or read, or memory was refused for its bytes.
     File(FileFault),
-    /// The bytes of the table file.
+    /// The tailor file could not be opened or read, or memory was refused for its bytes.
+    Tailor(FileFault),
+    /// The bytes of the table file and the tailor file.
     Table(TableFault),
     /// The pattern.
     Pattern(PatternFault),
@@ -103,6 +108,8 @@ impl Stop {
             Stop::Words(SettingsFault::Memory) => Fault::At(MEMORY, 0),
             Stop::File(FileFault::Device) => Fault::At(TABLE_FILE, 0),
             Stop::File(FileFault::Memory) => Fault::At(TABLE_MEMORY, 0),
+            Stop::Tailor(FileFault::Device) => Fault::At(TAILOR_FILE, 0),
+            Stop::Tailor(FileFault::Memory) => Fault::At(TABLE_MEMORY, 0),
             Stop::Table(fault) => Fault::At(fault.kind, fault.line),
             Stop::Pattern(fault) => Fault::At(fault.kind, 0),
             Stop::TextFile => Fault::At(READ, 0),

@@ -1,7 +1,8 @@
 //! `colfind` finds a pattern in a text by Unicode collation: it compares sort keys at a chosen
 //! strength (UTS #10) and reports the byte ranges of the matches.
 //!
-//! The text is read from standard input, and the ranges are written to standard output. `run` is
+//! The text is that of a file or of standard input, and the ranges are written to standard output. The
+//! weights come from a table file, and from a second one that tailors it, where one is named. `run` is
 //! the search over any reader and writer, `program` is the whole program but for the standard
 //! streams, and `settings` reads the words of the command line.
 //!

@@ -1,4 +1,4 @@
-//! The program: its words, its table file, and a run from its text, which is a file or standard
+//! The program: its words, its table file and tailor file, and a run from its text, which is a file or standard
 //! input, to standard output.
 ghost use Rattle.std.specs.Prelude.{◌≡◌, ◌<◌, ◌≤◌, ◌^◌, ℕ, List, map, IfOk, IfErr, OnOk, is_some, true, false};
 ghost use Rattle.colfind.specs.declared.faults.Stop.{Stop};
@@ -37,7 +37,7 @@ pub fn program<'a, F: Files, R: Source, O: Target, E: Target>(
     requires writes { O.failures out.old < 2 ^ 63 }
     requires reports { E.failures err.old < 2 ^ 63 }
     ensures status { result ≤ 2 }
-    // No clause can name the table file or the text file. So the table is any that is well formed,
+    // No clause can name the table's files or the text file. So the table is any that is well formed,
     // and where a text file is asked for, its bytes are any; the input is then as it was.
     ensures found { result < 2 → (count : ℕ) × (result ≡ status_of count)
         × FindsAsked (map (λ word. word.now) words.entry.now) (input.new ≡ input.old) count
@@ -92,7 +92,7 @@ fn count_matches<'a, F: Files, R: Source, O: Target>(
     ensures unasked { IfErr result (λ stop. is_before_text stop ≡ true → (input.new ≡ input.old) × (out.new ≡ out.old)) }
 {
     let asked = settings(alloc, words)?;
-    let table = read_table(runtime, alloc, asked.table)?;
+    let table = read_table(runtime, alloc, &asked)?;
     search(runtime, alloc, &table, &asked, input, out)
 }
 
@@ -162,13 +162,24 @@ fn search_in<W: Weights, R: Source, O: Target>(
     }
 }
 
-/// The table of the file at `path`.
-fn read_table<F: Files>(runtime: &F, alloc: Global, path: &str) -> Result<Table, Stop>
-    ensures { IfErr result StopsAtTable }
+/// The table of the table file and, if one is asked for, the tailor file.
+fn read_table<F: Files>(runtime: &F, alloc: Global, asked: &Settings) -> Result<Table, Stop>
+    ensures { IfErr result (StopsAtTable asked.now) }
 {
-    let Ok(file) = fs::open(runtime, path) else {
-        return Err(Stop::File(FileFault::Device));
+    let base = read_file(runtime, alloc, asked.table)?;
+    let Some(path) = asked.tailor else {
+        return Ok(Table::read(alloc, &base)?);
     };
-    let bytes = read_all(alloc, &mut FromRead::new(file))?;
-    Ok(Table::read(alloc, &bytes)?)
+    match read_file(runtime, alloc, path) {
+        Ok(tailor) => Ok(Table::read_tailored(alloc, &base, &tailor)?),
+        Err(fault) => Err(Stop::Tailor(fault)),
+    }
+}
+
+/// The bytes of the file at `path`.
+fn read_file<F: Files>(runtime: &F, alloc: Global, path: &str) -> Result<Vec<u8>, FileFault> {
+    let Ok(file) = fs::open(runtime, path) else {
+        return Err(FileFault::Device);
+    };
+    read_all(alloc, &mut FromRead::new(file))
 }

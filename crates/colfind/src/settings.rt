@@ -2,7 +2,7 @@
 ghost use Rattle.std.specs.Prelude.{◌≡◌, map, option_map, IfOk, false};
 ghost use Rattle.clap.specs.Words.{app_of, first_of, found_of, rows_of, rule_of};
 ghost use Rattle.colfind.specs.Command.{command, TakesNames, strength_names, variable_names, output_names};
-ghost use Rattle.colfind.specs.Command.{table_rule, strength_rule, variable_rule, output_rule, pattern_rule, text_rule};
+ghost use Rattle.colfind.specs.Command.{table_rule, tailor_rule, strength_rule, variable_rule, output_rule, pattern_rule, text_rule};
 ghost use Rattle.colfind.specs.Settings.{IsReadFrom, IsTakenAs, IsRefused, entry, strength_of, variable_of, output_of};
 
 use crate::output::Output;
@@ -23,6 +23,13 @@ fn table_option<'a>(alloc: Global) -> Arg<'a>
     ensures local { result.global ≡ false }
 {
     Arg::new(alloc, "table").long("table").required(true)
+}
+
+fn tailor_option<'a>(alloc: Global) -> Arg<'a>
+    ensures rule { rule_of result ≡ tailor_rule }
+    ensures local { result.global ≡ false }
+{
+    Arg::new(alloc, "tailor").long("tailor")
 }
 
 fn strength_option<'a>(alloc: Global) -> Arg<'a>
@@ -82,6 +89,7 @@ fn command_line<'a>(alloc: Global) -> Result<Command<'a>, AllocError>
         .no_binary_name(true)
         .disable_help_flag(true)
         .arg(table_option(alloc))?
+        .arg(tailor_option(alloc))?
         .arg(strength_option(alloc))?
         .arg(variable_option(alloc))?
         .arg(output_option(alloc))?
@@ -146,6 +154,7 @@ fn read_from<'a>(matches: &ArgMatches<'a>) -> Settings<'a>
 {
     Settings {
         table: text_of(matches, "table"),
+        tailor: given_text(matches, "tailor"),
         pattern: text_of(matches, "pattern"),
         strength: strength_named(text_of(matches, "strength")),
         variable: variable_named(text_of(matches, "variable")),
@@ -155,7 +164,7 @@ fn read_from<'a>(matches: &ArgMatches<'a>) -> Settings<'a>
 }
 
 /// Reads the words of the command line, which come without the program's name, by the command
-/// `colfind --table FILE [--strength 1|2|3] [--variable shifted|non-ignorable]
+/// `colfind --table FILE [--tailor FILE] [--strength 1|2|3] [--variable shifted|non-ignorable]
 /// [--output ranges|count|marks] PATTERN [FILE]`. Where an option is left out, the strength is 3,
 /// the weighting non-ignorable and the output ranges. A pattern that begins with `-` stands after
 /// the word `--`.

@@ -27,6 +27,7 @@ mod refusals;
 mod rows;
 mod sizes;
 mod streams;
+mod tailors;
 mod words;
 
 const TABLE: &str = "@version 0.0.0
@@ -269,6 +270,7 @@ fn reads_the_words(rt: HostRuntime) {
     let alloc = rt.alloc();
     let plain = Settings {
         table: "t",
+        tailor: None,
         pattern: "p",
         strength: Strength::Three,
         variable: Variable::NonIgnorable,

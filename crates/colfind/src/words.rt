@@ -8,6 +8,8 @@ use thiserror::Error;
 pub struct Settings<'a> {
     /// The path of the table file.
     pub table: &'a str,
+    /// The path of the tailor file, where there is one.
+    pub tailor: Option<&'a str>,
     /// The text to search for.
     pub pattern: &'a str,
     /// How many levels of weights are compared.

@@ -19,11 +19,13 @@ const REFUSALS: [&str; 3] = [
 /// A strength, a pattern, a text, and what is answered with ample memory: the status, and what goes to the two outputs.
 type Row<'a> = (&'a str, &'a str, &'a [u8], u8, &'a str, &'a str);
 
-/// Asks the program, over outputs that need no memory, and compares.
-fn ask(rt: &impl Abort, host: &HostRuntime, path: &str, row: &Row) -> Result<(), Fail> {
+/// Asks the program, with these options and over outputs that need no memory, and compares.
+fn ask(rt: &impl Abort, host: &HostRuntime, options: &[&str], row: &Row) -> Result<(), Fail> {
     let (strength, pattern, text, status, printed, reported) = row;
     let alloc = host.alloc();
-    let words = ["--table", path, "--strength", *strength, "--", *pattern];
+    let mut words = Vec::new(alloc);
+    words.extend_from_slice(options)?;
+    words.extend_from_slice(&["--strength", *strength, "--", *pattern])?;
     let mut input = MemorySource::new(*text, 4);
     let mut out = FailingTarget::with_room(alloc, 64, 7)?;
     let mut err = FailingTarget::with_room(alloc, 64, 7)?;
@@ -49,8 +51,33 @@ fn refused_allocations_are_reported(rt: HostRuntime) -> Result<(), Fail> {
         ("3", "a", b"ab \xff", 2, "0:1\n", "colfind: fault 31 at 3\n"),
     ];
     for row in &rows {
-        ask(&rt, &rt, path.as_str(), row)?;
+        ask(&rt, &rt, &["--table", path.as_str()], row)?;
     }
     fs::remove_file(&rt, path.as_str())?;
+    Ok(())
+}
+
+#[test]
+fn refused_allocations_of_a_tailor_are_reported(rt: HostRuntime) -> Result<(), Fail> {
+    let path = file_with(&rt, "tailor-refusals", TABLE)?;
+    let tailor = format!(in rt.alloc(); "{path}.tailor")?;
+    let rows: [(&str, Row); 3] = [
+        ("", ("3", "aa", b"aaa", 0, "0:2\n1:3\n", "")),
+        (
+            "0062 ; [.1C00.0020.0008]\n0061 0061 ; [.1C05.0020.0002]\n@implicitweights 17000..17005; FB00",
+            ("2", "a", b"ab", 0, "0:1\n1:2\n", ""),
+        ),
+        (
+            "0061 ; x",
+            ("3", "a", b"a", 2, "", "colfind: fault 61 at 1\n"),
+        ),
+    ];
+    for (contents, row) in &rows {
+        fs::write(&rt, tailor.as_str(), *contents)?;
+        let options = ["--table", path.as_str(), "--tailor", tailor.as_str()];
+        ask(&rt, &rt, &options, row)?;
+    }
+    fs::remove_file(&rt, path.as_str())?;
+    fs::remove_file(&rt, tailor.as_str())?;
     Ok(())
 }

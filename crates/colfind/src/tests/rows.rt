@@ -1,4 +1,5 @@
-//! Worked rows: what the program prints and answers for small texts, read whole and a byte at a time.
+//! Worked rows: what the program prints and answers for small texts, read whole and a byte at a time, and with an empty
+//! tailor.
 
 use super::{TABLE, answered, file_with};
 use crate::memory::MemorySource;
@@ -36,6 +37,8 @@ fn compare(
     rows: &[Row],
 ) -> Result<(), Fail> {
     let path = file_with(host, name, table)?;
+    let empty = format!(in host.alloc(); "{path}.tailor")?;
+    fs::write(host, empty.as_str(), "")?;
     for (strength, variable, pattern, text, status, printed, reported) in rows {
         let words = [
             "--table",
@@ -55,8 +58,25 @@ fn compare(
         assert_eq!(rt; cut.0, *status);
         assert_eq!(rt; cut.1.bytes(), printed.as_bytes());
         assert_eq!(rt; cut.2.bytes(), reported.as_bytes());
+        let words = [
+            "--tailor",
+            empty.as_str(),
+            "--table",
+            path.as_str(),
+            "--strength",
+            *strength,
+            "--variable",
+            *variable,
+            "--",
+            *pattern,
+        ];
+        let tailored = answered(host, &words, &mut MemorySource::new(*text, 4096));
+        assert_eq!(rt; tailored.0, *status);
+        assert_eq!(rt; tailored.1.bytes(), printed.as_bytes());
+        assert_eq!(rt; tailored.2.bytes(), reported.as_bytes());
     }
     fs::remove_file(host, path.as_str())?;
+    fs::remove_file(host, empty.as_str())?;
     Ok(())
 }
 
