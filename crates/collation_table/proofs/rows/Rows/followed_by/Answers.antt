@@ -1,4 +1,4 @@
-use Rattle.std.proofs.Common.{◌≡◌, ℕ, List, ◌∙◌, ◌++◌, ◌∷◌, [], sym, ap, take, append_assoc, is_some}
+use Rattle.std.proofs.Common.{ℕ, List, ◌∙◌, ◌++◌, ◌∷◌, [], sym, ap, take, append_assoc, is_some}
 use Rattle.collation_table.specs.declared.elements.Element.{Element}
 use Rattle.collation_table.specs.Table.{TableMap, row_with}
 use Rattle.collation_table.proofs.OverlayLemmas.{take-at, absent-after}

@@ -1,4 +1,4 @@
-use Rattle.std.proofs.Common.{◌≡◌, ◌∙◌, ◌∷◌, ◌++◌, [], ap, sym, arith, length, max}
+use Rattle.std.proofs.Common.{◌≡◌, ◌∙◌, ◌∷◌, ◌++◌, [], ap, arith, length, max}
 use Rattle.collation_table.specs.declared.rows.RowPlaces.{RowPlaces}
 use Rattle.collation_table.specs.Entries.{rows_at}
 use Rattle.collation_table.specs.Table.{TableMap}

@@ -1,5 +1,3 @@
-use Rattle.std.proofs.Common.{◌∙◌, ap}
-use Rattle.std.specs.List.{list_any}
 use Rattle.collation_table.specs.Table.{is_mapped}
 use Rattle.collation_table.proofs.OverlayLemmas.{any-left}
 use Rattle.collation_table.proofs.rows.Rows.overlaid.Goals as goal

@@ -1,8 +1,7 @@
-use Rattle.std.proofs.Common.{◌≡◌, ◌∙◌, ℕ, List, slice_get, Some, sym, ap, subst, length, arith}
+use Rattle.std.proofs.Common.{◌≡◌, ◌∙◌, ℕ, List, slice_get, Some, sym, ap}
 use Rattle.collation_table.specs.declared.elements.Element.{Element}
 use Rattle.collation_table.specs.Entries.{part, rows_at}
-use Rattle.collation_table.specs.Table.{TableMap}
-use Rattle.collation_table.specs.WellFormed.{AreLinesSound, IsRowSound}
+use Rattle.collation_table.specs.WellFormed.{IsRowSound}
 use Rattle.collation_table.proofs.IndexLemmas.{rows_at-place}
 use Rattle.collation_table.proofs.RowLemmas.{AllByRecursion-at}
 use Rattle.collation_table.proofs.rows.Rows.row_at.Goals as goal

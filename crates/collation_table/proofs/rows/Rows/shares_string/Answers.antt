@@ -1,5 +1,5 @@
 use Rattle.collation_table.specs.Table.{is_mapped}
-use Rattle.std.proofs.Common.{◌≡◌, ◌∙◌, sym}
+use Rattle.std.proofs.Common.{◌∙◌, sym}
 use Rattle.collation_table.proofs.OverlayLemmas.{any-after, any-here}
 use Rattle.collation_table.proofs.rows.Rows.shares_string.Goals as goal
 

@@ -1,4 +1,4 @@
-use Rattle.std.proofs.Common.{◌≡◌, ℕ, List, ◌∙◌, ◌++◌, ◌∷◌, [], not, sym, ap, is_some, filter, length, take, arith}
+use Rattle.std.proofs.Common.{ℕ, List, ◌∙◌, ◌++◌, ◌∷◌, [], not, sym, ap, is_some, filter, arith}
 use Rattle.std.proofs.lemmas.List.{take_all}
 use Rattle.collation_table.specs.declared.elements.Element.{Element}
 use Rattle.collation_table.specs.Table.{TableMap, row_with, is_mapped}

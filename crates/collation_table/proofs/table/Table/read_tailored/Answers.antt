@@ -1,6 +1,6 @@
 use Rattle.std.proofs.Common.{◌∙◌, ap, inl, rules}
 use Rattle.collation_table.specs.Table.{TableMap, row_of, longest_mapped, most_elements}
-use Rattle.collation_table.specs.Faults.{fault_at_line, tailored_map}
+use Rattle.collation_table.specs.Faults.{fault_at_line}
 use Rattle.collation_table.proofs.FileFaults.{AreBothRead, AreBothRead-from, tailor_at_fault}
 use Rattle.collation_table.proofs.table.Table.read_tailored.Goals as goal
 
