@@ -11,6 +11,7 @@ mod ascii_runs;
 mod first_ranges;
 mod long_texts;
 mod pieces;
+mod resuming;
 mod searches;
 
 const A: Item = Item::Element(Key::Primary(0x1C00, 0x20, 2));

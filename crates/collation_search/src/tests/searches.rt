@@ -111,7 +111,42 @@ pub(super) fn stepped(
     Ok((ranges, fault))
 }
 
-/// Compares what a search answers of each row, whose text comes whole, byte by byte, and in pieces of three bytes.
+/// What a search answers of a text in pieces of this size, saved, dropped and resumed after each, and how many words the greatest
+/// state had.
+pub(super) fn resumed(
+    rt: &impl Abort,
+    alloc: Global,
+    table: &Table,
+    pattern: &Pattern,
+    text: &[u8],
+    size: usize,
+) -> Result<(Answered, usize), Fail>
+    requires { 0 < size }
+{
+    let mut search = Search::new(alloc, table, pattern)?;
+    let mut ranges = Vec::new(alloc);
+    let mut words = Vec::new(alloc);
+    let mut most_words = 0;
+    for piece in text.chunks(size) {
+        let _fault = search.feed(
+            piece,
+            &mut |start, end| {
+                ranges.push((start, end)).expect(rt, "memory");
+            },
+        );
+        words.clear();
+        search.save(&mut words)?;
+        most_words = most_words.max(words.len());
+        search = Search::resume(alloc, table, pattern, &words)?;
+    }
+    let mut found = Found::new();
+    let fault = search.finish(&mut found).err();
+    ranges.extend_from_slice(found.as_slice())?;
+    Ok(((ranges, fault), most_words))
+}
+
+/// Compares what a search answers of each row, whose text comes whole, byte by byte, and in pieces of three bytes, and with the
+/// search resumed after every byte.
 fn compare(rt: &impl Abort, alloc: Global, rows: &[Row]) -> Result<(), Fail> {
     let table = Table::read(alloc, TABLE.as_bytes())?;
     for (strength, variable, pattern, text, ranges, fault) in rows {
@@ -126,6 +161,9 @@ fn compare(rt: &impl Abort, alloc: Global, rows: &[Row]) -> Result<(), Fail> {
         let pieces = fed(rt, alloc, &table, &pattern, text, 3)?;
         assert_eq!(rt; pieces.0.as_slice(), *ranges);
         assert_eq!(rt; pieces.1, want);
+        let (again, _most_words) = resumed(rt, alloc, &table, &pattern, text, 1)?;
+        assert_eq!(rt; again.0.as_slice(), *ranges);
+        assert_eq!(rt; again.1, want);
     }
     Ok(())
 }
