@@ -21,6 +21,7 @@ pub mod ByteLemmas
 pub mod SearchAnswers
 pub mod SearchBegins
 pub mod FeedLemmas
+pub mod PieceLemmas
 pub mod MatchingLemmas
 pub mod SavedPoints
 pub mod SavingLemmas

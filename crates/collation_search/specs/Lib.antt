@@ -15,6 +15,7 @@ pub mod Restoring
 pub mod StateTests
 pub mod Resuming
 pub mod WorkedStates
+pub mod Pieces
 pub mod Saving
 pub mod WorkedRows
 pub mod Lag

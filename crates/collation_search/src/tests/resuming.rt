@@ -4,7 +4,7 @@
 ghost use Rattle.std.specs.Prelude.{◌<◌};
 
 use super::searches::{Answered, KEPT, SHIFTED, TABLE, THREE, resumed};
-use crate::{Found, Search, StateFault, TextFault};
+use crate::{Found, PiecesSearched, Search, StateFault, TextFault, search_in_pieces};
 use collation_elements::Variable;
 use collation_pattern::Pattern;
 use collation_table::Table;
@@ -207,8 +207,8 @@ fn letters_resumed_after_each(rt: HostRuntime) -> Result<(), Fail> {
     assert_eq!(rt; answered.0.len(), 99_999);
     assert_eq!(rt; answered.0.get(0).copied(), Some((0, 2)));
     assert_eq!(rt;
-        answered.0.get(999_998).copied(),
-        Some((999_998, 1_000_000))
+        answered.0.get(99_998).copied(),
+        Some((99_998, 100_000))
     );
     assert_eq!(rt; answered.1, None);
     assert_eq!(rt; most_records, 8);
@@ -288,5 +288,37 @@ fn refused_saves_and_resumes_are_asked_again(rt: HostRuntime) -> Result<(), Fail
         resumed.save(&mut again)?;
     }
     assert_eq!(rt; again.as_slice(), state);
+    Ok(())
+}
+
+#[test]
+fn searches_in_pieces(rt: HostRuntime) -> Result<(), Fail> {
+    let alloc = rt.alloc();
+    let table = Table::read(alloc, TABLE.as_bytes())?;
+    let pattern = Pattern::compile(alloc, &table, "aa", THREE, KEPT)?;
+    let cut = TextFault {
+        kind: 31,
+        offset: 3,
+    };
+    let cases: [(&[&[u8]], &[(u64, u64)], Option<TextFault>, usize); 4] = [
+        (&[], &[], None, 0),
+        (&[b"aaa"], &[(0, 2), (1, 3)], None, 8),
+        (&[b"a", b"", b"a", b"ae\xcc", b"\x81"], &[(0, 2), (1, 3)], None, 9),
+        (&[b"aaa\xc3", b"\xc3a", b"aa"], &[(0, 2)], Some(cut), 8),
+    ];
+    for (pieces, want, fault, most_records) in cases {
+        let mut ranges = Vec::new(alloc);
+        let told = search_in_pieces(
+            alloc,
+            &table,
+            &pattern,
+            pieces,
+            &mut |start, end| {
+                ranges.push((start, end)).expect(&rt, "memory");
+            },
+        )?;
+        assert_eq!(rt; ranges.as_slice(), want);
+        assert_eq!(rt; told, PiecesSearched { fault, most_records });
+    }
     Ok(())
 }
