@@ -6,6 +6,7 @@ use Rattle.std.proofs.Common.{◌≡◌, ◌∙◌, ◌<◌, ℕ, ◌+◌, List,
 use Rattle.std.proofs.lemmas.List.{append-nil, take_more}
 use Rattle.std.proofs.lemmas.Grind.{flat_map-append}
 use Rattle.collation_table.specs.declared.lookup.Weights.{Ghosts}
+use Rattle.collation_search.specs.declared.faults.StateFault.{StateFault}
 use Rattle.collation_search.specs.declared.faults.TextFault.{TextFault}
 use Rattle.collation_search.specs.declared.search.Search.{Search}
 use Rattle.collation_search.specs.Answer.{Answer}
@@ -13,7 +14,7 @@ use Rattle.collation_search.specs.State.{words_of}
 use Rattle.collation_search.specs.Search.{HasSearched, HasReported, IsCompiledFrom, Sought, sought, answer_to}
 use Rattle.collation_search.specs.Feeding.{Feeds}
 use Rattle.collation_search.specs.Pieces.{joined, HasEnded, IsUnderWay}
-use Rattle.collation_search.specs.Resuming.{GoesOn}
+use Rattle.collation_search.specs.Resuming.{GoesOn, KeepsSaved}
 
 abbrev pub told : List (ℕ × ℕ) → Option TextFault → Answer
 told ranges fault = record { ranges = ranges; fault = fault }
@@ -40,14 +41,19 @@ module _ {W : Type 0} {G : Ghosts W} where
   under_way-ended old new piece r found fed u handed f h =
       let again = fed.again f h.reported in
       let told = subst (λ (t : Result (Unit {0}) TextFault). IfErr t (λ g. HasReported new g)) again.0 fed.reported in
-      let same : handed ++ found ≡ handed = ap (λ (t : List (ℕ × ℕ)). handed ++ t) again.1 ∙ append-nil handed in
-      (fed.same_sought, inr (f, record {
-        reported = told;
-        answer = λ text more compiled.
-            ap (λ t. answer_to (sought old) text t) (append_assoc u piece more)
-            ∙ h.answer text (piece ++ more) compiled
-            ∙ ap (λ (t : List (ℕ × ℕ)). let z : Answer = record { ranges = t; fault = Some f } in z) (sym same);
-      }))
+      let same : handed ++ found ≡ handed = ap (λ (t : List (ℕ × ℕ)). handed ++ t) again.1 ∙ append-nil handed in (
+        fed.same_sought,
+        inr (
+          f,
+          record {
+            reported = told;
+            answer = λ text more compiled.
+                ap (λ t. answer_to (sought old) text t) (append_assoc u piece more)
+                ∙ h.answer text (piece ++ more) compiled
+                ∙ ap (λ (t : List (ℕ × ℕ)). let z : Answer = record { ranges = t; fault = Some f } in z) (sym same);
+          },
+        ),
+      )
 
   under_way-at : (old new : Search W G) (piece : List ℕ) (r : Result (Unit {0}) TextFault) (found : List (ℕ × ℕ)) → Feeds old piece r found new →
       (u : List ℕ) (handed : List (ℕ × ℕ)) → IsUnderWay old (sought old) u handed → IsUnderWay new (sought old) (u ++ piece) (handed ++ found)
@@ -124,3 +130,16 @@ module _ {W : Type 0} {G : Ghosts W} where
       IsUnderWay old s (joined (take i pieces)) handed → IsUnderWay new s (joined (take (i + 1) pieces)) (handed ++ found)
   under_way-more old new s pieces i piece handed found here taken h =
       subst (λ (t : List ℕ). IsUnderWay new s t (handed ++ found)) (sym (joined-more pieces i piece here)) (taken s (joined (take i pieces)) handed h)
+
+  saved-kept : (saved : Search W G) (result : Result (Search W G) StateFault) (s : Sought) (words : List ℕ) → words ≡ words_of saved → KeepsSaved result s words →
+      (u : List ℕ) (handed : List (ℕ × ℕ)) → IsUnderWay saved s u handed → IfErr result (λ f. f.kind ≡ 53)
+  saved-kept saved result s words same kept u handed (sought_same, inl h) = kept.searched saved u handed (sought_same, same, h)
+  saved-kept saved result s words same kept u handed (sought_same, inr h) = kept.reported saved h.0 (sought_same, same, h.1.reported)
+
+  -- the words of a search that was under way and has taken a piece are refused for want of memory only
+  pub under_way-kept : (old fed : Search W G) (piece : List ℕ) (r : Result (Unit {0}) TextFault) (found : List (ℕ × ℕ)) (words : List ℕ) (result : Result (Search W G) StateFault) →
+      Feeds old piece r found fed → words ≡ words_of fed → KeepsSaved result (sought old) words →
+      (s : Sought) (u : List ℕ) (handed : List (ℕ × ℕ)) → IsUnderWay old s u handed → IfErr result (λ f. f.kind ≡ 53)
+  under_way-kept old fed piece r found words result feeds same kept s u handed h =
+      saved-kept fed result s words same (subst (λ (t : Sought). KeepsSaved result t words) h.0 kept) (u ++ piece) (handed ++ found)
+      (under_way-fed old fed piece r found feeds s u handed h)

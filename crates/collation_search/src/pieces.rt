@@ -5,7 +5,7 @@ ghost use Rattle.collation_table.specs.Table.{longest_mapped};
 ghost use Rattle.collation_search.specs.Pieces.{joined, IsUnderWay};
 ghost use Rattle.collation_search.specs.Search.{Sought, sought, IsCompiledFrom, answer_to};
 
-use crate::faults::TextFault;
+use crate::faults::{StateFault, TextFault};
 use crate::feed::hand_out;
 use crate::matching::Found;
 use crate::search::Search;
@@ -49,9 +49,7 @@ pub fn search_in_pieces<W: Weights, F: FnMut(u64, u64)>(
     let mut most_records = 0;
     for piece in pieces {
         let records = take_piece(alloc, &mut search, piece, &mut words, sink)?;
-        if records > most_records {
-            most_records = records;
-        }
+        most_records = most_records.max(records);
     }
     let mut found = Found::new();
     let fault = search.finish(&mut found).err();
@@ -76,6 +74,7 @@ fn take_piece<'a, W: Weights, F: FnMut(u64, u64)>(
     sink: &mut F,
 ) -> Result<usize, AllocError>
     requires callable { F.IsAlwaysCallable sink.old }
+    requires under_way { (s : Sought) × (taken : List ℕ) × (handed : List (ℕ × ℕ)) × IsUnderWay search.old s taken handed }
     ensures taken { IfOk result (λ records. (found : List (ℕ × ℕ)) × FoldsTo (λ f range g. F.step f range.0 range.1 tt g) sink.old found sink.new
         × ((s : Sought) (taken : List ℕ) (handed : List (ℕ × ℕ)) → IsUnderWay search.old s taken handed
         → IsUnderWay search.new s (taken ++ piece.now) (handed ++ found))) }
@@ -93,6 +92,9 @@ fn take_piece<'a, W: Weights, F: FnMut(u64, u64)>(
             *search = resumed;
             Ok(words.len() / RECORD_WORDS)
         }
-        Err(_) => Err(AllocError),
+        Err(fault) => {
+            prove_eq!(fault.kind, StateFault::NO_MEMORY);
+            Err(AllocError)
+        }
     }
 }

@@ -206,10 +206,7 @@ fn letters_resumed_after_each(rt: HostRuntime) -> Result<(), Fail> {
     let (answered, most_records) = hostile(&rt, alloc, KEPT, "aa", &text, 1)?;
     assert_eq!(rt; answered.0.len(), 99_999);
     assert_eq!(rt; answered.0.get(0).copied(), Some((0, 2)));
-    assert_eq!(rt;
-        answered.0.get(99_998).copied(),
-        Some((99_998, 100_000))
-    );
+    assert_eq!(rt; answered.0.get(99_998).copied(), Some((99_998, 100_000)));
     assert_eq!(rt; answered.1, None);
     assert_eq!(rt; most_records, 8);
     Ok(())
@@ -303,7 +300,12 @@ fn searches_in_pieces(rt: HostRuntime) -> Result<(), Fail> {
     let cases: [(&[&[u8]], &[(u64, u64)], Option<TextFault>, usize); 4] = [
         (&[], &[], None, 0),
         (&[b"aaa"], &[(0, 2), (1, 3)], None, 8),
-        (&[b"a", b"", b"a", b"ae\xcc", b"\x81"], &[(0, 2), (1, 3)], None, 9),
+        (
+            &[b"a", b"", b"a", b"ae\xcc", b"\x81"],
+            &[(0, 2), (1, 3)],
+            None,
+            9,
+        ),
         (&[b"aaa\xc3", b"\xc3a", b"aa"], &[(0, 2)], Some(cut), 8),
     ];
     for (pieces, want, fault, most_records) in cases {
@@ -318,7 +320,13 @@ fn searches_in_pieces(rt: HostRuntime) -> Result<(), Fail> {
             },
         )?;
         assert_eq!(rt; ranges.as_slice(), want);
-        assert_eq!(rt; told, PiecesSearched { fault, most_records });
+        assert_eq!(rt;
+            told,
+            PiecesSearched {
+                fault,
+                most_records
+            }
+        );
     }
     Ok(())
 }

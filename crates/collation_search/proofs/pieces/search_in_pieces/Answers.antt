@@ -39,5 +39,5 @@ returns-clause-answer g c = λ text compiled.
       before.0 ++ found,
       folds-append (λ f range t. goal.F-step g f range.0 range.1 tt t) c.args.sink.now before.0 found c.loop-piece.sink c.hand_out.new.sink before.1 calls,
       under_way-ends c.loop-piece.search text (joined c.args.pieces.now) before.0 found c.finish.result end.good end.bad end.again s whole compiled
-      ∙ ap (λ (f : Option TextFault). told (before.0 ++ found) f) (sym c.err-fault.ensures.value),
+          ∙ ap (λ (f : Option TextFault). told (before.0 ++ found) f) (sym c.err-fault.ensures.value),
     )
