@@ -217,7 +217,7 @@ fn million_soft_hyphens_resumed(rt: HostRuntime) -> Result<(), Fail> {
     let alloc = rt.alloc();
     let mut text = "a".to_owned(alloc)?;
     text.push_str(&"\u{ad}".repeat(alloc, 1_000_000)?)?;
-    let (answered, most_records) = hostile(&rt, alloc, KEPT, "a", &text, 5)?;
+    let (answered, most_records) = hostile(&rt, alloc, KEPT, "a", &text, 101)?;
     assert_eq!(rt; answered.0.as_slice(), [(0, 2_000_001)].as_slice());
     assert_eq!(rt; answered.1, None);
     assert!(rt; most_records <= 38);
@@ -231,7 +231,7 @@ fn million_spaces_resumed(rt: HostRuntime) -> Result<(), Fail> {
     let mut text = "a".to_owned(alloc)?;
     text.push_str(&" ".repeat(alloc, 1_000_000)?)?;
     text.push_str("b")?;
-    let (answered, most_records) = hostile(&rt, alloc, SHIFTED, "ab", &text, 5)?;
+    let (answered, most_records) = hostile(&rt, alloc, SHIFTED, "ab", &text, 101)?;
     assert_eq!(rt; answered.0.as_slice(), [(0, 1_000_002)].as_slice());
     assert_eq!(rt; answered.1, None);
     assert!(rt; most_records <= 39);
