@@ -15,7 +15,7 @@ use Rattle.nfd_points.proofs.DecompositionLemmas.{decomposition-ascii, class-asc
 use Rattle.nfd_points.proofs.OrderingLemmas.{ordered-ordered, ordered-nil}
 use Rattle.nfd_points.proofs.PointsLemmas.{points_of-ascii}
 use Rattle.nfd_points.proofs.RunLemmas.{run_after-append, run_after-starter, run_after-nil, short-append, short-starter, short-nil, fault_of_code_point-none}
-use Rattle.nfd_points.proofs.ReorderingLemmas.{is_closed-nil, carries, take-starter}
+use Rattle.nfd_points.proofs.ReorderingLemmas.{is_closed-nil, is_closed-end, carries, take-starter}
 use Rattle.nfd_points.proofs.StepLemmas.{points_at-more}
 
 -- ---- what `push` does
@@ -74,6 +74,18 @@ ascii-given old new out start c low held p =
     let point : Point = ascii_point start c in
     sym (append-nil out) ∙ ap (λ l. out ++ l) (sym none) ∙ IsPushed-all old new out start c p ∙ ap (λ ps. ordered (old ++ ps)) (points_of-ascii start c low)
     ∙ take-starter old point [] held.in_order refl ∙ ap (λ l. (old ++ point ∷ []) ++ l) ordered-nil ∙ append-nil (old ++ point ∷ [])
+
+-- and where none waited, the character itself
+pub ascii-given_alone : (w : Waiting) (taken : List ℕ) (given : List Point) (c : ℕ) → HasReordered w taken given → w.held ≡ [] → c < 128 → HasReordered w (taken ++ c ∷ []) (given ++ ascii_point (byte_len taken) c ∷ [])
+ascii-given_alone w taken given c h none low =
+    let p : Point = ascii_point (byte_len taken) c in
+    let run : length w.held ≡ run_after (length w.held) (c ∷ []) = ap length none ∙ sym (run_after-starter (length w.held) c [] (ascii-starter c low) ∙ run_after-nil 0) in
+    let moved : (rest : List Point) → ordered (w.held ++ p ∷ rest) ≡ (p ∷ []) ++ ordered (w.held ++ rest) =
+    λ rest. take-starter w.held p rest h.held.in_order refl ∙ ap (λ (l : List Point). (l ++ p ∷ []) ++ ordered rest) none
+    ∙ sym (ap (λ (l : List Point). (p ∷ []) ++ ordered (l ++ rest)) none) in
+    IsPushed-carries w w (p ∷ []) (byte_len taken) c
+    (ascii-pushed w.held w.held [] (p ∷ []) (byte_len taken) c low refl h.held moved (λ _. is_closed-end [] p refl) run)
+    (ascii-fault (length w.held) c low) taken given h refl
 
 -- ---- the steps of `take_all`
 

@@ -164,3 +164,8 @@ GivenBegin =
 abbrev pub WaitingAreOthers : Type 0
 WaitingAreOthers =
     (w : Waiting) (taken : List ℕ) (given : List Point) → HasReordered w taken given → points taken ≡ given ++ w.held
+
+-- where none waits, a code point below 80 hex is given as it is, and none waits then
+abbrev pub AsciiIsGiven : Type 0
+AsciiIsGiven =
+    (w : Waiting) (taken : List ℕ) (given : List Point) (c : ℕ) → HasReordered w taken given → w.held ≡ [] → c < 128 → HasReordered w (taken ++ c ∷ []) (given ++ ascii_point (byte_len taken) c ∷ [])

@@ -1,7 +1,7 @@
 //! Laws of points and of their faults, each the promise of a function that does nothing.
 //!
 //! They hold for every list of code points, also for numbers that are no scalar values.
-ghost use Rattle.nfd_points.specs.Laws.{Limits, DecompositionsAreShort, OthersAreStarters, AsciiIsItself, CodesAreNfd, PointsAreSound, BytesAreCounted, BytesOfParts, PointsOfParts, PointsAreShifted, OffsetsAreWithin, TextsPart, TextsAreCut, OrderingIsInOrder, OrderedStays, OrderingOfPrefixes, OrderingStopsAtStarters, StartersStay, OrderingIsShifted, OrderingKeeps, OrderingAddsNone, OrderingCounts, ShortRunsJoin, FaultAfter, FaultInPrefix, FaultsAreRuns, GoodRunsAreShort, ShortRunsAreGood, LongRunsAreFaults, GivenAreFinal, GivenBegin, WaitingAreOthers};
+ghost use Rattle.nfd_points.specs.Laws.{Limits, DecompositionsAreShort, OthersAreStarters, AsciiIsItself, CodesAreNfd, PointsAreSound, BytesAreCounted, BytesOfParts, PointsOfParts, PointsAreShifted, OffsetsAreWithin, TextsPart, TextsAreCut, OrderingIsInOrder, OrderedStays, OrderingOfPrefixes, OrderingStopsAtStarters, StartersStay, OrderingIsShifted, OrderingKeeps, OrderingAddsNone, OrderingCounts, ShortRunsJoin, FaultAfter, FaultInPrefix, FaultsAreRuns, GoodRunsAreShort, ShortRunsAreGood, LongRunsAreFaults, GivenAreFinal, GivenBegin, WaitingAreOthers, AsciiIsGiven};
 
 /// The most points that wait, of one decomposition, and that one call gives.
 pub fn limits()
@@ -61,4 +61,5 @@ pub fn laws_of_reordering()
     ensures last { GivenAreFinal }
     ensures begin { GivenBegin }
     ensures others { WaitingAreOthers }
+    ensures ascii { AsciiIsGiven }
 {}
