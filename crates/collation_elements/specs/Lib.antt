@@ -14,3 +14,4 @@ pub mod Context
 pub mod Texts
 pub mod WorkedTable
 pub mod WorkedClusters
+pub mod Lone

@@ -1,8 +1,9 @@
 //! Laws about the definitions: each is the contract of a function that does nothing.
-ghost use Rattle.std.specs.Prelude.{◌≡◌, List, ◌++◌, true, false};
+ghost use Rattle.std.specs.Prelude.{◌≡◌, List, [], ◌∷◌, ◌++◌, true, false};
 ghost use Rattle.nfd_points.specs.declared.points.Point.{Point};
+ghost use Rattle.nfd_points.specs.Points.{is_starter};
 ghost use Rattle.nfd_points.specs.Reordering.{is_closed};
-ghost use Rattle.collation_table.specs.Table.{TableMap};
+ghost use Rattle.collation_table.specs.Table.{TableMap, BeginsNoLongerString, ContinuesNoString};
 ghost use Rattle.collation_elements.specs.declared.settings.Strength.{Strength};
 ghost use Rattle.collation_elements.specs.declared.settings.Variable.{Variable};
 ghost use Rattle.collation_elements.specs.Units.{units};
@@ -23,4 +24,13 @@ pub fn items_are_keys_and_starts()
 pub fn closed_points_append()
     ensures { (xs ys : List Point) → is_closed xs ≡ true → is_closed ys ≡ true
         → is_closed (xs ++ ys) ≡ true }
+{}
+
+/// A point with whose code point no mapped string of two or more begins is a unit by itself, whatever follows it, and so is one
+/// before a starter whose code point stands in no mapped string after the first place.
+pub fn lone_points_are_units()
+    ensures alone { (table : TableMap) (p : Point) (rest : List Point) → BeginsNoLongerString table p.cp
+        → units table (p ∷ rest) ≡ (p ∷ []) ∷ units table rest }
+    ensures before { (table : TableMap) (p d : Point) (rest : List Point) → is_starter d ≡ true → ContinuesNoString table d.cp
+        → units table (p ∷ d ∷ rest) ≡ (p ∷ []) ∷ units table (d ∷ rest) }
 {}

@@ -19,6 +19,7 @@
 mod context;
 mod keys;
 mod laws;
+mod lone;
 mod queue;
 mod settings;
 mod texts;
@@ -29,7 +30,8 @@ pub mod worked;
 
 pub use crate::context::{clusters_are_parts, clusters_begin_afresh, parts_join};
 pub use crate::keys::{Item, Key};
-pub use crate::laws::{closed_points_append, items_are_keys_and_starts};
+pub use crate::laws::{closed_points_append, items_are_keys_and_starts, lone_points_are_units};
+pub use crate::lone::LoneItems;
 pub use crate::settings::{Strength, Variable};
 pub use crate::texts::{ItemsFault, items_of_text};
 pub use crate::unit::Unit;

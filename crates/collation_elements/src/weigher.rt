@@ -1,8 +1,8 @@
 //! From units to items: variable weighting (UTS #10, section 4), the keys that a strength keeps, and where clusters begin.
-ghost use Rattle.std.specs.Prelude.{◌≡◌, ◌+◌, ◌≤◌, ◌<◌, List, [], ◌∷◌, ◌++◌, true, false, length, map};
+ghost use Rattle.std.specs.Prelude.{◌≡◌, ℕ, ◌+◌, ◌≤◌, ◌<◌, List, [], ◌∷◌, ◌++◌, true, false, length, map};
 ghost use Rattle.std.specs.Option.{option_to_list, ForSome};
 ghost use Rattle.nfd_points.specs.declared.points.Point.{Point};
-ghost use Rattle.nfd_points.specs.Points.{is_starter};
+ghost use Rattle.nfd_points.specs.Points.{ascii_point, is_starter};
 ghost use Rattle.arrayvec.specs.ArrayVec.{array_vec_len};
 ghost use Rattle.collation_table.specs.declared.elements.Element.{Element as CollationElement};
 ghost use Rattle.collation_table.specs.Table.{TableMap};
@@ -11,9 +11,11 @@ ghost use Rattle.collation_table.specs.WellFormed.{is_lead};
 ghost use Rattle.collation_elements.specs.Keys.{element_keys, pair_key, second_at, third_at};
 ghost use Rattle.collation_elements.specs.UnitValues.{IsUnitOf};
 ghost use Rattle.collation_elements.specs.Items.{key_items};
+ghost use Rattle.collation_elements.specs.Lone.{AreItemsOf, items_at};
 ghost use Rattle.collation_elements.specs.Weighing.{weigher, weigher_after, is_after_variable, weighted_element, after_element, value_items, WeigherStandsFor};
 
 use crate::keys::{Item, Key};
+use crate::lone::LoneItems;
 use crate::settings::{Strength, Variable};
 use crate::unit::Unit;
 use arrayvec::ArrayVec;
@@ -84,6 +86,18 @@ impl Weigher {
         if let Some(lead) = lead {
             add_key(self.strength, lead, items);
         }
+    }
+
+    /// Takes the next unit, which is that of one starter with these items.
+    #[inline(always)]
+    pub fn take_lone(&mut self, lone: &LoneItems)
+        ensures after { self.new ≡ weigher self.old.strength self.old.variable lone.now.after_variable }
+        ensures stands { (table : TableMap) (start cp : ℕ) (units : List (List Point)) (given : List Item)
+            → AreItemsOf table self.old cp lone.now
+            → WeigherStandsFor table self.old units given
+            → WeigherStandsFor table self.new (units ++ (ascii_point start cp ∷ []) ∷ []) (given ++ items_at lone.now start) }
+    {
+        *self = Weigher::restore(self.strength, self.variable, lone.after_variable);
     }
 
     /// The next element under variable weighting.

@@ -89,6 +89,14 @@ impl Window {
         self.queue.push(p);
     }
 
+    /// Takes out the first `count` points, whose units were taken without it.
+    pub fn skip(&mut self, count: usize)
+        requires { count ≤ length self.old.points }
+        ensures { self.new ≡ record self.old { points = drop count self.old.points } }
+    {
+        self.queue.skip(count);
+    }
+
     /// Tells it that no point follows.
     pub fn end(&mut self)
         ensures ended { self.new ≡ record self.old { has_ended = true } }
