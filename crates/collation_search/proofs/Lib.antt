@@ -36,3 +36,4 @@ pub mod StatePointLemmas
 pub mod WorkedStateLemmas
 pub mod IndexLemmas
 pub mod AsciiRunLemmas
+pub mod AsciiUnitLemmas

@@ -19,3 +19,4 @@ pub mod Pieces
 pub mod Saving
 pub mod WorkedRows
 pub mod Lag
+pub mod AsciiUnits

@@ -13,6 +13,7 @@
 #![tactic(auto)]
 
 mod ascii;
+mod ascii_units;
 mod bridge;
 mod faults;
 mod feed;

@@ -1,9 +1,11 @@
 //! The search over a stream of bytes.
-ghost use Rattle.std.specs.Prelude.{◌≡◌, ◌+◌, ◌≤◌, length, None, false};
+ghost use Rattle.std.specs.Prelude.{◌≡◌, ℕ, ◌+◌, ◌<◌, ◌≤◌, length, slice_get, None, false};
 ghost use Rattle.std.specs.Option.{ForSome};
 ghost use Rattle.collation_table.specs.Table.{longest_mapped as longest_key_of};
+ghost use Rattle.collation_search.specs.AsciiUnits.{IsAsciiUnit};
 ghost use Rattle.collation_search.specs.GoodPrefix.{most_bytes};
 
+use crate::ascii_units::AsciiUnit;
 use crate::bridge::matches_by_clusters;
 use crate::faults::TextFault;
 use crate::finder::Finder;
@@ -25,7 +27,9 @@ pub(crate) struct Query<'a, W: Weights> {
     pub(crate) pattern: &'a Pattern,
     /// The number of code points of the table's longest key.
     pub(crate) longest_key: usize,
+    pub(crate) ascii: [AsciiUnit; 128],
     ghost longest: { longest_key ≡ longest_key_of (W.table table.now) },
+    ghost units: { (c : ℕ) → c < 128 → ForSome (slice_get ascii c) (IsAsciiUnit (W.table table.now) pattern.now c) },
 }
 
 /// A search for a pattern in a text whose bytes come in pieces.
@@ -66,12 +70,9 @@ impl<'a, W: Weights> Search<'a, W> {
     {
         let _some = pattern.len();
         let finder = Finder::new(alloc, table, pattern)?;
+        let query = Query::new(table, pattern);
         Ok(Search {
-            query: Query {
-                table,
-                pattern,
-                longest_key: table.longest_key(),
-            },
+            query,
             cut: Cut::new(),
             finder,
             fault: None,
