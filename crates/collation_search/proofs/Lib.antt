@@ -37,3 +37,4 @@ pub mod WorkedStateLemmas
 pub mod IndexLemmas
 pub mod AsciiRunLemmas
 pub mod AsciiUnitLemmas
+pub mod LoneLemmas

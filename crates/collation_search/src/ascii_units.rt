@@ -1,11 +1,11 @@
 //! What a search keeps of the ASCII characters, made once, so that its table is not asked for them again: the items of each as a
 //! unit by itself, and whether it stands in the longer strings that the table maps.
-ghost use Rattle.std.specs.Prelude.{◌≡◌, ℕ, ◌<◌, slice_get};
+ghost use Rattle.std.specs.Prelude.{◌≡◌, ℕ, ◌<◌, ◌||◌, not, slice_get, if◌then◌else◌};
 ghost use Rattle.std.specs.Option.{ForSome};
 ghost use Rattle.collation_search.specs.AsciiUnits.{IsAsciiUnit};
 
 use crate::search::Query;
-use collation_elements::{LoneItems, Weigher};
+use collation_elements::{LoneItems, Weigher, lone_points_are_units};
 use collation_pattern::Pattern;
 use collation_table::Weights;
 
@@ -47,7 +47,7 @@ fn ascii_unit<W: Weights>(table: &W, pattern: &Pattern, c: u32) -> AsciiUnit
 }
 
 fn ascii_units<W: Weights>(table: &W, pattern: &Pattern) -> [AsciiUnit; 128]
-    ensures { (c : ℕ) → c < 128 → ForSome (slice_get result c) (IsAsciiUnit (W.table table.now) pattern.now c) }
+    ensures { (c : ℕ) → ForSome (slice_get result c) (IsAsciiUnit (W.table table.now) pattern.now c) }
 {
     let mut units = [UNKNOWN; ASCII];
     for c in 0..ASCII {
@@ -56,8 +56,33 @@ fn ascii_units<W: Weights>(table: &W, pattern: &Pattern) -> [AsciiUnit; 128]
     units
 }
 
+/// Whether a character is a unit by itself before the next one.
+#[inline(always)]
+fn are_apart(unit: &AsciiUnit, following: &AsciiUnit) -> bool
+    ensures { result ≡ (not unit.now.begins_longer || not following.now.continues) }
+{
+    !unit.begins_longer || !following.continues
+}
+
+/// The items of a character, where the last element that was variable or primary was variable or was not.
+#[inline(always)]
+fn items_of(unit: &AsciiUnit, after_variable: bool) -> Option<LoneItems>
+    ensures { result ≡ (if after_variable then unit.now.items_after_variable else unit.now.items) }
+{
+    if after_variable {
+        unit.items_after_variable
+    } else {
+        unit.items
+    }
+}
+
 impl<'a, W: Weights> Query<'a, W> {
-    ghost use Rattle.std.specs.Prelude.{◌≡◌};
+    ghost use Rattle.std.specs.Prelude.{◌≡◌, ℕ, List, [], ◌∷◌, IfSome, OnSome};
+    ghost use Rattle.nfd_points.specs.declared.points.Point.{Point};
+    ghost use Rattle.nfd_points.specs.Points.{ascii_point};
+    ghost use Rattle.collation_elements.specs.Units.{units};
+    ghost use Rattle.collation_elements.specs.Weighing.{weigher};
+    ghost use Rattle.collation_elements.specs.Lone.{AreItemsOf};
 
     /// What a search for this pattern with this table compares with.
     pub(crate) fn new(table: &'a W, pattern: &'a Pattern) -> Query<'a, W>
@@ -70,5 +95,24 @@ impl<'a, W: Weights> Query<'a, W> {
             longest_key: table.longest_key(),
             ascii: ascii_units(table, pattern),
         }
+    }
+
+    /// The items of the ASCII character `first` where the ASCII character `next` follows, if it is known to be a unit by itself
+    /// there and to have one key at most.
+    #[inline(always)]
+    pub(crate) fn lone(&self, first: u32, next: u32, after_variable: bool) -> Option<LoneItems>
+        ensures alone { OnSome result ((start later : ℕ) (rest : List Point)
+            → units (W.table self.now.table.now) (ascii_point start first ∷ ascii_point later next ∷ rest)
+            ≡ (ascii_point start first ∷ []) ∷ units (W.table self.now.table.now) (ascii_point later next ∷ rest)) }
+        ensures items { IfSome result (λ lone.
+            AreItemsOf (W.table self.now.table.now) (weigher self.now.pattern.now.strength self.now.pattern.now.variable after_variable) first lone) }
+    {
+        lone_points_are_units();
+        let unit = self.ascii.get(first as usize)?;
+        let following = self.ascii.get(next as usize)?;
+        if !are_apart(unit, following) {
+            return None;
+        }
+        items_of(unit, after_variable)
     }
 }

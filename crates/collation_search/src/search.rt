@@ -29,7 +29,7 @@ pub(crate) struct Query<'a, W: Weights> {
     pub(crate) longest_key: usize,
     pub(crate) ascii: [AsciiUnit; 128],
     ghost longest: { longest_key ≡ longest_key_of (W.table table.now) },
-    ghost units: { (c : ℕ) → c < 128 → ForSome (slice_get ascii c) (IsAsciiUnit (W.table table.now) pattern.now c) },
+    ghost units: { (c : ℕ) → ForSome (slice_get ascii c) (IsAsciiUnit (W.table table.now) pattern.now c) },
 }
 
 /// A search for a pattern in a text whose bytes come in pieces.

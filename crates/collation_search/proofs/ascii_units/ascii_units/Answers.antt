@@ -1,4 +1,6 @@
-use Rattle.std.proofs.Common.{◌∙◌, refl, arith}
+use Rattle.std.proofs.Common.{◌∙◌, refl, sym, inl, inr, arith}
+use Rattle.std.proofs.lemmas.Bool.{cases_lt}
+use Rattle.std.proofs.lemmas.Option.{none-some, slice_get_past}
 use Rattle.std.proofs.lemmas.List.{length-set}
 use Rattle.collation_search.specs.AsciiUnits.{IsAsciiUnit}
 use Rattle.collation_search.proofs.AsciiUnitLemmas.{units_set}
@@ -17,4 +19,7 @@ loop-c-preserved g c =
     )
 
 pub returns : goal.returns
-returns g c = λ k less. c.loop-c.invariant.1 k (omega (arith, less, c.loop-c-test.false))
+returns g c = λ k unit at. elim (cases_lt k 128) [
+  | inl less ↦ c.loop-c.invariant.1 k (omega (arith, less, c.loop-c-test.false)) unit at
+  | inr past ↦ absurd (none-some unit (sym (slice_get_past c.loop-c.units k (omega (arith, past, c.loop-c.invariant.0))) ∙ at))
+]

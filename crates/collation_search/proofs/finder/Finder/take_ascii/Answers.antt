@@ -11,8 +11,8 @@ use Rattle.collation_search.proofs.finder.Finder.take_ascii.Goals as goal
 
 pub loop-byte-init : goal.loop-byte-init
 loop-byte-init g c =
-    let table = g.W.Weights.table c.args.table.now in
-    let pattern = c.args.pattern.now in
+    let table = g.W.Weights.table c.args.query.now.table.now in
+    let pattern = c.args.query.now.pattern.now in
     let finder = c.args.self.now in
     record {
       callable = c.requires.callable;
@@ -31,21 +31,19 @@ loop-byte-init g c =
 
 pub loop-byte-preserved : goal.loop-byte-preserved
 loop-byte-preserved g c =
-    let table = g.W.Weights.table c.args.table.now in
-    let pattern = c.args.pattern.now in
+    let table = g.W.Weights.table c.args.query.now.table.now in
+    let pattern = c.args.query.now.pattern.now in
     let i = c.loop-byte.byte-index in
     let run = c.args.run.now in
     let b = get_or run i 0 in
-    let same : c.from.result ≡ b = c.from.ensures in
     let before = c.loop-byte.invariant.taken in
-    let found = c.take.new.found.items in
-    let ok : c.take.result ≡ Ok tt = c.take.ensures.ascii (let low = c.requires.ascii i in omega (arith, same, low)) in
+    let found = c.take_one.new.found.items in
     let calls = subst (λ (t : List (ℕ × ℕ)). FoldsTo (λ f range t'. goal.F-step g f range.0 range.1 tt t') c.loop-byte.sink t c.hand_out.new.sink) c.as_slice.ensures.value c.hand_out.ensures.called in
     record {
       callable = c.hand_out.ensures.callable;
-      open_window = c.take.ensures.open;
-      longest = c.take.ensures.longest ∙ c.loop-byte.invariant.longest;
-      pattern_len = c.take.ensures.pattern_len ∙ c.loop-byte.invariant.pattern_len;
+      open_window = c.take_one.ensures.open;
+      longest = c.take_one.ensures.longest ∙ c.loop-byte.invariant.longest;
+      pattern_len = c.take_one.ensures.pattern_len ∙ c.loop-byte.invariant.pattern_len;
       place = let at = c.loop-byte.invariant.place in omega (arith, at);
       taken = (
         before.0 ++ found,
@@ -57,11 +55,10 @@ loop-byte-preserved g c =
             let long = length-take-le i run (omega (arith, c.loop-byte-test.true)) in
             let place = c.loop-byte.invariant.place in
             let here : c.loop-byte.at ≡ byte_len (taken ++ done) = omega (arith, sum, ascii, long, place, at) in
-            let next = at_ok c.take.result (FinderStandsFor table pattern c.take.new.self ((taken ++ done) ++ c.from.result ∷ []) ((handed ++ before.0) ++ found)) tt ok
-            (c.take.ensures.stands (taken ++ done) (handed ++ before.0) (before.2 taken handed h at) here) in
-            let codes : (taken ++ done) ++ c.from.result ∷ [] ≡ taken ++ take (i + 1) run = append_assoc taken done (c.from.result ∷ []) ∙ ap (λ t. taken ++ (done ++ t ∷ [])) same ∙ ap (λ t. taken ++ t) (sym (take_more run i 0 c.loop-byte-test.true)) in
-            subst (λ cs. FinderStandsFor table pattern c.take.new.self cs (handed ++ (before.0 ++ found))) codes
-            (subst (λ (t : List (ℕ × ℕ)). FinderStandsFor table pattern c.take.new.self ((taken ++ done) ++ c.from.result ∷ []) t) (append_assoc handed before.0 found) next),
+            let next = c.take_one.ensures.stands (taken ++ done) (handed ++ before.0) (before.2 taken handed h at) here in
+            let codes : (taken ++ done) ++ b ∷ [] ≡ taken ++ take (i + 1) run = append_assoc taken done (b ∷ []) ∙ ap (λ t. taken ++ t) (sym (take_more run i 0 c.loop-byte-test.true)) in
+            subst (λ cs. FinderStandsFor table pattern c.take_one.new.self cs (handed ++ (before.0 ++ found))) codes
+            (subst (λ (t : List (ℕ × ℕ)). FinderStandsFor table pattern c.take_one.new.self ((taken ++ done) ++ b ∷ []) t) (append_assoc handed before.0 found) next),
       );
     }
 
@@ -72,5 +69,5 @@ returns-clause-taken g c =
       before.0,
       before.1,
       λ taken handed h at.
-          subst (λ (t : List ℕ). FinderStandsFor (g.W.Weights.table c.args.table.now) c.args.pattern.now c.loop-byte.self (taken ++ t) (handed ++ before.0)) all (before.2 taken handed h at),
+          subst (λ (t : List ℕ). FinderStandsFor (g.W.Weights.table c.args.query.now.table.now) c.args.query.now.pattern.now c.loop-byte.self (taken ++ t) (handed ++ before.0)) all (before.2 taken handed h at),
     )

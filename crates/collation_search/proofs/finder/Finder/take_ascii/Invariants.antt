@@ -14,6 +14,6 @@ invariant-loop-byte g l = record {
   pattern_len : l.self.pattern_len ≡ l.initial.self.pattern_len;
   place : l.at ≡ l.offset + l.byte-index;
   taken : (ranges : List (ℕ × ℕ)) × FoldsTo (λ f range t. goal.F-step g f range.0 range.1 tt t) l.fn.sink ranges l.sink
-      × ((taken : List ℕ) (handed : List (ℕ × ℕ)) → FinderStandsFor (g.W.Weights.table l.table) l.pattern l.initial.self taken handed → l.offset ≡ byte_len taken
-      → FinderStandsFor (g.W.Weights.table l.table) l.pattern l.self (taken ++ take l.byte-index l.run) (handed ++ ranges));
+      × ((taken : List ℕ) (handed : List (ℕ × ℕ)) → FinderStandsFor (g.W.Weights.table l.query.table.now) l.query.pattern.now l.initial.self taken handed → l.offset ≡ byte_len taken
+      → FinderStandsFor (g.W.Weights.table l.query.table.now) l.query.pattern.now l.self (taken ++ take l.byte-index l.run) (handed ++ ranges));
 }
