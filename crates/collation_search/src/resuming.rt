@@ -215,11 +215,7 @@ impl<'a, W: Weights> Search<'a, W> {
             return Ok(None);
         };
         Ok(Some(Search {
-            query: Query {
-                table,
-                pattern,
-                longest_key: table.longest_key(),
-            },
+            query: Query::new(table, pattern),
             cut: Cut::restore(head.taken, held.as_slice()),
             finder,
             fault: None,

@@ -70,3 +70,49 @@ fn runs_of_each_length_at_each_offset(rt: HostRuntime) -> Result<(), Fail> {
     }
     Ok(())
 }
+
+/// Rows with a string of three code points, so that two points stay in the window.
+const LONGER_ROWS: &str = "0073 0074 ; [.1C84.0020.0002]
+0073 0074 0072 ; [.1C88.0020.0002]
+";
+
+/// However a text is cut into pieces, at the end of each the ranges so far and the words of the state are those of steps.
+#[test]
+fn pieces_leave_what_steps_leave(rt: HostRuntime) -> Result<(), Fail> {
+    let mut rows = TABLE.to_owned(rt.alloc())?;
+    rows.push_str(LONGER_ROWS)?;
+    let table = Table::read(rt.alloc(), rows.as_bytes())?;
+    let line =
+        "astra ast chha-b e\u{301}au\u{327}\u{301} aAb\u{e9}hc str-ast\u{301} a - a\u{301}chs\n";
+    let text = line.repeat(rt.alloc(), 3)?;
+    for (letters, strength, variable) in [("a", THREE, KEPT), ("a a", ONE, SHIFTED)] {
+        let pattern = Pattern::compile(rt.alloc(), &table, letters, strength, variable)?;
+        for size in 1..=70usize {
+            let mut fed = Search::new(rt.alloc(), &table, &pattern)?;
+            let mut stepped = Search::new(rt.alloc(), &table, &pattern)?;
+            let mut ranges = Vec::new(rt.alloc());
+            let mut want = Vec::new(rt.alloc());
+            let mut found = Found::new();
+            for piece in text.as_bytes().chunks(size) {
+                fed.feed(
+                    piece,
+                    &mut |start, end| {
+                        ranges.push((start, end)).expect(&rt, "memory");
+                    },
+                )?;
+                for byte in piece {
+                    stepped.step(*byte, &mut found)?;
+                    want.extend_from_slice(found.as_slice())?;
+                }
+                assert_eq!(rt; ranges.as_slice(), want.as_slice());
+                let mut words = Vec::new(rt.alloc());
+                let mut want_words = Vec::new(rt.alloc());
+                fed.save(&mut words)?;
+                stepped.save(&mut want_words)?;
+                assert_eq!(rt; words.as_slice(), want_words.as_slice());
+            }
+            assert!(rt; want.len() > 2);
+        }
+    }
+    Ok(())
+}
