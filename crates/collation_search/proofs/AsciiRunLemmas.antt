@@ -1,7 +1,7 @@
 -- A run of ASCII after some bytes: its characters are its bytes, and the text stays good.
 use Rattle.std.specs.Str.{chars, IsAscii, IsUtf8}
 use Rattle.std.specs.Char.{len_utf8}
-use Rattle.std.proofs.Common.{◌≡◌, ◌∙◌, ℕ, zero, suc, ◌+◌, ◌<◌, ◌≤◌, Bool, true, false, not, List, [], ◌∷◌, ◌++◌, length, take, Option, None, arith, refl, sym, ap, subst}
+use Rattle.std.proofs.Common.{◌≡◌, ◌∙◌, ℕ, suc, ◌+◌, ◌<◌, ◌≤◌, Bool, true, false, not, List, [], ◌∷◌, ◌++◌, length, Option, arith, refl, sym, ap, subst}
 use Rattle.std.proofs.lemmas.List.{length-append}
 use Rattle.utf8_cut.specs.Characters.{characters, characters_end, with_offsets, is_utf8_prefix}
 use Rattle.utf8_cut.specs.State.{StandsFor}

@@ -1,8 +1,8 @@
 -- Pieces of a text in turn, and calls of a sink in turn.
 use Rattle.std.specs.Prelude.{Result, OnOk, OnErr, IfErr, Ok, Err, Option, None, Some}
 use Rattle.std.specs.List.{FoldsTo}
-use Rattle.std.proofs.Common.{◌≡◌, ◌∙◌, ◌<◌, ℕ, false, List, [], ◌∷◌, ◌++◌, length, take, drop, refl, sym, ap, subst, append_assoc}
-use Rattle.std.proofs.lemmas.List.{append-nil, take-append-drop}
+use Rattle.std.proofs.Common.{◌≡◌, ◌∙◌, ℕ, false, List, [], ◌∷◌, ◌++◌, refl, sym, ap, subst, append_assoc}
+use Rattle.std.proofs.lemmas.List.{append-nil}
 use Rattle.collation_table.specs.declared.lookup.Weights.{Ghosts}
 use Rattle.collation_search.specs.declared.faults.TextFault.{TextFault}
 use Rattle.collation_search.specs.declared.search.Search.{Search}

@@ -11,7 +11,7 @@ use Rattle.collation_elements.specs.declared.weigher.Weigher.{Weigher}
 use Rattle.collation_elements.specs.declared.settings.Strength.{Strength}
 use Rattle.collation_elements.specs.declared.settings.Variable.{Variable}
 use Rattle.collation_elements.specs.Units.{units}
-use Rattle.collation_elements.specs.Windows.{Held, WindowStandsFor}
+use Rattle.collation_elements.specs.Windows.{Held}
 use Rattle.collation_elements.specs.Weighing.{weigher, WeigherStandsFor}
 use Rattle.collation_elements.specs.Lone.{items_at, AreItemsOf}
 use Rattle.collation_pattern.specs.Compiled.{Compiled}

@@ -1,5 +1,5 @@
 -- What a search keeps of an ASCII character.
-use Rattle.std.specs.Prelude.{◌≡◌, ℕ, ◌≤◌, Bool, true, false, List, [], ◌∷◌, ◌++◌, take, drop, length}
+use Rattle.std.specs.Prelude.{◌≡◌, ℕ, Bool, true, false, List, [], ◌∷◌, ◌++◌, take, drop}
 use Rattle.std.specs.Option.{ForSome}
 use Rattle.collation_table.specs.Table.{TableMap, BeginsNoLongerString, ContinuesNoString}
 use Rattle.nfd_points.specs.declared.points.Point.{Point}

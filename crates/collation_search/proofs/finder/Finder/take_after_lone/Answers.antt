@@ -5,7 +5,6 @@ use Rattle.nfd_points.specs.Points.{ascii_point}
 use Rattle.nfd_points.specs.Reordering.{HasReordered}
 use Rattle.collation_elements.specs.declared.keys.Item.{Item}
 use Rattle.collation_elements.specs.declared.keys.Item.TheVariants.{ClusterStart, Element}
-use Rattle.collation_search.specs.Finding.{FinderStandsFor}
 use Rattle.collation_search.specs.Matching.{HasMatched}
 use Rattle.collation_search.specs.Walks.{WalksOver}
 use Rattle.collation_search.proofs.LoneLemmas.{after_lone}

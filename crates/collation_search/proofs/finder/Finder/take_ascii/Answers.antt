@@ -1,12 +1,11 @@
 use Rattle.std.specs.List.{FoldsTo}
-use Rattle.std.proofs.Common.{◌≡◌, ◌∙◌, ◌+◌, ◌<◌, ℕ, List, [], ◌∷◌, ◌++◌, length, take, get_or, Ok, refl, sym, ap, subst, arith, append_assoc}
+use Rattle.std.proofs.Common.{◌≡◌, ◌∙◌, ◌+◌, ℕ, List, [], ◌∷◌, ◌++◌, take, get_or, refl, sym, ap, subst, arith, append_assoc}
 use Rattle.std.proofs.lemmas.List.{append-nil, length-take-le, take_more, take_all}
 use Rattle.std.proofs.lemmas.Str.{IsAscii-take}
 use Rattle.nfd_points.specs.Points.{byte_len}
 use Rattle.collation_search.specs.Finding.{FinderStandsFor}
 use Rattle.collation_search.proofs.FeedLemmas.{folds-append}
 use Rattle.collation_search.proofs.AsciiRunLemmas.{ascii-byte_len}
-use Rattle.collation_search.proofs.TextCheckLemmas.{at_ok}
 use Rattle.collation_search.proofs.finder.Finder.take_ascii.Goals as goal
 
 pub loop-byte-init : goal.loop-byte-init

@@ -1,6 +1,6 @@
 use Rattle.std.specs.Prelude.{false}
 use Rattle.std.specs.List.{FoldsTo}
-use Rattle.std.proofs.Common.{◌≡◌, ◌+◌, ℕ, List, ◌++◌, length, take}
+use Rattle.std.proofs.Common.{◌≡◌, ◌+◌, ℕ, List, ◌++◌, take}
 use Rattle.nfd_points.specs.Points.{byte_len}
 use Rattle.collation_search.specs.Finding.{FinderStandsFor}
 use Rattle.collation_search.proofs.finder.Finder.take_ascii.Given as goal

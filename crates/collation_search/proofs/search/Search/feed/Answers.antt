@@ -1,6 +1,6 @@
-use Rattle.std.specs.Prelude.{Ok, Err, None, Some}
+use Rattle.std.specs.Prelude.{Ok, Err}
 use Rattle.std.specs.List.{FoldsTo}
-use Rattle.std.proofs.Common.{◌≡◌, ◌∙◌, ◌<◌, ◌+◌, ℕ, suc, List, [], ◌∷◌, ◌++◌, length, take, drop, get_or, refl, sym, ap, subst, arith, append_assoc}
+use Rattle.std.proofs.Common.{◌≡◌, ◌∙◌, ◌+◌, ℕ, suc, List, [], ◌∷◌, ◌++◌, length, take, drop, get_or, refl, sym, ap, subst, arith, append_assoc}
 use Rattle.std.proofs.Math.Seq.{split_at, take-add}
 use Rattle.std.proofs.lemmas.List.{take_more, take_all, take_rest, length-drop}
 use Rattle.std.proofs.lemmas.Option.{none-some}

@@ -1,7 +1,7 @@
 use Rattle.std.specs.Str.{chars, is_utf8}
 use Rattle.std.specs.Str.Lossy.{utf8_valid_len}
 use Rattle.std.specs.Char.{encode_utf8}
-use Rattle.std.proofs.Common.{◌≡◌, ◌≤◌, [], length, refl, arith, sym, ap, subst}
+use Rattle.std.proofs.Common.{[], length, refl, arith, sym, ap, subst}
 use Rattle.nfd_points.specs.PointFaults.{fault_from}
 use Rattle.collation_table.specs.Table.{TableMap}
 use Rattle.collation_pattern.specs.Compiled.{Compiled}

@@ -1,9 +1,8 @@
 use Rattle.std.specs.Str.{chars}
 use Rattle.std.specs.Prelude.{Ok}
-use Rattle.std.proofs.Common.{◌≡◌, ◌∙◌, ℕ, List, [], ◌++◌, length, take, refl, sym, ap, subst, arith}
+use Rattle.std.proofs.Common.{◌≡◌, ◌∙◌, [], length, take, refl, sym, subst, arith}
 use Rattle.std.proofs.lemmas.List.{length-take-le}
 use Rattle.utf8_cut.specs.Characters.{characters}
-use Rattle.nfd_points.specs.Points.{byte_len}
 use Rattle.collation_search.specs.GoodPrefix.{whole}
 use Rattle.collation_search.specs.Feeding.{Feeds}
 use Rattle.collation_search.proofs.FeedLemmas.{feeds-none, feeds-good, none_or_some}
