@@ -33,6 +33,7 @@ const UNKNOWN: AsciiUnit = AsciiUnit {
     items_after_variable: None,
 };
 
+/// What the table says of one character, at the pattern's settings.
 fn ascii_unit<W: Weights>(table: &W, pattern: &Pattern, c: u32) -> AsciiUnit
     requires { c < 128 }
     ensures { IsAsciiUnit (W.table table.now) pattern.now c result }
@@ -46,6 +47,7 @@ fn ascii_unit<W: Weights>(table: &W, pattern: &Pattern, c: u32) -> AsciiUnit
     }
 }
 
+/// What it says of all of them, each at the place of its code point.
 fn ascii_units<W: Weights>(table: &W, pattern: &Pattern) -> [AsciiUnit; 128]
     ensures { (c : ℕ) → ForSome (slice_get result c) (IsAsciiUnit (W.table table.now) pattern.now c) }
 {

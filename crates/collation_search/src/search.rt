@@ -27,6 +27,7 @@ pub(crate) struct Query<'a, W: Weights> {
     pub(crate) pattern: &'a Pattern,
     /// The number of code points of the table's longest key.
     pub(crate) longest_key: usize,
+    /// What is kept of the ASCII characters, so that the table is not asked for them again.
     pub(crate) ascii: [AsciiUnit; 128],
     ghost longest: { longest_key ≡ longest_key_of (W.table table.now) },
     ghost units: { (c : ℕ) → ForSome (slice_get ascii c) (IsAsciiUnit (W.table table.now) pattern.now c) },
