@@ -77,7 +77,7 @@ short-without run (x ∷ xs) d ys mark h =
     ]
 
 -- without the first points
-short-drop : (run n : ℕ) (ps : List Point) → has_short_runs run (code_points ps) ≡ true → has_short_runs 0 (code_points (drop n ps)) ≡ true
+pub short-drop : (run n : ℕ) (ps : List Point) → has_short_runs run (code_points ps) ≡ true → has_short_runs 0 (code_points (drop n ps)) ≡ true
 short-drop run zero ps h = short-fewer 0 run (code_points ps) (omega arith) h
 short-drop run (suc n) [] h = short-nil 0
 short-drop run (suc n) (p ∷ ps) h =

@@ -92,7 +92,8 @@ impl Window {
     /// Takes out the first `count` points, whose units were taken without it.
     pub fn skip(&mut self, count: usize)
         requires { count ≤ length self.old.points }
-        ensures { self.new ≡ record self.old { points = drop count self.old.points } }
+        ensures rest { self.new ≡ record self.old { points = drop count self.old.points } }
+        ensures short { has_short_runs 0 (code_points self.old.points) ≡ true → has_short_runs 0 (code_points self.new.points) ≡ true }
     {
         self.queue.skip(count);
     }

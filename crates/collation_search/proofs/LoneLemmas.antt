@@ -1,5 +1,8 @@
 -- A character that is a unit by itself, taken out of the front of a window as the next one comes.
 use Rattle.std.specs.Option.{ForSome, IfSome, OnSome}
+use Rattle.std.specs.List.{Contains}
+use Rattle.std.proofs.lemmas.List.Elements.{All-same, All-drop}
+use Rattle.collation_search.proofs.MatchingLemmas.{among-pushed}
 use Rattle.std.proofs.Common.{◌≡◌, ◌∙◌, ℕ, zero, suc, ◌<◌, length, get_or, arith, cond, ltb, ltb-true, Bool, true, false, not, ◌||◌, List, [], ◌∷◌, ◌++◌, take, drop, slice_get, Option, Some, None, refl, sym, ap, ap₂, subst, append_assoc}
 use Rattle.std.proofs.lemmas.Option.{none-some, same_Some}
 use Rattle.nfd_points.specs.declared.points.Point.{Point}
@@ -115,4 +118,6 @@ after_lone table pattern points x old new w w' walk walk' lone start ranges foun
       walked = walks h.items ranges h.walked;
       strength = ap (λ (v : Weigher). v.strength) after ∙ h.strength;
       variable = ap (λ (v : Weigher). v.variable) after ∙ h.variable;
+      kept = All-same (Contains (points ++ x ∷ [])) new.points (drop 1 old.points ++ x ∷ []) shifted
+          (among-pushed points (drop 1 old.points) (x ∷ []) (All-drop (Contains points) 1 old.points h.kept));
     }

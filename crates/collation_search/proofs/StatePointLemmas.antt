@@ -1,6 +1,6 @@
 -- Points read from a state, one by one.
-use Rattle.std.proofs.Common.{◌≡◌, ℕ, zero, suc, ◌+◌, ◌-◌, ◌≤◌, ◌<◌, ◌≢◌, ◌&&◌, ◌==◌, nat_lt, List, [], ◌∷◌, length, take, drop, Option, Some, None, slice_get, slice_index_or, true, false, refl, ap, sym, ◌∙◌, arith, add-one}
-use Rattle.std.proofs.lemmas.Bool.{and_parts, lt-ltb, le-ltb, ne_eqb}
+use Rattle.std.proofs.Common.{◌≡◌, ℕ, zero, suc, ◌+◌, ◌-◌, ◌≤◌, ◌<◌, ◌≢◌, ◌&&◌, ◌==◌, nat_lt, List, [], ◌∷◌, ◌++◌, length, take, drop, Option, Some, None, slice_get, slice_index_or, true, false, inl, inr, refl, ap, sym, ◌∙◌, arith, add-one}
+use Rattle.std.proofs.lemmas.Bool.{and_parts, cases_Bool, lt-ltb, le-ltb, ltb-true, ltb-false, ne_eqb, eqb-true}
 use Rattle.std.proofs.lemmas.List.{take_all, drop_all, drop_more}
 use lib.Utf8.{scalar}
 use Rattle.unicode_normalization.specs.Lookups.{canonical_combining_class}
@@ -71,6 +71,10 @@ right-next end (a ∷ b ∷ c ∷ d ∷ later) len e =
 abbrev pub no_point : Point
 no_point = record { cp = 0; ccc = 0; offset = 0; first = false }
 
+after-none : (run : ℕ) → has_short_runs run [] ≡ true
+unfolding has_short_runs
+after-none run = refl
+
 run-starter : (run c : ℕ) (cs : List ℕ) → canonical_combining_class c ≡ 0 → has_short_runs run (c ∷ cs) ≡ has_short_runs 0 cs
 unfolding has_short_runs
 run-starter run c cs h = rw h refl
@@ -82,6 +86,22 @@ run-longer run c cs h short = rw (h, lt-ltb run 30 short) refl
 run-too_long : (run c : ℕ) (cs : List ℕ) → (canonical_combining_class c == 0) ≡ false → 30 ≤ run → has_short_runs run (c ∷ cs) ≡ false
 unfolding has_short_runs
 run-too_long run c cs h long = rw (h, le-ltb run 30 long) refl
+
+-- one starter more at the end
+pub short-starter : (run : ℕ) (ps : List Point) (x : Point) → canonical_combining_class x.cp ≡ 0 → has_short_runs run (code_points ps) ≡ true → has_short_runs run (code_points (ps ++ x ∷ [])) ≡ true
+short-starter run [] x starter h = run-starter run x.cp [] starter ∙ after-none 0
+short-starter run (p ∷ ps) x starter h =
+    elim (cases_Bool (canonical_combining_class p.cp == 0)) [
+      | inl s ↦
+          let zero = eqb-true (canonical_combining_class p.cp) 0 s in
+          run-starter run p.cp (code_points (ps ++ x ∷ [])) zero ∙ short-starter 0 ps x starter (sym (run-starter run p.cp (code_points ps) zero) ∙ h)
+      | inr m ↦ elim (cases_Bool (nat_lt run 30)) [
+          | inl short ↦
+              let few = ltb-true run 30 short in
+              run-longer run p.cp (code_points (ps ++ x ∷ [])) m few ∙ short-starter (run + 1) ps x starter (sym (run-longer run p.cp (code_points ps) m few) ∙ h)
+          | inr long ↦ let no : false ≡ true = sym (run-too_long run p.cp (code_points ps) m (ltb-false run 30 long)) ∙ h in cc
+        ]
+    ]
 
 module _ (ps : List Point) (i : ℕ) (p : Point) (here : i < length ps) (is : slice_index_or ps i no_point ≡ p) (sound : IsSoundPoint p) where
   at-point : (run : ℕ) → has_short_runs run (code_points (drop i ps)) ≡ has_short_runs run (p.cp ∷ code_points (drop (i + 1) ps))

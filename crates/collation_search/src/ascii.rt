@@ -135,6 +135,7 @@ impl Finder {
         ensures longest { self.new.longest_key ≡ self.old.longest_key }
         ensures pattern_len { self.new.pattern_len ≡ self.old.pattern_len }
     {
+        laws_of_points();
         laws_of_reordering();
         self.window.skip(1);
         self.window.push(Point {

@@ -38,6 +38,10 @@ CodesAreNfd = (cs : List ℕ) → code_points (points cs) ≡ nfd cs
 abbrev pub PointsAreSound : Type 0
 PointsAreSound = (cs : List ℕ) → All IsScalar cs → All IsSoundPoint (points cs)
 
+-- ASCII is of class 0
+abbrev pub AsciiIsSound : Type 0
+AsciiIsSound = (start c : ℕ) → c < 128 → IsSoundPoint (ascii_point start c)
+
 abbrev pub BytesAreCounted : Type 0
 BytesAreCounted = (cs : List ℕ) → byte_len cs ≡ length (encode_utf8_all cs)
 

@@ -1,6 +1,8 @@
 -- The words say a search that has reported a fault, or one that goes on.
 use Rattle.std.specs.Prelude.{IfSome, is_some}
 use Rattle.std.proofs.Common.{◌≡◌, ◌∙◌, ◌≤◌, ◌-◌, ℕ, List, length, take, drop, sym, ap, ap₂, subst, refl}
+use Rattle.collation_table.specs.Table.{TableMap}
+use Rattle.collation_pattern.specs.Compiled.{Compiled}
 use Rattle.collation_search.specs.declared.states.Head.{Head}
 use Rattle.collation_search.specs.declared.faults.TextFault.{TextFault}
 use Rattle.collation_search.specs.declared.search.Search.{Search}
@@ -76,6 +78,7 @@ returns-clause-goes_on g c =
     let restored : IsRestored s.table s.pattern (head words) (drop 20 words) finder =
     subst (λ l. IsRestored s.table s.pattern (head words) l finder) (after-head words) (subst (λ (h : Head). IsRestored s.table s.pattern h slice finder) e there) in
     let value : c.as_slice.result.now ≡ c.in-Some.held.items = c.as_slice.ensures.value in
-    open-goes_on laws _ s words c.in-Some.held.items refl refl (sym (ap (λ (h : Head). h.kind) e) ∙ c.if-head-ne0.false) restored
+    let same = ap₂ (λ (t : TableMap) (p : Compiled). let u : Sought = record { table = t; pattern = p } in u) c.new.ensures.table c.new.ensures.pattern in
+    open-goes_on laws _ s words c.in-Some.held.items same refl (sym (ap (λ (h : Head). h.kind) e) ∙ c.if-head-ne0.false) restored
     (c.in-Some.ensures.bytes ∙ ap (λ (h : Head). bytes_in h.held_len h.held) e)
     (λ cut bytes given stands good held count. c.restore-2.ensures.stands_for cut bytes given stands good (held ∙ sym value) (count ∙ sym (ap (λ (h : Head). h.taken) e)))
