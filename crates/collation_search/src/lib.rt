@@ -8,8 +8,9 @@
 //!
 //! It stands on `collation_pattern` (patterns, their borders, and the law that keys decide what sort keys decide),
 //! `collation_elements` (windows, units, items), `nfd_points` and `utf8_cut` (where a text is good), and `collation_table`.
-//! [`Search::save`] gives what a search holds as words; which words are a state stands in `specs/StateTests.antt`, with worked
-//! rows in [`worked_states`].
+//! [`Search::save`] gives what a search holds as words, and [`Search::resume`] goes on from them; which words are a state
+//! stands in `specs/StateTests.antt`, with worked rows in [`worked_states`]. [`search_in_pieces`] has the whole in one contract:
+//! a text in any pieces, with a search that is saved, dropped and resumed after each.
 #![tactic(auto)]
 
 mod ascii;
