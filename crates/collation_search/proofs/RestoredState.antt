@@ -34,9 +34,8 @@ use Rattle.collation_search.proofs.SavedState.{SavedLaws, open_head, open-accept
 -- ---- a search that goes on
 
 module _ (laws : SavedLaws) (s : Sought) (cut : CutState) (finder : Finder) (taken : List ℕ) (handed : List (ℕ × ℕ))
-  (h : Searched s.table s.pattern cut finder None taken handed) (goes_on : finder.window.has_ended ≡ false) (longest : finder.longest_key ≡ longest_mapped s.table)
-  (new : Finder) (restored : IsRestored s.table s.pattern (open_head s.pattern cut finder) (tail_words finder None) new) where
-
+    (h : Searched s.table s.pattern cut finder None taken handed) (goes_on : finder.window.has_ended ≡ false) (longest : finder.longest_key ≡ longest_mapped s.table)
+    (new : Finder) (restored : IsRestored s.table s.pattern (open_head s.pattern cut finder) (tail_words finder None) new) where
   same_reorder : new.reorder ≡ finder.reorder
   same_reorder =
       let there = parts laws s cut finder taken handed h goes_on longest in

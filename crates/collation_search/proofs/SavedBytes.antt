@@ -15,9 +15,9 @@ second-most x =
     elim (cases_Bool (x == 0xED)) [
       | inl a ↦ let e : second_byte_max x ≡ 159 = ap (λ b. cond b 159 (cond (x == 0xF4) 143 191)) a in omega arith
       | inr a ↦ elim (cases_Bool (x == 0xF4)) [
-          | inl b ↦ let e : second_byte_max x ≡ 143 = ap (λ b. cond b 159 (cond (x == 0xF4) 143 191)) a ∙ ap (λ b. cond b 143 191) b in omega arith
-          | inr b ↦ let e : second_byte_max x ≡ 191 = ap (λ b. cond b 159 (cond (x == 0xF4) 143 191)) a ∙ ap (λ b. cond b 143 191) b in omega arith
-        ]
+        | inl b ↦ let e : second_byte_max x ≡ 143 = ap (λ b. cond b 159 (cond (x == 0xF4) 143 191)) a ∙ ap (λ b. cond b 143 191) b in omega arith
+        | inr b ↦ let e : second_byte_max x ≡ 191 = ap (λ b. cond b 159 (cond (x == 0xF4) 143 191)) a ∙ ap (λ b. cond b 143 191) b in omega arith
+      ]
     ]
 
 at-most : (low high x : ℕ) → is_in_range low high x ≡ true → x ≤ high

@@ -106,8 +106,7 @@ accepted r words form sizes state = rw (form, sizes, state) refl
 -- ---- a search that goes on
 
 module _ (laws : SavedLaws) (s : Sought) (cut : CutState) (finder : Finder) (taken : List ℕ) (handed : List (ℕ × ℕ))
-  (h : Searched s.table s.pattern cut finder None taken handed) (goes_on : finder.window.has_ended ≡ false) (longest : finder.longest_key ≡ longest_mapped s.table) where
-
+    (h : Searched s.table s.pattern cut finder None taken handed) (goes_on : finder.window.has_ended ≡ false) (longest : finder.longest_key ≡ longest_mapped s.table) where
   abbrev pub words : List ℕ
   words = state_words s.table s.pattern cut finder None
 

@@ -96,11 +96,11 @@ short-starter run (p ∷ ps) x starter h =
           let zero = eqb-true (canonical_combining_class p.cp) 0 s in
           run-starter run p.cp (code_points (ps ++ x ∷ [])) zero ∙ short-starter 0 ps x starter (sym (run-starter run p.cp (code_points ps) zero) ∙ h)
       | inr m ↦ elim (cases_Bool (nat_lt run 30)) [
-          | inl short ↦
-              let few = ltb-true run 30 short in
-              run-longer run p.cp (code_points (ps ++ x ∷ [])) m few ∙ short-starter (run + 1) ps x starter (sym (run-longer run p.cp (code_points ps) m few) ∙ h)
-          | inr long ↦ let no : false ≡ true = sym (run-too_long run p.cp (code_points ps) m (ltb-false run 30 long)) ∙ h in cc
-        ]
+        | inl short ↦
+            let few = ltb-true run 30 short in
+            run-longer run p.cp (code_points (ps ++ x ∷ [])) m few ∙ short-starter (run + 1) ps x starter (sym (run-longer run p.cp (code_points ps) m few) ∙ h)
+        | inr long ↦ let no : false ≡ true = sym (run-too_long run p.cp (code_points ps) m (ltb-false run 30 long)) ∙ h in cc
+      ]
     ]
 
 module _ (ps : List Point) (i : ℕ) (p : Point) (here : i < length ps) (is : slice_index_or ps i no_point ≡ p) (sound : IsSoundPoint p) where

@@ -28,9 +28,9 @@ mod resuming;
 mod resuming_walk;
 mod saving;
 mod search;
+mod state_points;
 #[cfg(test)]
 mod state_tests;
-mod state_points;
 mod states;
 #[cfg(test)]
 mod tests;

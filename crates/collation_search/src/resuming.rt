@@ -56,11 +56,7 @@ fn sizes<W: Weights>(table: &W, pattern: &Pattern) -> Resumed
 }
 
 /// A window with these points.
-fn window_of(
-    alloc: Global,
-    longest_key: usize,
-    points: &[Point],
-) -> Result<Window, AllocError>
+fn window_of(alloc: Global, longest_key: usize, points: &[Point]) -> Result<Window, AllocError>
     requires some { 1 ≤ longest_key }
     requires short { longest_key ≤ MOST_STRING_POINTS }
     requires few { length points.now ≤ longest_key }
@@ -117,7 +113,14 @@ impl Finder {
             reorder: Reorder::restore(alloc, waiting.as_slice()),
             window: window_of(alloc, longest_key, window.as_slice())?,
             weigher: Weigher::restore(strength, variable, head.after_variable == 1),
-            walk: Walk::restore(alloc, pattern, head.state as usize, head.start, has_keys, places)?,
+            walk: Walk::restore(
+                alloc,
+                pattern,
+                head.state as usize,
+                head.start,
+                has_keys,
+                places,
+            )?,
             longest_key,
             pattern_len: pattern.len(),
             given: ArrayVec::new(),
@@ -211,7 +214,8 @@ impl<'a, W: Weights> Search<'a, W> {
         let Some(held) = bytes_in(head.held_len, head.held) else {
             return Ok(None);
         };
-        let Some(finder) = Finder::restore(alloc, table, pattern, &head, &words[HEAD_WORDS..])? else {
+        let Some(finder) = Finder::restore(alloc, table, pattern, &head, &words[HEAD_WORDS..])?
+        else {
             return Ok(None);
         };
         Ok(Some(Search {

@@ -16,17 +16,17 @@ loop-point-preserved c =
     let at = c.loop-point.point-index in
     elim c.if-point-eq0.branch [
       | then-point-eq0 w ↦ record {
-          run = let zero = w.run-is in omega arith;
-          right = c.loop-point.invariant.right
-              ∙ after-starter c.args.points.now at _ c.loop-point-test.true refl (c.requires at no_point c.loop-point-test.true) c.loop-point.run w.if-point-eq0.true
-              ∙ ap (λ n. has_short_runs n (code_points (drop (at + 1) c.args.points.now))) (sym w.run-is);
-        }
+        run = let zero = w.run-is in omega arith;
+        right = c.loop-point.invariant.right
+            ∙ after-starter c.args.points.now at _ c.loop-point-test.true refl (c.requires at no_point c.loop-point-test.true) c.loop-point.run w.if-point-eq0.true
+            ∙ ap (λ n. has_short_runs n (code_points (drop (at + 1) c.args.points.now))) (sym w.run-is);
+      }
       | else-point-eq0+then-run-lt-MOST_WAITING w ↦ record {
-          run = let more = w.run-is in let short = w.if-run-lt-MOST_WAITING.true in omega arith;
-          right = c.loop-point.invariant.right
-              ∙ after-mark c.args.points.now at _ c.loop-point-test.true refl (c.requires at no_point c.loop-point-test.true) c.loop-point.run w.if-point-eq0.false w.if-run-lt-MOST_WAITING.true
-              ∙ ap (λ n. has_short_runs n (code_points (drop (at + 1) c.args.points.now))) (sym w.run-is);
-        }
+        run = let more = w.run-is in let short = w.if-run-lt-MOST_WAITING.true in omega arith;
+        right = c.loop-point.invariant.right
+            ∙ after-mark c.args.points.now at _ c.loop-point-test.true refl (c.requires at no_point c.loop-point-test.true) c.loop-point.run w.if-point-eq0.false w.if-run-lt-MOST_WAITING.true
+            ∙ ap (λ n. has_short_runs n (code_points (drop (at + 1) c.args.points.now))) (sym w.run-is);
+      }
     ]
 
 pub returns : goal.returns

@@ -20,10 +20,10 @@ loop-rest-preserved c =
       points = ap (λ l. l ++ points_in rest) more ∙ append_assoc old (p ∷ []) (points_in rest) ∙ ap (λ l. old ++ l) (sym next) ∙ c.loop-rest.invariant.points;
       sound = All-same IsSoundPoint new (old ++ p ∷ []) more (All-push IsSoundPoint old p c.loop-rest.invariant.sound c.in-Some.ensures.sound);
       few =
-        let so_far = c.loop-rest.invariant.few in
-        let longer = ap length more ∙ length-append old (p ∷ []) in
-        let shorter = length-take (length words - 4) (drop 4 words) in
-        let dropped = length-drop 4 words in
-        let record_there = c.in-len4-up.len_at_least in omega arith;
+          let so_far = c.loop-rest.invariant.few in
+          let longer = ap length more ∙ length-append old (p ∷ []) in
+          let shorter = length-take (length words - 4) (drop 4 words) in
+          let dropped = length-drop 4 words in
+          let record_there = c.in-len4-up.len_at_least in omega arith;
       right = c.loop-rest.invariant.right ∙ right-next c.args.end words c.in-len4-up.len_at_least (sym c.in-Some.ensures.right);
     }
