@@ -22,7 +22,7 @@ use arrayvec::ArrayVec;
 use collation_table::Element;
 
 /// The room for the items of one unit: the start of its cluster, and 128 keys. An element gives at most one key and a row has at
-/// most `collation_table::MOST_ROW_ELEMENTS`, so the room always suffices, also for rows that are four times as long.
+/// most `collation_table::MOST_ROW_ELEMENTS` of them, so the room always suffices.
 pub const MOST_ITEMS: usize = 129;
 
 /// Weighs the units of a text, from its beginning on.

@@ -19,8 +19,8 @@ pub row_faults-hold : RowFaults
 unfolding the_spelling unicode_normalization
 row_faults-hold = record {
   mapped_twice_by_value = refl;
-  string_of_17 = refl;
-  row_of_33 = refl;
+  string_of_65 = refl;
+  row_of_129 = refl;
   primary_alone = refl;
   primary_skips_a_level = refl;
   variable_with_no_primary = refl;
@@ -59,8 +59,8 @@ accepted_tables-hold = record {
   lead_and_follower = record { accepted = refl; longest = refl; largest = refl };
   blanks_and_comment = record { accepted = refl; longest = refl; largest = refl };
   range_just_near = record { accepted = refl; longest = refl; largest = refl };
-  string_of_16 = record { accepted = refl; longest = refl; largest = refl };
-  row_of_32 = record { accepted = refl; longest = refl; largest = refl };
+  string_of_64 = record { accepted = refl; longest = refl; largest = refl };
+  row_of_128 = record { accepted = refl; longest = refl; largest = refl };
 }
 
 pub tailored_tables-hold : TailoredTables

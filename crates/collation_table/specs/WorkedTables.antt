@@ -77,8 +77,8 @@ pub record LineFaults : Type 0 where
 -- entry lines that break a condition
 pub record RowFaults : Type 0 where
   pub mapped_twice_by_value : HasFault (codes "0061 ; [.1C00.0020.0002]" ∷ codes "000061 ; [.1C01.0020.0002]" ∷ []) 3 2
-  pub string_of_17 : HasFault ((copies 17 (codes "0061 ") ++ codes "; [.1C00.0020.0002]") ∷ []) 4 1
-  pub row_of_33 : HasFault ((codes "0061 ; " ++ copies 33 (codes "[.1C00.0020.0002]")) ∷ []) 4 1
+  pub string_of_65 : HasFault ((copies 65 (codes "0061 ") ++ codes "; [.1C00.0020.0002]") ∷ []) 4 1
+  pub row_of_129 : HasFault ((codes "0061 ; " ++ copies 129 (codes "[.1C00.0020.0002]")) ∷ []) 4 1
   pub primary_alone : HasFault (codes "0061 ; [.1C00.0000.0000]" ∷ []) 5 1
   pub primary_skips_a_level : HasFault (codes "0061 ; [.1C00.0000.0002]" ∷ []) 5 1
   pub variable_with_no_primary : HasFault (codes "0020 ; [*0000.0000.0000]" ∷ []) 7 1
@@ -111,8 +111,8 @@ pub record AcceptedTables : Type 0 where
   pub lead_and_follower : IsTable (codes "2F00 ; [.FB40.0020.0004][.CE00.0000.0000]" ∷ []) 1 2
   pub blanks_and_comment : IsTable (codes "  0061 0062;[.1C00.0020.0002] [.0000.0021.0002]# x" ∷ []) 2 2
   pub range_just_near : IsTable (codes "@implicitweights 17000..17000; FB00" ∷ codes "@implicitweights 1EFFF..1EFFF; FB00" ∷ codes "0061 ; [.1C00.0020.0002]" ∷ []) 1 2
-  pub string_of_16 : IsTable ((copies 16 (codes "0061 ") ++ codes "; [.1C00.0020.0002]") ∷ []) 16 2
-  pub row_of_32 : IsTable ((codes "0061 ; " ++ copies 32 (codes "[.1C00.0020.0002]")) ∷ []) 1 32
+  pub string_of_64 : IsTable ((copies 64 (codes "0061 ") ++ codes "; [.1C00.0020.0002]") ∷ []) 64 2
+  pub row_of_128 : IsTable ((codes "0061 ; " ++ copies 128 (codes "[.1C00.0020.0002]")) ∷ []) 1 128
 
 -- files with a tailor
 pub record TailoredTables : Type 0 where
@@ -138,8 +138,8 @@ pub record TailoredFaults : Type 0 where
 
 -- the sizes that a table may have
 pub record Limits : Type 0 where
-  pub string_points : MOST_STRING_POINTS ≡ 16
-  pub row_elements : MOST_ROW_ELEMENTS ≡ 32
+  pub string_points : MOST_STRING_POINTS ≡ 64
+  pub row_elements : MOST_ROW_ELEMENTS ≡ 128
   pub entry_lines : MOST_ENTRY_LINES ≡ 1048576
   pub range_lines : MOST_RANGE_LINES ≡ 256
 

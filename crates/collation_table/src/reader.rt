@@ -126,7 +126,7 @@ impl Table {
     /// - 1: it has none of the four forms;
     /// - 2: a code point is over 10FFFF;
     /// - 3: an earlier line maps the same string;
-    /// - 4: the mapped string has more than 16 code points, or the row more than 32 elements;
+    /// - 4: the mapped string has more than 64 code points, or the row more than 128 elements;
     /// - 5: an element breaks WF1 (UTS #10, section 5); 7: one breaks WF3;
     /// - 10: a first weight FB00 to FBFF is not followed by an element `[.BBBB.0000.0000]` with BBBB from 8000 on, such an
     ///   element stands elsewhere, or a variable first weight is FB00 or more;

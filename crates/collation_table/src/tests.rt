@@ -323,9 +323,10 @@ fn line_of(alloc: Global, points: usize, elements: usize) -> Result<String, Allo
 #[test]
 fn bounds_a_line(rt: HostRuntime) -> Result<(), Fail> {
     for (points, elements, fault) in [
-        (16, 32, None),
-        (17, 1, Some((4, 1))),
-        (1, 33, Some((4, 1))),
+        (17, 33, None),
+        (64, 128, None),
+        (65, 1, Some((4, 1))),
+        (1, 129, Some((4, 1))),
     ] {
         let line = line_of(rt.alloc(), points, elements).or_else(|_| line_of(
             rt.alloc(),
