@@ -9,6 +9,7 @@ use std::test::Fail;
 
 mod ascii_runs;
 mod first_ranges;
+mod long_keys;
 mod long_texts;
 mod pieces;
 mod resuming;
