@@ -1,15 +1,16 @@
 -- The words of the points that a finder holds: they give the points back, and they pass the tests of a state.
 use Rattle.std.proofs.Common.{◌≡◌, ℕ, ◌+◌, ◌-◌, ◌*◌, ◌<◌, ◌≤◌, ◌==◌, Bool, true, false, List, [], ◌∷◌, ◌++◌, length, take, drop, refl, sym, ap, ap₂, ◌∙◌, arith, lt-ltb, append_assoc, length-append}
 use Rattle.std.proofs.Math.Seq.{take-append_seam, drop-append_seam}
-use Rattle.std.proofs.lemmas.Bool.{and_from}
+use Rattle.std.specs.Prelude.{bytes_eq, cond}
+use Rattle.std.proofs.lemmas.Bool.{and_from, eq-eqb}
 use Rattle.std.proofs.lemmas.List.{append-nil}
 use Rattle.std.proofs.lemmas.List.Elements.{All-head, All-tail, All-same, All-weaker, All-contains_itself, Contains-append_left, Contains-append_right}
 use Rattle.std.specs.List.{All, Contains, list_all}
 use Rattle.unicode_normalization.specs.Lookups.{canonical_combining_class}
 use Rattle.unicode_normalization.specs.StreamSafe.{has_short_runs}
 use Rattle.nfd_points.specs.declared.points.Point.{Point}
-use Rattle.nfd_points.specs.Laws.{OffsetsAreWithin, WaitingAreOthers}
-use Rattle.nfd_points.specs.Points.{byte_len, points, is_in_order}
+use Rattle.nfd_points.specs.Laws.{OffsetsAreWithin, WaitingAreOthers, PointsAreDecomposed}
+use Rattle.nfd_points.specs.Points.{decomposition, byte_len, points, is_in_order}
 use Rattle.nfd_points.specs.Reordering.{code_points, IsSoundPoint, is_closed, is_non_starter}
 use Rattle.collation_table.specs.Table.{TableMap}
 use Rattle.collation_pattern.specs.Compiled.{Compiled}
@@ -17,7 +18,7 @@ use Rattle.collation_search.specs.declared.finder.Finder.{Finder}
 use Rattle.collation_search.specs.Finding.{FinderStandsFor}
 use Rattle.collation_search.specs.State.{flag_word, point_words}
 use Rattle.collation_search.specs.declared.states.Head.{Head}
-use Rattle.collation_search.specs.StateTests.{place_part, window_part, waiting_part, is_flag, are_places, are_points, points_in, may_be_in_window, may_wait, has_open_tail}
+use Rattle.collation_search.specs.StateTests.{place_part, window_part, waiting_part, decomposed, is_flag, are_places, are_points, points_in, may_be_in_window, may_wait, has_open_tail}
 use Rattle.collation_search.proofs.MatchingLemmas.{all-among}
 use Rattle.collation_search.proofs.SavingLemmas.{point_words-length}
 
@@ -31,19 +32,31 @@ flag-is_flag : (b : Bool) → is_flag (flag_word b) ≡ true
 flag-is_flag true = refl
 flag-is_flag false = refl
 
-point-back : (p : Point) → IsSoundPoint p → record { cp = p.cp; ccc = canonical_combining_class p.cp; offset = p.offset; first = flag_word p.first == 1 } ≡ p
-point-back p sound =
+-- a point that is its own decomposition
+abbrev pub IsItself : Point → Type 0
+IsItself p = decomposition p.cp ≡ p.cp ∷ []
+
+same-codes : (cs : List ℕ) → bytes_eq cs cs ≡ true
+same-codes [] = refl
+same-codes (c ∷ cs) = and_from _ _ (eq-eqb c c refl) (same-codes cs)
+
+decomposed-back : (p : Point) → IsItself p → decomposed p.cp ≡ p.cp
+decomposed-back p itself = ap (λ b. cond b p.cp 0) (ap (λ l. bytes_eq l (p.cp ∷ [])) itself ∙ same-codes (p.cp ∷ []))
+
+point-back : (p : Point) → IsSoundPoint p → IsItself p → record { cp = decomposed p.cp; ccc = canonical_combining_class (decomposed p.cp); offset = p.offset; first = flag_word p.first == 1 } ≡ p
+point-back p sound itself =
+    ap (λ (c : ℕ). let q : Point = record { cp = c; ccc = canonical_combining_class c; offset = p.offset; first = flag_word p.first == 1 } in q) (decomposed-back p itself) ∙
     ap₂ (λ (class : ℕ) (is_first : Bool). let q : Point = record { cp = p.cp; ccc = class; offset = p.offset; first = is_first } in q) (sym sound.class) (flag-back p.first)
 
-pub points_in-saved_before : (ps : List Point) (more : List ℕ) → All IsSoundPoint ps → points_in (point_words ps ++ more) ≡ ps ++ points_in more
-points_in-saved_before [] more sound = refl
-points_in-saved_before (p ∷ ps) more sound =
-    ap₂ (λ (q : Point) (qs : List Point). q ∷ qs) (point-back p (All-head IsSoundPoint p ps sound))
-    (points_in-saved_before ps more (All-tail IsSoundPoint p ps sound))
+pub points_in-saved_before : (ps : List Point) (more : List ℕ) → All IsSoundPoint ps → All IsItself ps → points_in (point_words ps ++ more) ≡ ps ++ points_in more
+points_in-saved_before [] more sound itself = refl
+points_in-saved_before (p ∷ ps) more sound itself =
+    ap₂ (λ (q : Point) (qs : List Point). q ∷ qs) (point-back p (All-head IsSoundPoint p ps sound) (All-head IsItself p ps itself))
+    (points_in-saved_before ps more (All-tail IsSoundPoint p ps sound) (All-tail IsItself p ps itself))
 
-pub points_in-saved : (ps : List Point) → All IsSoundPoint ps → points_in (point_words ps) ≡ ps
-points_in-saved ps sound =
-    ap points_in (sym (append-nil (point_words ps))) ∙ points_in-saved_before ps [] sound ∙ append-nil ps
+pub points_in-saved : (ps : List Point) → All IsSoundPoint ps → All IsItself ps → points_in (point_words ps) ≡ ps
+points_in-saved ps sound itself =
+    ap points_in (sym (append-nil (point_words ps))) ∙ points_in-saved_before ps [] sound itself ∙ append-nil ps
 
 -- ---- the words of some points, and words after them
 
@@ -71,23 +84,21 @@ are_points-saved end (p ∷ ps) sound below =
 
 -- ---- where the points of a finder stand
 
-given-points : (given held all : List Point) (end : ℕ) → all ≡ given ++ held → All (λ (p : Point). p.offset < end) all → (All (λ (p : Point). p.offset < end) given) × (All (λ (p : Point). p.offset < end) held)
-given-points given held all end parts below =
-    let whole : All (λ (p : Point). p.offset < end) (given ++ held) = All-same (λ (p : Point). p.offset < end) _ _ (sym parts) below in (
-      all-among (λ (p : Point). p.offset < end) (given ++ held) given whole
+given-points : (P : Point → Type 0) (given held all : List Point) → all ≡ given ++ held → All P all → (All P given) × (All P held)
+given-points P given held all parts each =
+    let whole : All P (given ++ held) = All-same P _ _ (sym parts) each in (
+      all-among P (given ++ held) given whole
           (All-weaker (Contains given) (Contains (given ++ held)) (λ p there. Contains-append_left given held p there) given (All-contains_itself given)),
-      all-among (λ (p : Point). p.offset < end) (given ++ held) held whole
+      all-among P (given ++ held) held whole
           (All-weaker (Contains held) (Contains (given ++ held)) (λ p there. Contains-append_right given held p there) held (All-contains_itself held)),
     )
 
-pub window-offsets : OffsetsAreWithin → WaitingAreOthers → (table : TableMap) (pattern : Compiled) (finder : Finder) (taken : List ℕ) (ranges : List (ℕ × ℕ)) → FinderStandsFor table pattern finder taken ranges → All (λ (p : Point). p.offset < byte_len taken) finder.window.points
-window-offsets within others table pattern finder taken ranges h =
-    let given = (given-points h.points finder.reorder.held (points taken) (byte_len taken) (others finder.reorder taken h.points h.reordered) (within taken)).0 in
-    all-among (λ (p : Point). p.offset < byte_len taken) h.points finder.window.points given h.matched.kept
-
-pub waiting-offsets : OffsetsAreWithin → WaitingAreOthers → (table : TableMap) (pattern : Compiled) (finder : Finder) (taken : List ℕ) (ranges : List (ℕ × ℕ)) → FinderStandsFor table pattern finder taken ranges → All (λ (p : Point). p.offset < byte_len taken) finder.reorder.held
-waiting-offsets within others table pattern finder taken ranges h =
-    (given-points h.points finder.reorder.held (points taken) (byte_len taken) (others finder.reorder taken h.points h.reordered) (within taken)).1
+-- what holds of each point of the text holds of those in the window and of those that wait
+points-held : (P : Point → Type 0) → WaitingAreOthers → (table : TableMap) (pattern : Compiled) (finder : Finder) (taken : List ℕ) (ranges : List (ℕ × ℕ)) → FinderStandsFor table pattern finder taken ranges → All P (points taken) →
+    (All P finder.window.points) × (All P finder.reorder.held)
+points-held P others table pattern finder taken ranges h each =
+    let both = given-points P h.points finder.reorder.held (points taken) (others finder.reorder taken h.points h.reordered) each in
+    (all-among P h.points finder.window.points both.0 h.matched.kept, both.1)
 
 -- ---- what a finder may hold
 
@@ -118,16 +129,18 @@ pub record PointsAreSaved (finder : Finder) (end : ℕ) : Type 0 where
   pub window_few : length finder.window.points ≤ finder.longest_key
   pub waiting_few : length finder.reorder.held ≤ 30
 
-pub points-saved : OffsetsAreWithin → WaitingAreOthers → (table : TableMap) (pattern : Compiled) (finder : Finder) (taken : List ℕ) (ranges : List (ℕ × ℕ)) → FinderStandsFor table pattern finder taken ranges → PointsAreSaved finder (byte_len taken)
-points-saved within others table pattern finder taken ranges h =
+pub points-saved : OffsetsAreWithin → WaitingAreOthers → PointsAreDecomposed → (table : TableMap) (pattern : Compiled) (finder : Finder) (taken : List ℕ) (ranges : List (ℕ × ℕ)) → FinderStandsFor table pattern finder taken ranges → PointsAreSaved finder (byte_len taken)
+points-saved within others decomposed_law table pattern finder taken ranges h =
     let held = h.reordered.held in
-    let window_back = points_in-saved finder.window.points finder.sound in
-    let waiting_back = points_in-saved finder.reorder.held held.sound in
+    let below = points-held (λ (p : Point). p.offset < byte_len taken) others table pattern finder taken ranges h (within taken) in
+    let itself = points-held IsItself others table pattern finder taken ranges h (decomposed_law taken) in
+    let window_back = points_in-saved finder.window.points finder.sound itself.0 in
+    let waiting_back = points_in-saved finder.reorder.held held.sound itself.1 in
     record {
       window_back = window_back;
       waiting_back = waiting_back;
-      window_points = are_points-saved (byte_len taken) finder.window.points finder.sound (window-offsets within others table pattern finder taken ranges h);
-      waiting_points = are_points-saved (byte_len taken) finder.reorder.held held.sound (waiting-offsets within others table pattern finder taken ranges h);
+      window_points = are_points-saved (byte_len taken) finder.window.points finder.sound below.0;
+      waiting_points = are_points-saved (byte_len taken) finder.reorder.held held.sound below.1;
       window_may_be = ap may_be_in_window window_back ∙ window-may_be finder;
       waiting_may_wait = ap may_wait waiting_back ∙ waiting-may_wait table pattern finder taken ranges h;
       window_few = window-few finder;

@@ -9,7 +9,7 @@ use Rattle.std.specs.List.{list_all}
 use Rattle.utf8_cut.specs.Characters.{characters_end, after_characters, is_incomplete_or_empty}
 use Rattle.utf8_cut.specs.State.{StandsFor}
 use Rattle.utf8_cut.specs.Value.{CutState}
-use Rattle.nfd_points.specs.Laws.{OffsetsAreWithin, WaitingAreOthers}
+use Rattle.nfd_points.specs.Laws.{OffsetsAreWithin, WaitingAreOthers, PointsAreDecomposed}
 use Rattle.nfd_points.specs.Points.{byte_len}
 use Rattle.collation_table.specs.Table.{TableMap, longest_mapped, most_elements}
 use Rattle.collation_elements.specs.declared.settings.Strength.{Strength}
@@ -43,6 +43,7 @@ pub record SavedLaws : Type 0 where
   pub within : (bytes : List ℕ) → characters_end bytes ≤ length bytes
   pub offsets : OffsetsAreWithin
   pub others : WaitingAreOthers
+  pub decomposed : PointsAreDecomposed
 
 same : (n : ℕ) → (n == n) ≡ true
 same n = eq-eqb n n refl
@@ -111,7 +112,7 @@ module _ (laws : SavedLaws) (s : Sought) (cut : CutState) (finder : Finder) (tak
   words = state_words s.table s.pattern cut finder None
 
   pub points : PointsAreSaved finder (byte_len (chars (whole taken)))
-  points = points-saved laws.offsets laws.others s.table s.pattern finder (chars (whole taken)) handed h.found
+  points = points-saved laws.offsets laws.others laws.decomposed s.table s.pattern finder (chars (whole taken)) handed h.found
 
   pub walk : WalkIsSaved (length s.pattern.keys) finder.walk (cut.count - length cut.held)
   walk = walk-saved laws.boundaries laws.text laws.within s cut finder None taken handed h goes_on

@@ -5,7 +5,7 @@ use Rattle.std.proofs.lemmas.List.{take_all, drop_all, drop_more}
 use lib.Utf8.{scalar}
 use Rattle.unicode_normalization.specs.Lookups.{canonical_combining_class}
 use Rattle.unicode_normalization.specs.StreamSafe.{has_short_runs}
-use Rattle.collation_search.specs.StateTests.{is_flag, are_points, points_in}
+use Rattle.collation_search.specs.StateTests.{decomposed, is_flag, are_points, points_in}
 use Rattle.nfd_points.specs.declared.points.Point.{Point}
 use Rattle.nfd_points.specs.Points.{is_starter}
 use Rattle.nfd_points.specs.Reordering.{IsSoundPoint, code_points, is_closed}
@@ -40,7 +40,7 @@ closed-none (x ∷ xs) h =
 -- ---- points of records
 
 pub points-next : (words : List ℕ) (p : Point) → 4 ≤ length words →
-    p ≡ record { cp = slice_index_or words 0 0; ccc = canonical_combining_class (slice_index_or words 0 0); offset = slice_index_or words 1 0; first = slice_index_or words 2 0 == 1 } →
+    p ≡ record { cp = decomposed (slice_index_or words 0 0); ccc = canonical_combining_class (decomposed (slice_index_or words 0 0)); offset = slice_index_or words 1 0; first = slice_index_or words 2 0 == 1 } →
     points_in words ≡ p ∷ points_in (take (length words - 4) (drop 4 words))
 points-next [] p len e = let no : ⊥ = omega arith in elim no [ ]
 points-next (a ∷ []) p len e = let no : ⊥ = omega arith in elim no [ ]

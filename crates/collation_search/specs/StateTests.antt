@@ -1,12 +1,12 @@
 -- Which lists of words are states for a pattern and a table, test by test, and which kind of fault the others have.
-use Rattle.std.specs.Prelude.{ℕ, ◌+◌, ◌-◌, ◌*◌, ◌/◌, ◌%◌, ◌^◌, Bool, true, false, ◌&&◌, ◌||◌, not, nat_le, nat_lt, ◌==◌, List, [], ◌∷◌, length, take, drop, slice_index, Option, None, Some, if◌then◌else◌}
+use Rattle.std.specs.Prelude.{ℕ, ◌+◌, ◌-◌, ◌*◌, ◌/◌, ◌%◌, ◌^◌, Bool, true, false, ◌&&◌, ◌||◌, not, nat_le, nat_lt, ◌==◌, List, [], ◌∷◌, length, take, drop, slice_index, Option, None, Some, if◌then◌else◌, bytes_eq}
 use Rattle.std.specs.List.{list_all}
 use lib.Utf8.{scalar}
 use Rattle.unicode_normalization.specs.Lookups.{canonical_combining_class}
 use Rattle.unicode_normalization.specs.StreamSafe.{has_short_runs}
 use Rattle.utf8_cut.specs.Characters.{is_incomplete_or_empty}
 use Rattle.nfd_points.specs.declared.points.Point.{Point}
-use Rattle.nfd_points.specs.Points.{is_in_order}
+use Rattle.nfd_points.specs.Points.{decomposition, is_in_order}
 use Rattle.nfd_points.specs.Reordering.{code_points, is_non_starter, is_closed}
 use Rattle.collation_elements.specs.declared.settings.Strength.{Strength}
 use Rattle.collation_elements.specs.declared.settings.Variable.{Variable}
@@ -73,9 +73,13 @@ are_points end (cp ∷ offset ∷ is_first ∷ a ∷ words) =
     scalar cp && (nat_lt offset end && (is_flag is_first && (a == 0 && are_points end words)))
 are_points end _ = false
 
+-- a code point, or U+0000 in place of one that is not its own decomposition: no text has such a point, and it counts as a starter
+abbrev pub decomposed : ℕ → ℕ
+decomposed cp = if bytes_eq (decomposition cp) (cp ∷ []) then cp else 0
+
 abbrev pub points_in : List ℕ → List Point
 points_in (cp ∷ offset ∷ is_first ∷ a ∷ words) =
-    record { cp = cp; ccc = canonical_combining_class cp; offset = offset; first = is_first == 1 } ∷ points_in words
+    record { cp = decomposed cp; ccc = canonical_combining_class (decomposed cp); offset = offset; first = is_first == 1 } ∷ points_in words
 points_in _ = []
 
 -- the points of a window end in a starter, and no 31 non-starters stand in a row

@@ -23,9 +23,17 @@ fn character(word: u64) -> Option<char>
     char::from_u32(word as u32)
 }
 
+/// The character, or U+0000 in place of one that is not its own canonical decomposition: no text has such a point, and it counts
+/// as a starter.
+fn decomposed(c: char) -> char
+    ensures { result ≡ tests.decomposed c }
+{
+    if Point::is_decomposed(c) { c } else { '\0' }
+}
+
 /// The point of a record, where the record has one with an offset before `end`.
 fn read_point(end: u64, cp: u64, offset: u64, is_first: u64, zero: u64) -> Option<Point>
-    ensures point { IfSome result (λ p. p ≡ record { cp = cp; ccc = canonical_combining_class cp; offset = offset; first = is_first == 1 }) }
+    ensures point { IfSome result (λ p. p ≡ record { cp = tests.decomposed cp; ccc = canonical_combining_class (tests.decomposed cp); offset = offset; first = is_first == 1 }) }
     ensures sound { IfSome result IsSoundPoint }
     ensures right { is_some result ≡ (scalar cp && (nat_lt offset end && (tests.is_flag is_first && zero == 0))) }
 {
@@ -33,7 +41,7 @@ fn read_point(end: u64, cp: u64, offset: u64, is_first: u64, zero: u64) -> Optio
         return None;
     }
     match character(cp) {
-        Some(c) => Some(Point::new(c, offset, is_first == 1)),
+        Some(c) => Some(Point::new(decomposed(c), offset, is_first == 1)),
         None => None,
     }
 }

@@ -1,7 +1,8 @@
 -- Laws of the points of a list of code points: two parts, a shift of offsets, the code points and classes, ASCII.
 use Rattle.std.proofs.Common.{◌≡◌, ℕ, ◌+◌, ◌<◌, ◌≤◌, Bool, true, false, List, [], ◌∷◌, ◌++◌, length, map, flat_map, encode_utf8, encode_utf8_all, All, refl, sym, ap, ap₂, ◌∙◌, arith, inl, inr, add-zero, zero-add, length-append, add_assoc}
 use borrow.Table.Char.{scalar_below}
-use Rattle.std.proofs.lemmas.Bool.{cases_Bool}
+use Rattle.std.proofs.lemmas.Bool.{cases_Bool, and_parts}
+use Rattle.std.specs.List.{list_all}
 use Rattle.std.proofs.lemmas.List.{append_assoc, map-append}
 use Rattle.std.proofs.lemmas.List.Elements.{All-nil, All-cons, All-head, All-tail, All-append}
 use Rattle.std.proofs.lemmas.Str.{length-encode, len_utf8_bounds}
@@ -11,6 +12,8 @@ use Rattle.unicode_normalization.specs.Decompose.{decompose}
 use Rattle.unicode_normalization.specs.Forms.{nfd, decomposed, normalize}
 use Rattle.unicode_normalization.specs.Lookups.{canonical_combining_class}
 use Rattle.unicode_normalization.specs.Order.{canonical_order, sink as sink_code, is_reorderable as is_reorderable_code}
+use Rattle.unicode_normalization.proofs.DecomposeLemmas.{IsFull-decompose, decompose-final}
+use Rattle.unicode_normalization.proofs.TableFacts.{is_final}
 use Rattle.unicode_normalization.proofs.OrderLemmas.{sink-past as sink-past_code, sink-stays as sink-stays_code}
 use Rattle.nfd_points.specs.declared.points.Point.{Point}
 use Rattle.nfd_points.specs.Points.{decomposition, byte_len, points_at, points_of, points_from, shifted, is_reorderable, sink, ordered, points, begins_with_starter}
@@ -177,6 +180,29 @@ below-points_from n start (c ∷ cs) h =
 
 pub below-points : (cs : List ℕ) → All (λ (p : Point). p.offset < byte_len cs) (points cs)
 below-points cs = All-ordered (λ (p : Point). p.offset < byte_len cs) _ (below-points_from (byte_len cs) 0 cs (omega arith))
+
+-- ---- decomposed points
+
+abbrev IsItself : Point → Type 0
+IsItself p = decomposition p.cp ≡ p.cp ∷ []
+
+decomposed-points_at : (start : ℕ) (is_first : Bool) (ds : List ℕ) → list_all (is_final Nfd) ds ≡ true → All IsItself (points_at start is_first ds)
+unfolding points_at
+decomposed-points_at start is_first [] h = All-nil IsItself
+decomposed-points_at start is_first (d ∷ ds) h =
+    let parts = and_parts (is_final Nfd d) (list_all (is_final Nfd) ds) h in
+    All-cons IsItself _ _ (decomposition-decompose d ∙ decompose-final Nfd d parts.0) (decomposed-points_at start false ds parts.1)
+
+decomposed-points_from : (start : ℕ) (cs : List ℕ) → All IsItself (points_from start cs)
+unfolding points_from
+decomposed-points_from start [] = All-nil IsItself
+decomposed-points_from start (c ∷ cs) =
+    All-append IsItself _ _
+    (decomposed-points_at start true (decomposition c) (ap (list_all (is_final Nfd)) (decomposition-decompose c) ∙ (IsFull-decompose Nfd c).final))
+    (decomposed-points_from (start + len_utf8 c) cs)
+
+pub decomposed-points : (cs : List ℕ) → All IsItself (points cs)
+decomposed-points cs = All-ordered IsItself _ (decomposed-points_from 0 cs)
 
 -- ---- ASCII
 

@@ -38,6 +38,10 @@ CodesAreNfd = (cs : List ℕ) → code_points (points cs) ≡ nfd cs
 abbrev pub PointsAreSound : Type 0
 PointsAreSound = (cs : List ℕ) → All IsScalar cs → All IsSoundPoint (points cs)
 
+-- each code point of a text's points is its own decomposition
+abbrev pub PointsAreDecomposed : Type 0
+PointsAreDecomposed = (cs : List ℕ) → All (λ p. decomposition p.cp ≡ p.cp ∷ []) (points cs)
+
 -- ASCII is of class 0
 abbrev pub AsciiIsSound : Type 0
 AsciiIsSound = (start c : ℕ) → c < 128 → IsSoundPoint (ascii_point start c)

@@ -1,7 +1,7 @@
 //! Laws of points and of their faults, each the promise of a function that does nothing.
 //!
 //! They hold for every list of code points, also for numbers that are no scalar values.
-ghost use Rattle.nfd_points.specs.Laws.{Limits, DecompositionsAreShort, OthersAreStarters, AsciiIsItself, CodesAreNfd, PointsAreSound, AsciiIsSound, BytesAreCounted, BytesOfParts, PointsOfParts, PointsAreShifted, OffsetsAreWithin, TextsPart, TextsAreCut, OrderingIsInOrder, OrderedStays, OrderingOfPrefixes, OrderingStopsAtStarters, StartersStay, OrderingIsShifted, OrderingKeeps, OrderingAddsNone, OrderingCounts, ShortRunsJoin, FaultAfter, FaultInPrefix, FaultsAreRuns, GoodRunsAreShort, ShortRunsAreGood, LongRunsAreFaults, GivenAreFinal, GivenBegin, WaitingAreOthers, AsciiIsGiven};
+ghost use Rattle.nfd_points.specs.Laws.{Limits, DecompositionsAreShort, OthersAreStarters, AsciiIsItself, CodesAreNfd, PointsAreSound, PointsAreDecomposed, AsciiIsSound, BytesAreCounted, BytesOfParts, PointsOfParts, PointsAreShifted, OffsetsAreWithin, TextsPart, TextsAreCut, OrderingIsInOrder, OrderedStays, OrderingOfPrefixes, OrderingStopsAtStarters, StartersStay, OrderingIsShifted, OrderingKeeps, OrderingAddsNone, OrderingCounts, ShortRunsJoin, FaultAfter, FaultInPrefix, FaultsAreRuns, GoodRunsAreShort, ShortRunsAreGood, LongRunsAreFaults, GivenAreFinal, GivenBegin, WaitingAreOthers, AsciiIsGiven};
 
 /// The most points that wait, of one decomposition, and that one call gives.
 pub fn limits()
@@ -19,6 +19,7 @@ pub fn laws_of_decompositions()
 pub fn laws_of_points()
     ensures nfd { CodesAreNfd }
     ensures sound { PointsAreSound }
+    ensures decomposed { PointsAreDecomposed }
     ensures ascii { AsciiIsSound }
     ensures bytes { BytesAreCounted }
     ensures bytes_of_parts { BytesOfParts }

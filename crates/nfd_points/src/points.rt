@@ -1,10 +1,11 @@
 //! A point: one code point of a decomposed text, and where it comes from.
-ghost use Rattle.std.specs.Prelude.{◌≡◌, ◌<◌};
+ghost use Rattle.std.specs.Prelude.{◌≡◌, ◌<◌, [], ◌∷◌, bytes_eq};
 ghost use Rattle.unicode_normalization.specs.Lookups.{canonical_combining_class};
-ghost use Rattle.nfd_points.specs.Points.{ascii_point};
+ghost use Rattle.nfd_points.specs.Points.{ascii_point, decomposition};
 ghost use Rattle.nfd_points.specs.Reordering.{IsSoundPoint};
 
-use unicode_normalization::char::canonical_combining_class;
+use unicode_normalization::Form;
+use unicode_normalization::char::{canonical_combining_class, decomposition};
 
 /// A code point of the canonical decomposition of a code point of a text.
 #[derive(Clone, Copy, Debug, Default, PartialEq, Eq)]
@@ -31,6 +32,14 @@ impl Point {
             offset,
             first,
         }
+    }
+
+    /// Whether a code point is its own canonical decomposition, as each point of a text is.
+    pub fn is_decomposed(c: char) -> bool
+        ensures { result ≡ bytes_eq (decomposition c) (c ∷ []) }
+    {
+        let mut room = [c; 3];
+        decomposition(c, Form::Nfd, &mut room) == [c].as_slice()
     }
 
     /// The point of a character below 80 hex, which is its own decomposition and a starter.

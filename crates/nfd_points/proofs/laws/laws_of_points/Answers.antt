@@ -1,4 +1,4 @@
-use Rattle.nfd_points.proofs.PointsLemmas.{code_points-points, IsSoundPoint-points, byte_len-append, byte_len-encode, points_from-append, points_from-shift, points-parts, below-points}
+use Rattle.nfd_points.proofs.PointsLemmas.{code_points-points, IsSoundPoint-points, byte_len-append, byte_len-encode, points_from-append, points_from-shift, points-parts, below-points, decomposed-points}
 use Rattle.std.proofs.Common.{arith}
 use Rattle.std.proofs.Math.Utf8.{low_scalar}
 use Rattle.nfd_points.proofs.PushLemmas.{ascii-sound}
@@ -10,6 +10,9 @@ returns-clause-nfd c = code_points-points
 
 pub returns-clause-sound : goal.returns-clause-sound
 returns-clause-sound c = IsSoundPoint-points
+
+pub returns-clause-decomposed : goal.returns-clause-decomposed
+returns-clause-decomposed c = decomposed-points
 
 pub returns-clause-ascii : goal.returns-clause-ascii
 returns-clause-ascii c = λ start code_point low. ascii-sound code_point start (low_scalar code_point (omega arith)) low

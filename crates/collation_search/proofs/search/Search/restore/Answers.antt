@@ -69,6 +69,7 @@ returns-clause-goes_on g c =
       within = c.whole_characters_are_the_longest_text.ensures.within;
       offsets = c.laws_of_points.ensures.offsets;
       others = c.laws_of_reordering.ensures.others;
+      decomposed = c.laws_of_points.ensures.decomposed;
     } in
     let s : Sought = record { table = g.W.Weights.table c.args.table.now; pattern = c.args.pattern.now } in
     let finder = c.in-Some-2.finder in

@@ -15,6 +15,7 @@ returns-then-not-has_form-clause-kept g c =
       within = c.whole_characters_are_the_longest_text.ensures.within;
       offsets = c.laws_of_points.ensures.offsets;
       others = c.laws_of_reordering.ensures.others;
+      decomposed = c.laws_of_points.ensures.decomposed;
     } in
     let s : Sought = record { table = g.W.Weights.table c.args.table.now; pattern = c.args.pattern.now } in
     keeps-saved laws _ s c.args.words.now 51 (fault-of-form _ c.args.words.now (sym c.if-not-has_form.ensures.right))
@@ -28,6 +29,7 @@ returns-in-None-clause-kept g c =
       within = c.whole_characters_are_the_longest_text.ensures.within;
       offsets = c.laws_of_points.ensures.offsets;
       others = c.laws_of_reordering.ensures.others;
+      decomposed = c.laws_of_points.ensures.decomposed;
     } in
     let s : Sought = record { table = g.W.Weights.table c.args.table.now; pattern = c.args.pattern.now } in
     let sizes = c.sizes-sizes.ensures in
