@@ -12,4 +12,4 @@ accepted_lem = record { begin = refl; a = refl; aa = refl; aaa = refl; in_charac
 
 pub changed_lem : ChangedStates
 unfolding unicode_normalization has_short_runs is_in_order is_closed
-changed_lem = record { short = refl; form = refl; pattern_len = refl; strength = refl; too_long = refl; longest = refl; kind = refl; window_len = refl; non_starter = refl; surrogate = refl; other_letter = refl; offset = refl; zero_word = refl }
+changed_lem = record { short = refl; form = refl; pattern_len = refl; strength = refl; too_long = refl; longest = refl; kind = refl; window_len = refl; non_starter = refl; surrogate = refl; other_letter = refl; decomposed_accent = refl; decomposed_accent_waits = refl; offset = refl; zero_word = refl }

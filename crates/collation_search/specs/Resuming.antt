@@ -12,7 +12,7 @@ use Rattle.collation_search.specs.declared.states.Resumed.{Resumed}
 use Rattle.collation_search.specs.declared.states.Head.{Head}
 use Rattle.collation_search.specs.declared.search.Search.{Search}
 use Rattle.collation_search.specs.Restoring.{places_in}
-use Rattle.collation_search.specs.Search.{Sought, sought, HasSearched, HasReported}
+use Rattle.collation_search.specs.Search.{Sought, sought, HasSearched, HasReported, HasReportedNone}
 use Rattle.collation_search.specs.State.{words_of}
 use Rattle.collation_search.specs.StateTests.{points_in, place_part, window_part, waiting_part, has_form, is_for, state_fault}
 
@@ -39,6 +39,11 @@ pub record GoesOn {W : Type 0} {G : Ghosts W} (resumed : Search W G) (s : Sought
   pub stands : (saved : Search W G) (taken : List ℕ) (handed : List (ℕ × ℕ)) → AreSaved saved s words taken handed → HasSearched resumed taken handed
   pub reported : (saved : Search W G) (fault : TextFault) → AreSavedAfter saved s words fault → HasReported resumed fault
   pub same : sought resumed ≡ s
+
+-- A search begins with the fault of the words that it was resumed from, whatever words these are, or with none.
+pub record BeginsWithFault {W : Type 0} {G : Ghosts W} (resumed : Search W G) (h : Head) : Type 0 where
+  pub none : h.kind ≡ 0 → HasReportedNone resumed
+  pub reported : (h.kind ≡ 0 → ⊥) → HasReported resumed (record { kind = h.kind; offset = h.fault_offset })
 
 -- What a search saved is refused for want of memory only.
 pub record KeepsSaved {W : Type 0} {G : Ghosts W} (result : Result (Search W G) StateFault) (s : Sought) (words : List ℕ) : Type 0 where

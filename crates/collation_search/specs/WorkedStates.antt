@@ -59,5 +59,8 @@ pub record ChangedStates : Type 0 where
   pub non_starter : changed 20 769 ≡ Some 51
   pub surrogate : changed 20 55296 ≡ Some 51
   pub other_letter : changed 20 98 ≡ None
+  -- U+0344 is not its own decomposition, and so it counts as a starter
+  pub decomposed_accent : changed 20 836 ≡ None
+  pub decomposed_accent_waits : state_fault worked (slice_set accent_waits 24 836) ≡ Some 51
   pub offset : changed 21 1 ≡ Some 51
   pub zero_word : changed 23 1 ≡ Some 51

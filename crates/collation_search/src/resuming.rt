@@ -134,7 +134,7 @@ impl<'a, W: Weights> Search<'a, W> {
     ghost use Rattle.collation_search.specs.GoodPrefix.{most_bytes};
     ghost use Rattle.collation_search.specs.Search.{sought, HasReported};
     ghost use Rattle.collation_search.specs.StateTests.{state_fault};
-    ghost use Rattle.collation_search.specs.Resuming.{GoesOn, IsRefused, KeepsSaved};
+    ghost use Rattle.collation_search.specs.Resuming.{GoesOn, BeginsWithFault, IsRefused, KeepsSaved};
 
     /// The search that goes on from a state: `words` are those that `save` appended, and the table and the pattern are the same
     /// as then. It goes on exactly as the one that was saved; from a state that was saved after a fault it reports that fault.
@@ -151,6 +151,7 @@ impl<'a, W: Weights> Search<'a, W> {
         words: &[u64],
     ) -> Result<Self, StateFault>
         ensures goes_on { IfOk result (λ s. GoesOn s (record { table = W.table table.now; pattern = pattern.now }) words.now) }
+        ensures begins { IfOk result (λ s. BeginsWithFault s (tests.head words.now)) }
         ensures accepted { OnOk result (state_fault (sizes_of (W.table table.now) pattern.now) words.now ≡ None) }
         ensures refused { IfErr result (λ f. IsRefused (sizes_of (W.table table.now) pattern.now) words.now f.kind) }
         ensures kept { KeepsSaved result (record { table = W.table table.now; pattern = pattern.now }) words.now }
@@ -196,6 +197,7 @@ impl<'a, W: Weights> Search<'a, W> {
         requires same { tests.is_for sizes.now words.now ≡ true }
         ensures right { IfOk result (λ read. tests.is_state sizes.now words.now ≡ is_some read) }
         ensures goes_on { IfOk result (λ read. IfSome read (λ s. GoesOn s (record { table = W.table table.now; pattern = pattern.now }) words.now)) }
+        ensures begins { IfOk result (λ read. IfSome read (λ s. BeginsWithFault s (tests.head words.now))) }
     {
         clusters_are_parts();
         laws_of_points();

@@ -4,7 +4,7 @@ ghost use Rattle.std.specs.Prelude.{◌≡◌, ◌≤◌, [], None, length, opti
 ghost use Rattle.collation_table.specs.WellFormed.{IsWellFormed};
 ghost use Rattle.collation_table.specs.Spelling.{line_form};
 ghost use Rattle.collation_table.specs.Reading.{earlier_ranges, reported_kind, reported};
-ghost use Rattle.collation_table.specs.Faults.{forms_of, map_after, line_kind, fault_at_line, with_line, first_line_fault, tailored_fault, table_fault, SpellsTailored, SpellsTable, IsFaultOrAllocationRefused};
+ghost use Rattle.collation_table.specs.Faults.{forms_of, map_after, line_kind, fault_at_line, with_line, first_line_fault, tailored_map, tailored_fault, table_fault, SpellsTailored, SpellsTable, IsFaultOrAllocationRefused};
 
 use crate::faults::{TAILOR_KINDS, TableFault};
 use crate::line_faults::line_fault;
@@ -140,6 +140,8 @@ impl Table {
         // A table comes from a file with no fault, and is what the file spells.
         ensures accepted { OnOk result (table_fault bytes.now ≡ None) }
         ensures spelled { IfOk result (λ table. SpellsTable bytes.now (⟦<Table as Weights>⟧.table table)) }
+        // Two tables of one file are the same, row for row.
+        ensures exact { IfOk result (λ table. ⟦<Table as Weights>⟧.table table ≡ tailored_map bytes.now []) }
         ensures well_formed { IfOk result (λ table. IsWellFormed (⟦<Table as Weights>⟧.table table)) }
         // The first fault is reported, unless memory was refused.
         ensures fault { IfErr result (IsFaultOrAllocationRefused (table_fault bytes.now)) }
@@ -160,6 +162,7 @@ impl Table {
         // A table comes from files with no fault, and is what they spell.
         ensures accepted { OnOk result (tailored_fault base.now tailor.now ≡ None) }
         ensures spelled { IfOk result (λ table. SpellsTailored base.now tailor.now (⟦<Table as Weights>⟧.table table)) }
+        ensures exact { IfOk result (λ table. ⟦<Table as Weights>⟧.table table ≡ tailored_map base.now tailor.now) }
         ensures well_formed { IfOk result (λ table. IsWellFormed (⟦<Table as Weights>⟧.table table)) }
         // The first fault is reported, unless memory was refused.
         ensures fault { IfErr result (IsFaultOrAllocationRefused (tailored_fault base.now tailor.now)) }

@@ -100,7 +100,7 @@ fn changed_states_are_refused(rt: HostRuntime) -> Result<(), Fail> {
     let short = words.get(0..23).expect(&rt, "words");
     let refused = Search::resume(alloc, &table, &pattern, short).err();
     assert_eq!(rt; refused, Some(StateFault { kind: 51 }));
-    let cases: [(usize, u64, Option<u8>); 12] = [
+    let cases: [(usize, u64, Option<u8>); 13] = [
         (0, 2, Some(51)),
         (1, 3, Some(52)),
         (4, 4, Some(52)),
@@ -111,6 +111,7 @@ fn changed_states_are_refused(rt: HostRuntime) -> Result<(), Fail> {
         (20, 769, Some(51)),
         (20, 55_296, Some(51)),
         (20, 98, None),
+        (20, 836, None),
         (21, 1, Some(51)),
         (23, 1, Some(51)),
     ];

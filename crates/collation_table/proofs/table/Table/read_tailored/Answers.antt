@@ -17,12 +17,16 @@ returns-in-Ok-clause-accepted c =
     c.new.ensures c.in_ok-base.ensures.ok c.in_ok-base.ensures.rows c.apart-base.ensures.rows c.apart-base.ensures.ranges c.in_ok-tailor.ensures.ok c.in_ok-tailor.ensures.rows c.in_ok-rows.ensures in
     both.fault ∙ ap (fault_at_line 0) c.in-Ok.ensures.0
 
-pub returns-in-Ok-clause-spelled : goal.returns-in-Ok-clause-spelled
-returns-in-Ok-clause-spelled c =
+pub returns-in-Ok-clause-exact : goal.returns-in-Ok-clause-exact
+returns-in-Ok-clause-exact c =
     let both : AreBothRead c.args.base.now c.args.tailor.now c.in_ok-rows.rows =
     AreBothRead-from c.args.base.now c.args.tailor.now c.new.result c.in_ok-base.base c.apart-base.result.0 c.apart-base.result.1 c.in_ok-tailor.tailor c.in_ok-rows.rows
     c.new.ensures c.in_ok-base.ensures.ok c.in_ok-base.ensures.rows c.apart-base.ensures.rows c.apart-base.ensures.ranges c.in_ok-tailor.ensures.ok c.in_ok-tailor.ensures.rows c.in_ok-rows.ensures in
-    let is = c.in-Ok.ensures.1 ∙ both.rows in
+    c.in-Ok.ensures.1 ∙ both.rows
+
+pub returns-in-Ok-clause-spelled : goal.returns-in-Ok-clause-spelled
+returns-in-Ok-clause-spelled c =
+    let is = returns-in-Ok-clause-exact c in
     record {
       rows = λ string. ap (λ T. row_of T string) is;
       ranges = ap (λ (T : TableMap). T.ranges) is;
