@@ -53,7 +53,7 @@ rows_at-append points more elements others [] all = refl
 rows_at-append points more elements others (r ∷ places) all =
     λ i. (part-append points more r.string all.0.string all.0.string_end i, part-append elements others r.row all.0.row all.0.row_end i) ∷ rows_at-append points more elements others places all.1 i
 
-map-push : {X Y : Type 0} (f : X → Y) (xs : List X) (x : X) → map f (xs ++ x ∷ []) ≡ map f xs ++ f x ∷ []
+pub map-push : {X Y : Type 0} (f : X → Y) (xs : List X) (x : X) → map f (xs ++ x ∷ []) ≡ map f xs ++ f x ∷ []
 map-push f [] x = refl
 map-push f (y ∷ xs) x = ap (λ l. f y ∷ l) (map-push f xs x)
 
@@ -78,7 +78,7 @@ all_within points more elements others (r ∷ places) all =
 
 -- ---- one row more
 
-row_with-push_here : (string : List ℕ) (row : List Element) (rows : List (List ℕ × List Element)) → row_with string rows ≡ None → row_with string (rows ++ (string, row) ∷ []) ≡ Some row
+pub row_with-push_here : (string : List ℕ) (row : List Element) (rows : List (List ℕ × List Element)) → row_with string rows ≡ None → row_with string (rows ++ (string, row) ∷ []) ≡ Some row
 row_with-push_here string row [] none = ap (λ b. cond b (Some row) None) ((bytes_decides string string).1 refl)
 row_with-push_here string row (r ∷ rows) none = by (bytes_eq string r.0) none (row_with-push_here string row rows)
   where
@@ -86,11 +86,11 @@ row_with-push_here string row (r ∷ rows) none = by (bytes_eq string r.0) none 
     by true h rest = cc
     by false h rest = rest h
 
-row_with-push_other : (string new : List ℕ) (row : List Element) (rows : List (List ℕ × List Element)) → bytes_eq string new ≡ false → row_with string (rows ++ (new, row) ∷ []) ≡ row_with string rows
+pub row_with-push_other : (string new : List ℕ) (row : List Element) (rows : List (List ℕ × List Element)) → bytes_eq string new ≡ false → row_with string (rows ++ (new, row) ∷ []) ≡ row_with string rows
 row_with-push_other string new row [] other = ap (λ b. cond b (Some row) None) other
 row_with-push_other string new row (r ∷ rows) other = ap (cond (bytes_eq string r.0) (Some r.1)) (row_with-push_other string new row rows other)
 
-none_of : {X : Type 0} (o : Option X) → is_some o ≡ false → o ≡ None
+pub none_of : {X : Type 0} (o : Option X) → is_some o ≡ false → o ≡ None
 none_of None h = refl
 none_of (Some x) h = cc
 

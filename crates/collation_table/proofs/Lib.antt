@@ -6,6 +6,7 @@ pub mod LinesOfFile
 pub mod OverlayLemmas
 pub mod PageLemmas
 pub mod Parsed
+pub mod PlainLemmas
 pub mod RangeLemmas
 pub mod RowLemmas
 pub mod StarterLemmas

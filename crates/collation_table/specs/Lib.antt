@@ -3,6 +3,7 @@ pub mod Entries
 pub mod Faults
 pub mod Kinds
 pub mod Overlay
+pub mod Plain
 pub mod Reading
 pub mod Spelling
 pub mod Table

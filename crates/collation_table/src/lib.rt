@@ -21,6 +21,7 @@ mod lines;
 mod lookup;
 mod pages;
 mod pieces;
+mod plain_rows;
 mod ranges;
 mod reader;
 mod rows;
