@@ -24,6 +24,7 @@ mod pieces;
 mod plain_rows;
 mod ranges;
 mod reader;
+mod row_store;
 mod rows;
 mod spelling;
 mod starters;

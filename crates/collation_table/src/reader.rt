@@ -11,6 +11,7 @@ use crate::line_faults::line_fault;
 use crate::lines::{Line, parse_line};
 use crate::lookup::Weights;
 use crate::pieces::first_line;
+use crate::row_store::RowStore;
 use crate::rows::Rows;
 use crate::table::Table;
 use std::alloc::Global;
@@ -48,16 +49,16 @@ impl TableFile {
 }
 
 /// Adds what the line with this number says, or reports its fault; where memory is refused, that is reported at line 0.
-fn read_line(
+fn read_line<S: RowStore>(
     alloc: Global,
     file: TableFile,
-    rows: Rows,
+    rows: S,
     number: u64,
     text: &[u8],
-) -> Result<Rows, TableFault>
-    ensures right { OnOk result (line_kind (earlier_ranges file) rows (line_form text.now) ≡ None) }
-    ensures rows { IfOk result (λ new. new ≡ with_line rows (line_form text.now)) }
-    ensures fault { IfErr result (IsFaultOrAllocationRefused (option_map (reported file) (fault_at_line number (line_kind (earlier_ranges file) rows (line_form text.now))))) }
+) -> Result<S, TableFault>
+    ensures right { OnOk result (line_kind (earlier_ranges file) (S.table rows) (line_form text.now) ≡ None) }
+    ensures rows { IfOk result (λ new. S.table new ≡ with_line (S.table rows) (line_form text.now)) }
+    ensures fault { IfErr result (IsFaultOrAllocationRefused (option_map (reported file) (fault_at_line number (line_kind (earlier_ranges file) (S.table rows) (line_form text.now))))) }
 {
     let line = parse_line(alloc, text)?;
     match line_fault(file.earlier_ranges(), &rows, &line) {
@@ -80,17 +81,17 @@ fn read_line(
 
 /// The rows of all lines of a file, and the ranges of an earlier file followed by its own, or the fault of the first line that has
 /// one.
-fn read_lines(
+fn read_lines<S: RowStore>(
     alloc: Global,
     file: TableFile,
-    earlier: Rows,
+    earlier: S,
     bytes: &[u8],
-) -> Result<Rows, TableFault>
-    requires none { earlier.rows ≡ [] }
-    requires ranges { earlier_ranges file ≡ length earlier.ranges }
-    ensures ok { OnOk result (first_line_fault earlier.ranges (forms_of bytes.now) ≡ None) }
-    ensures rows { IfOk result (λ rows. rows ≡ map_after earlier.ranges (forms_of bytes.now)) }
-    ensures fault { IfErr result (IsFaultOrAllocationRefused (option_map (reported file) (first_line_fault earlier.ranges (forms_of bytes.now)))) }
+) -> Result<S, TableFault>
+    requires none { (S.table earlier).rows ≡ [] }
+    requires ranges { earlier_ranges file ≡ length (S.table earlier).ranges }
+    ensures ok { OnOk result (first_line_fault (S.table earlier).ranges (forms_of bytes.now) ≡ None) }
+    ensures rows { IfOk result (λ rows. S.table rows ≡ map_after (S.table earlier).ranges (forms_of bytes.now)) }
+    ensures fault { IfErr result (IsFaultOrAllocationRefused (option_map (reported file) (first_line_fault (S.table earlier).ranges (forms_of bytes.now)))) }
 {
     let mut rows = earlier;
     let mut rest = bytes;

@@ -6,10 +6,10 @@ use Rattle.collation_table.proofs.FileFaults.{AfterLines}
 use Rattle.collation_table.proofs.reader.read_lines.Given as goal
 
 abbrev pub invariant-loop-rest : goal.invariant-loop-rest
-invariant-loop-rest l = record {
-  so_far : AfterLines l.fn.earlier.ranges (forms_of l.bytes) (forms_of l.rest) l.number l.rows;
+invariant-loop-rest g l = record {
+  so_far : AfterLines (g.S.RowStore.table l.fn.earlier).ranges (forms_of l.bytes) (forms_of l.rest) l.number (g.S.RowStore.table l.rows);
   counted : l.number + length l.rest ≤ length l.bytes;
 }
 
 abbrev pub decreases-loop-rest : goal.decreases-loop-rest
-decreases-loop-rest l = length l.rest
+decreases-loop-rest g l = length l.rest

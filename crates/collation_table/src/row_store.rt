@@ -1,0 +1,104 @@
+//! What the reader of a table file asks of the rows and the ranges that the lines so far gave, however they are kept.
+ghost use Rattle.std.specs.Prelude.{◌≡◌, [], ◌∷◌, ◌++◌, false, length, IfOk};
+ghost use Rattle.collation_table.specs.Table.{TableMap, is_mapped};
+ghost use Rattle.collation_table.specs.WellFormed.{IsRowSound, breaks_ranges};
+
+use crate::elements::Element;
+use crate::plain_rows::PlainRows;
+use crate::ranges::ImplicitRange;
+use crate::rows::Rows;
+use std::alloc::{AllocError, Global};
+
+/// Rows in the order in which they were inserted, and ranges of implicit weights.
+pub(crate) trait RowStore: Drop {
+    // The rows and the ranges.
+    ghost table: { Self → TableMap };
+
+    /// Whether a row maps this string.
+    fn maps(&self, string: &[u32]) -> bool
+        ensures { result ≡ is_mapped (table self.now) string.now };
+
+    /// How many rows there are.
+    fn row_count(&self) -> usize
+        ensures { result ≡ length (table self.now).rows };
+
+    /// The ranges, in order.
+    fn ranges(&self) -> &[ImplicitRange]
+        ensures { result.now ≡ (table self.now).ranges };
+
+    /// Whether a range breaks the conditions on ranges together with those that were pushed.
+    fn refuses(&self, range: &ImplicitRange) -> bool
+        ensures { result ≡ breaks_ranges (table self.now).ranges range.now };
+
+    /// The rows with one more after the others.
+    fn insert(self, alloc: Global, string: &[u32], row: &[Element]) -> Result<Self, AllocError>
+        requires absent { is_mapped (table self) string.now ≡ false }
+        requires sound { IsRowSound string.now row.now }
+        ensures { IfOk result (λ rows. table rows ≡ record (table self) { rows = (table self).rows ++ (string.now, row.now) ∷ [] }) };
+
+    /// The rows with one more range after the others.
+    fn push_range(self, range: ImplicitRange) -> Result<Self, AllocError>
+        requires { breaks_ranges (table self).ranges range ≡ false }
+        ensures { IfOk result (λ rows. table rows ≡ record (table self) { ranges = (table self).ranges ++ range ∷ [] }) };
+}
+
+impl RowStore for Rows {
+    ghost table = { λ rows. rows };
+
+    fn maps(&self, string: &[u32]) -> bool {
+        self.maps(string)
+    }
+
+    fn row_count(&self) -> usize {
+        self.row_count()
+    }
+
+    fn ranges(&self) -> &[ImplicitRange] {
+        self.ranges()
+    }
+
+    fn refuses(&self, range: &ImplicitRange) -> bool {
+        self.refuses(range)
+    }
+
+    fn insert(self, alloc: Global, string: &[u32], row: &[Element]) -> Result<Rows, AllocError> {
+        self.insert(alloc, string, row)
+    }
+
+    fn push_range(self, range: ImplicitRange) -> Result<Rows, AllocError> {
+        self.push_range(range)
+    }
+}
+
+impl RowStore for PlainRows {
+    ghost table = { λ rows. rows };
+
+    fn maps(&self, string: &[u32]) -> bool {
+        self.maps(string)
+    }
+
+    fn row_count(&self) -> usize {
+        self.row_count()
+    }
+
+    fn ranges(&self) -> &[ImplicitRange] {
+        self.ranges()
+    }
+
+    fn refuses(&self, range: &ImplicitRange) -> bool {
+        self.refuses(range)
+    }
+
+    fn insert(
+        self,
+        alloc: Global,
+        string: &[u32],
+        row: &[Element],
+    ) -> Result<PlainRows, AllocError> {
+        self.insert(alloc, string, row)
+    }
+
+    fn push_range(self, range: ImplicitRange) -> Result<PlainRows, AllocError> {
+        self.push_range(range)
+    }
+}
