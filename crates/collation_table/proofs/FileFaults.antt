@@ -184,3 +184,13 @@ file_alone_laws-hold = record {
   map = λ bytes. overlay-base (map_of (forms_of bytes));
   fault = λ bytes. ap (λ T. option_or (first_line_fault [] (forms_of bytes)) (fault_at_line 0 (map_fault T))) (overlay-base (map_of (forms_of bytes)));
 }
+
+-- where no line of a file alone is at fault, the rows are those that it spells, and its fault is what is left
+pub AreBothRead-alone : (bytes : List ℕ) (none T : TableMap) → none ≡ record { rows = []; ranges = [] } → first_line_fault none.ranges (forms_of bytes) ≡ None → T ≡ map_after none.ranges (forms_of bytes) → AreBothRead bytes [] T
+AreBothRead-alone bytes none T start right is =
+    let rows : T ≡ map_of (forms_of bytes) = is ∙ ap (λ (U : TableMap). map_after U.ranges (forms_of bytes)) start in
+    let lines : first_line_fault [] (forms_of bytes) ≡ None = ap (λ (U : TableMap). first_line_fault U.ranges (forms_of bytes)) (sym start) ∙ right in
+    record {
+      rows = rows ∙ sym (file_alone_laws-hold.map bytes);
+      fault = file_alone_laws-hold.fault bytes ∙ (λ i. option_or (lines i) (fault_at_line 0 (map_fault (sym rows i))));
+    }

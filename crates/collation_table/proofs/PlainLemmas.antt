@@ -1,9 +1,13 @@
 -- What an ordered map whose keys are lists of code points finds after one more was inserted, and what a plain table does.
-use Rattle.std.proofs.Common.{◌≡◌, ℕ, zero, suc, ◌<◌, Bool, true, false, cond, List, [], ◌∷◌, ◌++◌, length, slice_get, Option, Some, None, is_some, option_map, refl, sym, ap, ◌∙◌, arith, bytes_eq, length-append, Vec}
+use Rattle.std.proofs.Common.{◌≡◌, ℕ, zero, suc, ◌<◌, max, Bool, true, false, ◌||◌, cond, fold, flat_map, map, List, [], ◌∷◌, ◌++◌, length, slice_get, Option, Some, None, is_some, option_map, refl, sym, ap, ◌∙◌, arith, bytes_eq, length-append, Vec}
+use Rattle.std.proofs.lemmas.List.Folds.{list_any-append}
+use Rattle.std.proofs.lemmas.List.Sums.{fold-append}
+use Rattle.std.specs.List.{list_any}
+use Rattle.collation_table.specs.declared.elements.Element.{Element}
 use Rattle.collation_table.specs.declared.plain_rows.PlainRow.{PlainRow}
 use Rattle.collation_table.specs.Plain.{plain_rows, number_of, elements_of_row, IsNumbered}
 use Rattle.collation_table.specs.Spelling.{◌>>=◌}
-use Rattle.collation_table.specs.Table.{row_with}
+use Rattle.collation_table.specs.Table.{row_with, greatest}
 use Rattle.collation_table.proofs.IndexLemmas.{map-push, row_with-push_here, row_with-push_other, none_of}
 use Rattle.std.specs.Cmp.Lexicographic.{slice_cmp, bytes_decides}
 use Rattle.std.specs.declared.cmp.Ordering.{Ordering}
@@ -55,6 +59,34 @@ lookup-insert_entry {A} {X} string key value (e ∷ es) = by (slice_cmp nat_cmp 
         ∙ ap (λ c. cond c (Some e.1) (cond (bytes_eq string key.items) (Some value) (lookup (has_string string) es))) (is_eq-slice_cmp string e.0.items)
         ∙ apart (sym is) (bytes_eq string key.items) (bytes_eq string e.0.items) refl refl (lookup (has_string string) es)
         ∙ ap (λ c. cond (bytes_eq string key.items) (Some value) (cond c (Some e.1) (lookup (has_string string) es))) (sym (is_eq-slice_cmp string e.0.items))
+
+-- ---- all rows
+
+-- a fold row by row is the fold over the elements of all rows
+pub fold-rows : {B : Type 0} (f : B → Element → B) (b : B) (rows : List PlainRow) → fold (λ a r. fold f a r.elements.items) b rows ≡ fold f b (flat_map (λ row. row.1) (plain_rows rows))
+fold-rows f b [] = refl
+fold-rows f b (r ∷ rows) = fold-rows f (fold f b r.elements.items) rows ∙ sym (fold-append f b r.elements.items (flat_map (λ row. row.1) (plain_rows rows)))
+
+-- a test of some element row by row is the test over the elements of all rows
+pub any-rows : (p : Element → Bool) (rows : List PlainRow) → list_any (λ r. list_any p r.elements.items) rows ≡ list_any p (flat_map (λ row. row.1) (plain_rows rows))
+any-rows p [] = refl
+any-rows p (r ∷ rows) = ap (λ b. list_any p r.elements.items || b) (any-rows p rows) ∙ sym (list_any-append p r.elements.items (flat_map (λ row. row.1) (plain_rows rows)))
+
+-- the same of the mapped strings
+pub any-strings : (q : List ℕ → Bool) (rows : List PlainRow) → list_any (λ r. q r.string.items) rows ≡ list_any (λ row. q row.0) (plain_rows rows)
+any-strings q [] = refl
+any-strings q (r ∷ rows) = ap (λ b. q r.string.items || b) (any-strings q rows)
+
+max_assoc : (a b c : ℕ) → max (max a b) c ≡ max a (max b c)
+max_assoc a b c = omega arith
+
+pub greatest-strings : (m : ℕ) (rows : List PlainRow) → fold (λ most r. max most (length r.string.items)) m rows ≡ max m (greatest (map (λ row. length row.0) (plain_rows rows)))
+greatest-strings m [] = omega arith
+greatest-strings m (r ∷ rows) = greatest-strings (max m (length r.string.items)) rows ∙ max_assoc m (length r.string.items) (greatest (map (λ row. length row.0) (plain_rows rows)))
+
+pub greatest-rows : (m : ℕ) (rows : List PlainRow) → fold (λ most r. max most (length r.elements.items)) m rows ≡ max m (greatest (map (λ row. length row.1) (plain_rows rows)))
+greatest-rows m [] = omega arith
+greatest-rows m (r ∷ rows) = greatest-rows (max m (length r.elements.items)) rows ∙ max_assoc m (length r.elements.items) (greatest (map (λ row. length row.1) (plain_rows rows)))
 
 -- ---- one row more
 

@@ -22,6 +22,7 @@ mod lookup;
 mod pages;
 mod pieces;
 mod plain_rows;
+mod plain_table;
 mod ranges;
 mod reader;
 mod row_store;
@@ -37,6 +38,7 @@ pub use elements::Element;
 pub use faults::TableFault;
 pub use limits::{MOST_ROW_ELEMENTS, MOST_STRING_POINTS};
 pub use lookup::Weights;
+pub use plain_table::PlainTable;
 pub use ranges::ImplicitRange;
 pub use table::Table;
 

@@ -10,6 +10,8 @@ use std::alloc::{AllocError, Global};
 use std::collections::BTreeMap;
 use std::marker::Model;
 
+mod conditions;
+
 /// A mapped string and its collation elements.
 #[derive(Drop)]
 pub(crate) struct PlainRow {

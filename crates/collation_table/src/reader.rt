@@ -18,7 +18,7 @@ use std::alloc::Global;
 
 /// Which of two files a line stands in.
 #[derive(Clone, Copy, PartialEq, Eq, Debug)]
-enum TableFile {
+pub(crate) enum TableFile {
     /// The first.
     Base,
     /// One that tailors a file with so many ranges.
@@ -81,7 +81,7 @@ fn read_line<S: RowStore>(
 
 /// The rows of all lines of a file, and the ranges of an earlier file followed by its own, or the fault of the first line that has
 /// one.
-fn read_lines<S: RowStore>(
+pub(crate) fn read_lines<S: RowStore>(
     alloc: Global,
     file: TableFile,
     earlier: S,

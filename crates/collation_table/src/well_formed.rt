@@ -7,6 +7,11 @@ ghost use Rattle.collation_table.specs.Bounds.{higher_second, higher_third, wide
 
 use crate::elements::Element;
 
+/// The secondary and the tertiary weight of implicit pairs, which any text may have.
+pub(crate) const IMPLICIT_SECOND: u16 = 0x20;
+
+pub(crate) const IMPLICIT_THIRD: u16 = 2;
+
 /// WF1: an element has a weight that is not zero at a level, and zero at the next.
 pub fn breaks_wf1(row: &[Element]) -> bool
     ensures { result ≡ breaks_wf1 row.now }

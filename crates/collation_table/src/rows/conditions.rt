@@ -8,13 +8,9 @@ use super::{Rows, points_at};
 use crate::faults::{BREAKS_WF2, BREAKS_WF4, BREAKS_WF5, NO_ENTRY};
 use crate::starters::is_nonstarter;
 use crate::well_formed::{
-    any_too_light, any_within_span, greatest_second, greatest_third, variable_span,
+    IMPLICIT_SECOND, IMPLICIT_THIRD, any_too_light, any_within_span, greatest_second,
+    greatest_third, variable_span,
 };
-
-/// The secondary and the tertiary weight of implicit pairs, which any text may have.
-const IMPLICIT_SECOND: u16 = 0x20;
-
-const IMPLICIT_THIRD: u16 = 2;
 
 impl Rows {
     /// The greatest second weight of the primary elements, those of implicit pairs included.

@@ -1,0 +1,12 @@
+use Rattle.std.proofs.Common.{◌≡◌, ◌∙◌, fold, None, rules, tests}
+use Rattle.std.proofs.lemmas.Iterator.Consumers.{fold_from_yields_List}
+use Rattle.std.proofs.lemmas.Iterator.{YieldsList-from_slice}
+use Rattle.collation_table.specs.Bounds.{wider_span}
+use Rattle.collation_table.proofs.PlainLemmas.{fold-rows}
+use Rattle.collation_table.proofs.plain_rows.PlainRows.variable_span.Goals as goal
+
+pub returns : goal.returns
+returns c =
+    let by_row : c.fold.result ≡ fold (λ span r. fold wider_span span r.elements.items) None c.self.inside.rows.items =
+    fold_from_yields_List _ (λ span r. fold wider_span span r.elements.items) None c.fold.result c.fold.ensures.ran (YieldsList-from_slice _ (c.iter.ensures.rest ∙ c.deref.ensures.value)) (λ a x b q k. search (rules, tests)) in
+    rw (← c.self.view_is) (by_row ∙ fold-rows wider_span None c.self.inside.rows.items)

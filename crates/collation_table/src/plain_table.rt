@@ -1,0 +1,96 @@
+//! A plain table: rows in a list, and an ordered map that finds them. It answers as `Table` does, with simpler parts.
+ghost use Rattle.std.specs.Prelude.{◌≡◌, MatchResult, None, Some, IfOk, IfErr, OnOk};
+ghost use Rattle.collation_table.specs.Table as map;
+ghost use Rattle.collation_table.specs.Table.{HasSizes};
+ghost use Rattle.collation_table.specs.WellFormed.{IsWellFormed, map_fault};
+ghost use Rattle.collation_table.specs.Faults.{table_fault, SpellsTable, IsFaultOrAllocationRefused};
+
+use crate::elements::Element;
+use crate::faults::TableFault;
+use crate::implicit;
+use crate::lookup::Weights;
+use crate::plain_rows::PlainRows;
+use crate::reader::{TableFile, read_lines};
+use std::alloc::Global;
+
+/// A well-formed collation element table, whose mapped strings are the keys of an ordered map. A search over it is slower than
+/// over a `Table`: the longest prefix is found by trying one length after another.
+#[derive(Drop)]
+pub struct PlainTable {
+    rows: PlainRows,
+    longest: usize,
+    largest: usize,
+    ghost well_formed: { IsWellFormed rows },
+    ghost sizes: { HasSizes rows },
+    ghost longest_is: { longest ≡ map.longest_mapped rows },
+    ghost largest_is: { largest ≡ map.most_elements rows },
+}
+
+impl PlainTable {
+    /// The table of these rows and ranges, or the kind of the first condition on the whole table that they break: 12 no row,
+    /// 6 WF2, 8 WF4, 9 WF5. Takes no memory.
+    fn seal(rows: PlainRows) -> Result<PlainTable, u8>
+        ensures { MatchResult result (λ t. (map_fault rows ≡ None) × (⟦<PlainTable as Weights>⟧.table t ≡ rows)) (λ kind. map_fault rows ≡ Some kind) }
+    {
+        match rows.fault() {
+            Some(kind) => Err(kind),
+            None => {
+                let longest = rows.longest_key();
+                let largest = rows.most_elements();
+                Ok(PlainTable {
+                    rows,
+                    longest,
+                    largest,
+                })
+            }
+        }
+    }
+
+    /// Reads a table file, in the form and with the faults of `Table::read`.
+    pub fn read(alloc: Global, bytes: &[u8]) -> Result<PlainTable, TableFault>
+        // A table comes from a file with no fault, and is what the file spells.
+        ensures accepted { OnOk result (table_fault bytes.now ≡ None) }
+        ensures spelled { IfOk result (λ table. SpellsTable bytes.now (⟦<PlainTable as Weights>⟧.table table)) }
+        ensures well_formed { IfOk result (λ table. IsWellFormed (⟦<PlainTable as Weights>⟧.table table)) }
+        // The first fault is reported, unless memory was refused.
+        ensures fault { IfErr result (IsFaultOrAllocationRefused (table_fault bytes.now)) }
+    {
+        let rows = read_lines(alloc, TableFile::Base, PlainRows::new(alloc), bytes)?;
+        match PlainTable::seal(rows) {
+            Ok(table) => Ok(table),
+            Err(kind) => Err(TableFault { line: 0, kind }),
+        }
+    }
+}
+
+impl Weights for PlainTable {
+    ghost table = { λ t. t.rows };
+
+    fn longest(&self, points: &[u32]) -> usize {
+        let mut length = points.len().min(self.longest);
+        while length > 0 && !self.rows.maps(&points[..length]) {
+            length -= 1;
+        }
+        length
+    }
+
+    fn row(&self, string: &[u32]) -> Option<&[Element]> {
+        self.rows.row(string)
+    }
+
+    fn implicit(&self, cp: u32) -> [Element; 2] {
+        implicit::implicit_pair(self.rows.ranges(), cp)
+    }
+
+    fn longest_key(&self) -> usize {
+        self.longest
+    }
+
+    fn most_elements(&self) -> usize {
+        self.largest
+    }
+
+    ghost well_formed = { λ t. t.well_formed };
+
+    ghost sizes = { λ t. t.sizes };
+}
