@@ -6,6 +6,7 @@ ghost use Rattle.collation_table.specs.WellFormed.{IsRowSound, breaks_ranges};
 
 use crate::elements::Element;
 use crate::ranges::{self, ImplicitRange};
+use crate::row_store::RowStore;
 use std::alloc::{AllocError, Global};
 use std::collections::BTreeMap;
 use std::marker::Model;
@@ -55,33 +56,25 @@ impl PlainRows {
     pub(crate) fn row(&self, string: &[u32]) -> Option<&[Element]>
         ensures { option_copied result ≡ row_of self.now string.now }
     {
-        match self.numbers.get(string) {
-            Some(number) => match self.rows.get(*number) {
-                Some(row) => Some(row.elements.as_slice()),
-                None => None,
-            },
-            None => None,
-        }
+        let number = self.numbers.get(string)?;
+        let row = self.rows.get(*number)?;
+        Some(row.elements.as_slice())
     }
+}
 
-    /// Whether a row maps this string.
-    pub(crate) fn maps(&self, string: &[u32]) -> bool
-        ensures { result ≡ is_mapped self.now string.now }
-    {
+impl RowStore for PlainRows {
+    ghost table = { λ rows. rows };
+
+    fn maps(&self, string: &[u32]) -> bool {
         self.row(string).is_some()
     }
 
-    /// The rows with one more after the others.
-    pub(crate) fn insert(
+    fn insert(
         self,
         alloc: Global,
         string: &[u32],
-        elements: &[Element],
-    ) -> Result<PlainRows, AllocError>
-        requires absent { is_mapped self string.now ≡ false }
-        requires sound { IsRowSound string.now elements.now }
-        ensures { IfOk result (λ rows. rows ≡ record self { rows = self.rows ++ (string.now, elements.now) ∷ [] }) }
-    {
+        row: &[Element],
+    ) -> Result<PlainRows, AllocError> {
         let PlainRows {
             mut rows,
             mut numbers,
@@ -90,13 +83,13 @@ impl PlainRows {
         let number = rows.len();
         let mut key = Vec::new(alloc);
         key.extend_from_slice(string)?;
-        let mut row = PlainRow {
+        let mut added = PlainRow {
             string: Vec::new(alloc),
             elements: Vec::new(alloc),
         };
-        row.string.extend_from_slice(string)?;
-        row.elements.extend_from_slice(elements)?;
-        rows.push(row)?;
+        added.string.extend_from_slice(string)?;
+        added.elements.extend_from_slice(row)?;
+        rows.push(added)?;
         numbers.insert(key, number)?;
         Ok(PlainRows {
             rows,
@@ -105,32 +98,19 @@ impl PlainRows {
         })
     }
 
-    /// How many rows there are.
-    pub(crate) fn row_count(&self) -> usize
-        ensures { result ≡ length self.now.rows }
-    {
+    fn row_count(&self) -> usize {
         self.rows.len()
     }
 
-    /// The ranges, in order.
-    pub(crate) fn ranges(&self) -> &[ImplicitRange]
-        ensures { result.now ≡ self.now.ranges }
-    {
+    fn ranges(&self) -> &[ImplicitRange] {
         self.ranges.as_slice()
     }
 
-    /// Whether a range breaks the conditions on ranges together with those that were pushed.
-    pub(crate) fn refuses(&self, range: &ImplicitRange) -> bool
-        ensures { result ≡ breaks_ranges self.now.ranges range.now }
-    {
+    fn refuses(&self, range: &ImplicitRange) -> bool {
         ranges::breaks_ranges(self.ranges.as_slice(), range)
     }
 
-    /// The rows with one more range after the others.
-    pub(crate) fn push_range(self, range: ImplicitRange) -> Result<PlainRows, AllocError>
-        requires { breaks_ranges self.ranges range ≡ false }
-        ensures { IfOk result (λ rows. rows ≡ record self { ranges = self.ranges ++ range ∷ [] }) }
-    {
+    fn push_range(self, range: ImplicitRange) -> Result<PlainRows, AllocError> {
         let PlainRows {
             rows,
             numbers,

@@ -11,6 +11,7 @@ use crate::implicit;
 use crate::lookup::Weights;
 use crate::plain_rows::PlainRows;
 use crate::reader::{TableFile, read_lines};
+use crate::row_store::RowStore;
 use std::alloc::Global;
 
 /// A well-formed collation element table, whose mapped strings are the keys of an ordered map. A search over it is slower than

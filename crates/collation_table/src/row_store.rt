@@ -1,12 +1,12 @@
 //! What the reader of a table file asks of the rows and the ranges that the lines so far gave, however they are kept.
 ghost use Rattle.std.specs.Prelude.{◌≡◌, [], ◌∷◌, ◌++◌, false, length, IfOk};
 ghost use Rattle.collation_table.specs.Table.{TableMap, is_mapped};
-ghost use Rattle.collation_table.specs.WellFormed.{IsRowSound, breaks_ranges};
+ghost use Rattle.collation_table.specs.WellFormed.{IsRowSound, breaks_ranges, lacks_prefix};
 
 use crate::elements::Element;
-use crate::plain_rows::PlainRows;
 use crate::ranges::ImplicitRange;
 use crate::rows::Rows;
+use crate::starters::is_nonstarter;
 use std::alloc::{AllocError, Global};
 
 /// Rows in the order in which they were inserted, and ranges of implicit weights.
@@ -42,6 +42,17 @@ pub(crate) trait RowStore: Drop {
         ensures { IfOk result (λ rows. table rows ≡ record (table self) { ranges = (table self).ranges ++ range ∷ [] }) };
 }
 
+/// Whether a mapped string of three code points or more ends in a non-starter, and is not mapped without it (WF5).
+pub(crate) fn lacks_prefix<S: RowStore>(rows: &S, string: &[u32]) -> bool
+    ensures { result ≡ lacks_prefix (S.table rows.now) string.now }
+{
+    if string.len() < 3 {
+        return false;
+    }
+    let prefix = string.len() - 1;
+    is_nonstarter(string[prefix]) && !rows.maps(&string[..prefix])
+}
+
 impl RowStore for Rows {
     ghost table = { λ rows. rows };
 
@@ -66,39 +77,6 @@ impl RowStore for Rows {
     }
 
     fn push_range(self, range: ImplicitRange) -> Result<Rows, AllocError> {
-        self.push_range(range)
-    }
-}
-
-impl RowStore for PlainRows {
-    ghost table = { λ rows. rows };
-
-    fn maps(&self, string: &[u32]) -> bool {
-        self.maps(string)
-    }
-
-    fn row_count(&self) -> usize {
-        self.row_count()
-    }
-
-    fn ranges(&self) -> &[ImplicitRange] {
-        self.ranges()
-    }
-
-    fn refuses(&self, range: &ImplicitRange) -> bool {
-        self.refuses(range)
-    }
-
-    fn insert(
-        self,
-        alloc: Global,
-        string: &[u32],
-        row: &[Element],
-    ) -> Result<PlainRows, AllocError> {
-        self.insert(alloc, string, row)
-    }
-
-    fn push_range(self, range: ImplicitRange) -> Result<PlainRows, AllocError> {
         self.push_range(range)
     }
 }

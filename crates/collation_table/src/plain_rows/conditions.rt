@@ -2,12 +2,12 @@
 //! over the rows.
 ghost use Rattle.std.specs.Prelude.{◌≡◌};
 ghost use Rattle.collation_table.specs.Table.{longest_mapped, most_elements};
-ghost use Rattle.collation_table.specs.WellFormed.{AreLinesSound, breaks_wf2, breaks_wf4, breaks_wf5, lacks_prefix, map_fault};
+ghost use Rattle.collation_table.specs.WellFormed.{AreLinesSound, breaks_wf2, breaks_wf4, breaks_wf5, map_fault};
 ghost use Rattle.collation_table.specs.Bounds.{second_bound, third_bound, variable_span};
 
 use super::PlainRows;
 use crate::faults::{BREAKS_WF2, BREAKS_WF4, BREAKS_WF5, NO_ENTRY};
-use crate::starters::is_nonstarter;
+use crate::row_store::lacks_prefix;
 use crate::well_formed::{
     IMPLICIT_SECOND, IMPLICIT_THIRD, any_too_light, any_within_span, greatest_second,
     greatest_third, variable_span,
@@ -63,23 +63,12 @@ impl PlainRows {
         }
     }
 
-    /// Whether a mapped string of three code points or more ends in a non-starter, and is not mapped without it.
-    fn lacks_prefix(&self, string: &[u32]) -> bool
-        ensures { result ≡ lacks_prefix self.now string.now }
-    {
-        if string.len() < 3 {
-            return false;
-        }
-        let prefix = string.len() - 1;
-        is_nonstarter(string[prefix]) && !self.maps(&string[..prefix])
-    }
-
     fn breaks_wf5(&self) -> bool
         ensures { result ≡ breaks_wf5 self.now }
     {
         self.rows
             .iter()
-            .any(|row| self.lacks_prefix(row.string.as_slice()))
+            .any(|row| lacks_prefix(self, row.string.as_slice()))
     }
 
     /// The number of code points of the longest mapped string.

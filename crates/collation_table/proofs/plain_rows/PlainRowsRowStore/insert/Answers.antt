@@ -5,13 +5,13 @@ use Rattle.collation_table.specs.Table.{row_with}
 use Rattle.collation_table.specs.WellFormed.{AreLinesSound}
 use Rattle.collation_table.proofs.PlainLemmas.{IsNumbered-push, plain_rows-push}
 use Rattle.collation_table.proofs.RowLemmas.{AllByRecursion-push, AreStringsDistinct-push}
-use Rattle.collation_table.proofs.plain_rows.PlainRows.insert.Goals as goal
+use Rattle.collation_table.proofs.plain_rows.PlainRowsRowStore.insert.Goals as goal
 
 pub invariant_of-result : goal.invariant_of-result
 invariant_of-result c =
     let a = c.self.inside in
     let string = c.args.string.now in
-    let elements = c.args.elements.now in
+    let elements = c.args.row.now in
     let r : PlainRow = record { string = c.extend_from_slice-2.new.self; elements = c.extend_from_slice-3.new.self } in
     let key_is : c.extend_from_slice.new.self.items ≡ string = c.in_ok-extend_from_slice.ensures.items ∙ ap (λ l. l ++ string) c.new-key.ensures.items in
     let string_is : r.string.items ≡ string = c.in_ok-extend_from_slice-2.ensures.items ∙ ap (λ l. l ++ string) c.new.ensures.items in

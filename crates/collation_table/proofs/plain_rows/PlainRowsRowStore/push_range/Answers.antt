@@ -1,5 +1,5 @@
 use Rattle.collation_table.proofs.RowLemmas.{AreRangesSound-push}
-use Rattle.collation_table.proofs.plain_rows.PlainRows.push_range.Goals as goal
+use Rattle.collation_table.proofs.plain_rows.PlainRowsRowStore.push_range.Goals as goal
 
 pub invariant_of-result : goal.invariant_of-result
 invariant_of-result c =
