@@ -69,11 +69,7 @@ fn entry_fault<S: RowStore>(rows: &S, string: &[u32], row: &[Element]) -> Option
 
 /// The smallest kind of fault of a line after the lines that gave `rows`, of whose ranges the first `earlier` are of an earlier
 /// file.
-pub(crate) fn line_fault<S: RowStore>(
-    earlier: usize,
-    rows: &S,
-    line: &Option<Line>,
-) -> Option<u8>
+pub(crate) fn line_fault<S: RowStore>(earlier: usize, rows: &S, line: &Option<Line>) -> Option<u8>
     ensures kind { result ≡ line_kind earlier (S.table rows.now) (option_map form line.now) }
     ensures few { IfSome result (λ kind. kind ≤ 13) }
 {

@@ -1,7 +1,8 @@
-//! Table files with their answers. Where memory is refused once, a file is read again.
+//! Table files with their answers, those of a `Table` and of a `PlainTable`. Where memory is refused once, a file is read again.
 
 use super::*;
 use std::alloc::{AllocError, Global};
+use std::process::Abort;
 use std::test::Fail;
 
 const BASIC: &str = "0020 ; [*0201.0020.0002]
@@ -45,20 +46,44 @@ fn read_again(alloc: Global, file: &[u8]) -> Result<Table, TableFault> {
     }
 }
 
-/// The kind and the line of the fault of a file.
-fn fault_of(alloc: Global, file: &[u8]) -> Option<(u8, u64)> {
-    match read_again(alloc, file) {
+/// The same of a plain table.
+fn read_plain_again(alloc: Global, file: &[u8]) -> Result<PlainTable, TableFault> {
+    match PlainTable::read(alloc, file) {
+        Err(TableFault { line: 0, kind: 14 }) => PlainTable::read(alloc, file),
+        answer => answer,
+    }
+}
+
+/// The kind and the line of the fault in an answer.
+fn fault_in<W: Weights + Drop>(answer: Result<W, TableFault>) -> Option<(u8, u64)> {
+    match answer {
         Ok(_) => None,
         Err(fault) => Some((fault.kind, fault.line)),
     }
 }
 
-/// How many code points the longest mapped string of a file has, and how many elements the largest row.
-fn sizes_of(alloc: Global, file: &[u8]) -> Option<(usize, usize)> {
-    match read_again(alloc, file) {
+/// The kind and the line of the fault of a file, by `Table` and by `PlainTable`.
+fn faults_of(alloc: Global, file: &[u8]) -> [Option<(u8, u64)>; 2] {
+    [
+        fault_in(read_again(alloc, file)),
+        fault_in(read_plain_again(alloc, file)),
+    ]
+}
+
+/// How many code points the longest mapped string has, and how many elements the largest row.
+fn sizes_in<W: Weights + Drop>(answer: Result<W, TableFault>) -> Option<(usize, usize)> {
+    match answer {
         Ok(table) => Some((table.longest_key(), table.most_elements())),
         Err(_) => None,
     }
+}
+
+/// The sizes of the table of a file, by `Table` and by `PlainTable`.
+fn sizes_of(alloc: Global, file: &[u8]) -> [Option<(usize, usize)>; 2] {
+    [
+        sizes_in(read_again(alloc, file)),
+        sizes_in(read_plain_again(alloc, file)),
+    ]
 }
 
 #[test]
@@ -80,8 +105,8 @@ fn reports_a_malformed_line(rt: HostRuntime) {
         ("@implicitweights 17000.18AFF; FB00", 1, 1),
     ] {
         assert_eq!(rt;
-            fault_of(rt.alloc(), file.as_bytes()),
-            Some((kind, line)),
+            faults_of(rt.alloc(), file.as_bytes()),
+            [Some((kind, line)); 2],
             "{file}"
         );
     }
@@ -106,8 +131,8 @@ fn reports_the_fault_of_a_row(rt: HostRuntime) {
         ),
     ] {
         assert_eq!(rt;
-            fault_of(rt.alloc(), file.as_bytes()),
-            Some((kind, line)),
+            faults_of(rt.alloc(), file.as_bytes()),
+            [Some((kind, line)); 2],
             "{file}"
         );
     }
@@ -136,8 +161,8 @@ fn reports_the_fault_of_a_range(rt: HostRuntime) {
         ),
     ] {
         assert_eq!(rt;
-            fault_of(rt.alloc(), file.as_bytes()),
-            Some((kind, line)),
+            faults_of(rt.alloc(), file.as_bytes()),
+            [Some((kind, line)); 2],
             "{file}"
         );
     }
@@ -152,8 +177,8 @@ fn reports_the_smallest_kind_of_the_first_line(rt: HostRuntime) {
         ("0301 ; [.0000.0020.0002]\n0061 ; [.9000.0000.0000]", 10, 2),
     ] {
         assert_eq!(rt;
-            fault_of(rt.alloc(), file.as_bytes()),
-            Some((kind, line)),
+            faults_of(rt.alloc(), file.as_bytes()),
+            [Some((kind, line)); 2],
             "{file}"
         );
     }
@@ -178,8 +203,8 @@ fn reports_the_fault_of_a_table(rt: HostRuntime) {
         ),
     ] {
         assert_eq!(rt;
-            fault_of(rt.alloc(), file.as_bytes()),
-            Some((kind, 0)),
+            faults_of(rt.alloc(), file.as_bytes()),
+            [Some((kind, 0)); 2],
             "{file}"
         );
     }
@@ -206,7 +231,7 @@ fn accepts(rt: HostRuntime) {
     ] {
         assert_eq!(rt;
             sizes_of(rt.alloc(), file.as_bytes()),
-            Some((longest, most)),
+            [Some((longest, most)); 2],
             "{file}"
         );
     }
@@ -222,10 +247,7 @@ fn read_both_again(alloc: Global, file: &[u8], tailor: &[u8]) -> Result<Table, T
 
 /// The kind and the line of the fault of a file and a tailor.
 fn fault_of_both(alloc: Global, file: &str, tailor: &str) -> Option<(u8, u64)> {
-    match read_both_again(alloc, file.as_bytes(), tailor.as_bytes()) {
-        Ok(_) => None,
-        Err(fault) => Some((fault.kind, fault.line)),
-    }
+    fault_in(read_both_again(alloc, file.as_bytes(), tailor.as_bytes()))
 }
 
 #[test]
@@ -300,11 +322,11 @@ fn answers_by_both_files(rt: HostRuntime) -> Result<(), Fail> {
 #[test]
 fn reads_bytes_that_are_no_text(rt: HostRuntime) {
     let comment = b"0061 ; [.1C00.0020.0002] # \xff\xc3\n";
-    assert_eq!(rt; sizes_of(rt.alloc(), comment), Some((1, 2)));
+    assert_eq!(rt; sizes_of(rt.alloc(), comment), [Some((1, 2)); 2]);
     let other = b"0061 ; [.1C00.0020.0002]\xff # x\n";
-    assert_eq!(rt; fault_of(rt.alloc(), other), Some((1, 1)));
+    assert_eq!(rt; faults_of(rt.alloc(), other), [Some((1, 1)); 2]);
     let lone_return = b"0061 ; [.1C00.0020.0002]\r";
-    assert_eq!(rt; fault_of(rt.alloc(), lone_return), Some((1, 1)));
+    assert_eq!(rt; faults_of(rt.alloc(), lone_return), [Some((1, 1)); 2]);
 }
 
 /// A line whose mapped string has `points` code points, and whose row has `elements` elements.
@@ -334,8 +356,8 @@ fn bounds_a_line(rt: HostRuntime) -> Result<(), Fail> {
             elements,
         ))?;
         assert_eq!(rt;
-            fault_of(rt.alloc(), line.as_bytes()),
-            fault,
+            faults_of(rt.alloc(), line.as_bytes()),
+            [fault; 2],
             "{points} {elements}"
         );
     }
@@ -361,7 +383,11 @@ fn ranges_again(alloc: Global, first: u32, ranges: u32) -> Result<String, AllocE
 fn bounds_the_ranges(rt: HostRuntime) -> Result<(), Fail> {
     for (ranges, fault) in [(256, None), (257, Some((13, 258)))] {
         let file = ranges_again(rt.alloc(), 0x17000, ranges)?;
-        assert_eq!(rt; fault_of(rt.alloc(), file.as_bytes()), fault, "{ranges}");
+        assert_eq!(rt;
+            faults_of(rt.alloc(), file.as_bytes()),
+            [fault; 2],
+            "{ranges}"
+        );
     }
     let base = ranges_again(rt.alloc(), 0x17000, 256)?;
     for (ranges, fault) in [(256, None), (257, Some((73, 258)))] {
@@ -375,9 +401,8 @@ fn bounds_the_ranges(rt: HostRuntime) -> Result<(), Fail> {
     Ok(())
 }
 
-#[test]
-fn answers_by_its_rows(rt: HostRuntime) -> Result<(), Fail> {
-    let table = read_again(rt.alloc(), ACCENTED.as_bytes())?;
+/// Asks the table of the file with accents for rows and for longest prefixes.
+fn ask_for_rows<W: Weights>(rt: &impl Abort, table: &W) -> Result<(), Fail> {
     let row = table.row(&[0x75, 0x301]).ok_or("a row")?;
     let accented = Element {
         is_variable: false,
@@ -406,9 +431,15 @@ fn answers_by_its_rows(rt: HostRuntime) -> Result<(), Fail> {
     Ok(())
 }
 
+#[test]
+fn answers_by_its_rows(rt: HostRuntime) -> Result<(), Fail> {
+    ask_for_rows(&rt, &read_again(rt.alloc(), ACCENTED.as_bytes())?)?;
+    ask_for_rows(&rt, &read_plain_again(rt.alloc(), ACCENTED.as_bytes())?)
+}
+
 /// The first weights of the implicit pair of a code point.
-fn implicit_of(alloc: Global, file: &str, point: u32) -> Option<(u16, u16)> {
-    let table = read_again(alloc, file.as_bytes()).ok()?;
+fn implicit_in<W: Weights + Drop>(answer: Result<W, TableFault>, point: u32) -> Option<(u16, u16)> {
+    let table = answer.ok()?;
     if point > 0x10FFFF {
         return None;
     }
@@ -434,8 +465,11 @@ fn weighs_what_has_no_row(rt: HostRuntime) {
         (more, 0x18D00, 0xFB00, 0x9D00),
     ] {
         assert_eq!(rt;
-            implicit_of(rt.alloc(), file, point),
-            Some((lead, follower)),
+            [
+                implicit_in(read_again(rt.alloc(), file.as_bytes()), point),
+                implicit_in(read_plain_again(rt.alloc(), file.as_bytes()), point),
+            ],
+            [Some((lead, follower)); 2],
             "{point:X}"
         );
     }
@@ -461,7 +495,7 @@ fn reads_lines_of_any_length(rt: HostRuntime) -> Result<(), Fail> {
         let file = commented(rt.alloc(), letters).or_else(|_| commented(rt.alloc(), letters))?;
         assert_eq!(rt;
             sizes_of(rt.alloc(), file.as_bytes()),
-            Some((2, 2)),
+            [Some((2, 2)); 2],
             "{letters}"
         );
     }
@@ -489,10 +523,8 @@ fn many_rows(alloc: Global) -> Result<String, AllocError> {
     Ok(file)
 }
 
-#[test]
-fn answers_by_many_rows(rt: HostRuntime) -> Result<(), Fail> {
-    let file = many_rows(rt.alloc()).or_else(|_| many_rows(rt.alloc()))?;
-    let table = read_again(rt.alloc(), file.as_bytes())?;
+/// Asks the large table for rows and for longest prefixes.
+fn ask_for_many<W: Weights>(rt: &impl Abort, table: &W) -> Result<(), Fail> {
     assert_eq!(rt; table.longest_key(), 2);
     for number in [0, 1, 9, 10, 28_671, 28_672, 65_536, 99_990, 99_999] {
         let point = 0x30000u32.wrapping_add(number);
@@ -510,6 +542,13 @@ fn answers_by_many_rows(rt: HostRuntime) -> Result<(), Fail> {
     }
     assert_eq!(rt; table.longest(&[0x30000 + MANY, 0x61]), 0);
     Ok(())
+}
+
+#[test]
+fn answers_by_many_rows(rt: HostRuntime) -> Result<(), Fail> {
+    let file = many_rows(rt.alloc()).or_else(|_| many_rows(rt.alloc()))?;
+    ask_for_many(&rt, &read_again(rt.alloc(), file.as_bytes())?)?;
+    ask_for_many(&rt, &read_plain_again(rt.alloc(), file.as_bytes())?)
 }
 
 #[test]

@@ -36,9 +36,10 @@ impl PlainRows {
     fn variable_span(&self) -> Option<(u16, u16)>
         ensures { result ≡ variable_span self.now }
     {
-        self.rows
-            .iter()
-            .fold(None, |span, row| variable_span(span, row.elements.as_slice()))
+        self.rows.iter().fold(
+            None,
+            |span, row| variable_span(span, row.elements.as_slice()),
+        )
     }
 
     fn breaks_wf2(&self) -> bool
@@ -46,19 +47,18 @@ impl PlainRows {
     {
         let second = self.greatest_second();
         let third = self.greatest_third();
-        self.rows
-            .iter()
-            .any(|row| any_too_light(second, third, row.elements.as_slice()))
+        self.rows.iter().any(|row| any_too_light(second, third, row.elements.as_slice()))
     }
 
     fn breaks_wf4(&self) -> bool
         ensures { result ≡ breaks_wf4 self.now }
     {
         match self.variable_span() {
-            Some((least, greatest)) => self
-                .rows
-                .iter()
-                .any(|row| any_within_span(least, greatest, row.elements.as_slice())),
+            Some((least, greatest)) => self.rows.iter().any(|row| any_within_span(
+                least,
+                greatest,
+                row.elements.as_slice(),
+            )),
             None => false,
         }
     }
