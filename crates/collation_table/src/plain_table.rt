@@ -1,9 +1,9 @@
 //! A plain table: rows in a list, and an ordered map that finds them. It answers as `Table` does, with simpler parts.
-ghost use Rattle.std.specs.Prelude.{◌≡◌, MatchResult, None, Some, IfOk, IfErr, OnOk};
+ghost use Rattle.std.specs.Prelude.{◌≡◌, [], MatchResult, None, Some, IfOk, IfErr, OnOk};
 ghost use Rattle.collation_table.specs.Table as map;
 ghost use Rattle.collation_table.specs.Table.{HasSizes};
 ghost use Rattle.collation_table.specs.WellFormed.{IsWellFormed, map_fault};
-ghost use Rattle.collation_table.specs.Faults.{table_fault, SpellsTable, IsFaultOrAllocationRefused};
+ghost use Rattle.collation_table.specs.Faults.{tailored_map, table_fault, SpellsTable, IsFaultOrAllocationRefused};
 
 use crate::elements::Element;
 use crate::faults::TableFault;
@@ -52,6 +52,7 @@ impl PlainTable {
         // A table comes from a file with no fault, and is what the file spells.
         ensures accepted { OnOk result (table_fault bytes.now ≡ None) }
         ensures spelled { IfOk result (λ table. SpellsTable bytes.now (⟦<PlainTable as Weights>⟧.table table)) }
+        ensures exact { IfOk result (λ table. ⟦<PlainTable as Weights>⟧.table table ≡ tailored_map bytes.now []) }
         ensures well_formed { IfOk result (λ table. IsWellFormed (⟦<PlainTable as Weights>⟧.table table)) }
         // The first fault is reported, unless memory was refused.
         ensures fault { IfErr result (IsFaultOrAllocationRefused (table_fault bytes.now)) }

@@ -9,10 +9,14 @@ returns-in-Ok-clause-accepted c =
     let read : AreBothRead c.args.bytes.now [] c.in_ok-rows.rows = AreBothRead-alone c.args.bytes.now c.new.result c.in_ok-rows.rows c.new.ensures c.in_ok-rows.ensures.ok c.in_ok-rows.ensures.rows in
     read.fault ∙ ap (fault_at_line 0) c.in-Ok.ensures.0
 
+pub returns-in-Ok-clause-exact : goal.returns-in-Ok-clause-exact
+returns-in-Ok-clause-exact c =
+    let read : AreBothRead c.args.bytes.now [] c.in_ok-rows.rows = AreBothRead-alone c.args.bytes.now c.new.result c.in_ok-rows.rows c.new.ensures c.in_ok-rows.ensures.ok c.in_ok-rows.ensures.rows in
+    c.in-Ok.ensures.1 ∙ read.rows
+
 pub returns-in-Ok-clause-spelled : goal.returns-in-Ok-clause-spelled
 returns-in-Ok-clause-spelled c =
-    let read : AreBothRead c.args.bytes.now [] c.in_ok-rows.rows = AreBothRead-alone c.args.bytes.now c.new.result c.in_ok-rows.rows c.new.ensures c.in_ok-rows.ensures.ok c.in_ok-rows.ensures.rows in
-    let is = c.in-Ok.ensures.1 ∙ read.rows in
+    let is = returns-in-Ok-clause-exact c in
     record {
       rows = λ string. ap (λ T. row_of T string) is;
       ranges = ap (λ (T : TableMap). T.ranges) is;
