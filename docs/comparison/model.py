@@ -6,8 +6,8 @@ import unicodedata
 MOST_PATTERN_BYTES = 65536
 MOST_NON_STARTERS = 30
 MOST_DECOMPOSITION = 4
-MOST_KEY_POINTS = 16
-MOST_ROW_ELEMENTS = 32
+MOST_KEY_POINTS = 64
+MOST_ROW_ELEMENTS = 128
 
 # An element is (is_variable, first, second, third). A table is a dict from tuples of code points to lists of elements,
 # with a list of ranges (first, last, base). A point is (code point, class, byte offset, is_first).
