@@ -4,7 +4,7 @@
 //! file with it, whose rows replace some of the first one's or are added. A `Table` is known to be well formed (UTS #10, section
 //! 5), and answers the trait `Weights`, by which the crates above ask any table: the longest mapped
 //! string that a list of code points begins with, the collation elements of a mapped string, and the implicit weights of a code
-//! point that has no row.
+//! point that has no row. A `PlainTable` does the same with plainer parts, an ordered map in the place of pages and a trie.
 //!
 //! What a file spells and what is wrong with it stand in `specs/Spelling.antt` and `specs/Faults.antt`, the finite map that a
 //! table stands for in `specs/Table.antt`, that of two files in `specs/Overlay.antt`, and when it is well formed in `specs/WellFormed.antt`. Classes of code points come
