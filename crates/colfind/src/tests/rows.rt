@@ -1,8 +1,15 @@
 //! Worked rows: what the program prints and answers for small texts, read whole and a byte at a time, and with an empty
-//! tailor.
+//! tailor; and what a run over a plain table prints.
 
 use super::{TABLE, answered, file_with};
 use crate::memory::MemorySource;
+use crate::output::Output;
+use crate::run::{Outcome, run};
+use crate::tests::devices::FailingTarget;
+use collation_elements::{Strength, Variable};
+use collation_pattern::Pattern;
+use collation_table::PlainTable;
+use std::alloc::Global;
 use std::fs;
 use std::process::Abort;
 use std::test::Fail;
@@ -28,6 +35,66 @@ const NO_KEY: &str = "colfind: fault 22 at 0\n";
 /// A strength, a weighting, a pattern, a text, the status, and what goes to the two outputs.
 type Row<'a> = (&'a str, &'a str, &'a str, &'a [u8], u8, &'a str, &'a str);
 
+/// The status, what is printed and what is reported where the words name this strength and weighting, over a plain table.
+fn answered_plainly(
+    alloc: Global,
+    table: &PlainTable,
+    strength: &str,
+    variable: &str,
+    pattern: &str,
+    text: &[u8],
+) -> Result<(u8, FailingTarget, String), Fail> {
+    let strength = match strength {
+        "1" => Strength::One,
+        "2" => Strength::Two,
+        _ => Strength::Three,
+    };
+    let variable = if variable == SHIFTED {
+        Variable::Shifted
+    } else {
+        Variable::NonIgnorable
+    };
+    let mut out = FailingTarget::new(alloc, 7, u64::MAX);
+    let pattern = match Pattern::compile(alloc, table, pattern, strength, variable) {
+        Ok(pattern) => pattern,
+        Err(fault) => {
+            let line = format!(in alloc; "colfind: fault {} at 0\n", fault.kind)?;
+            return Ok((2, out, line));
+        }
+    };
+    let mut reader = MemorySource::new(text, 1);
+    match run(
+        alloc,
+        table,
+        &pattern,
+        Output::Ranges,
+        &mut reader,
+        &mut out,
+    ) {
+        Outcome::Done(0) => Ok((1, out, String::new(alloc))),
+        Outcome::Done(_) => Ok((0, out, String::new(alloc))),
+        Outcome::Text(fault) => {
+            let line = format!(in alloc; "colfind: fault {} at {}\n", fault.kind, fault.offset)?;
+            Ok((2, out, line))
+        }
+        Outcome::Read(_) | Outcome::Write | Outcome::Memory => Err(Fail::from("a device failed")),
+    }
+}
+
+/// Compares what a run over a plain table answers of each row.
+fn compare_plainly(rt: &impl Abort, alloc: Global, table: &str, rows: &[Row]) -> Result<(), Fail> {
+    let table = PlainTable::read(alloc, table.as_bytes())?;
+    for (strength, variable, pattern, text, status, printed, reported) in rows {
+        let (answer, out, err) = answered_plainly(
+            alloc, &table, *strength, *variable, *pattern, *text,
+        )?;
+        assert_eq!(rt; answer, *status);
+        assert_eq!(rt; out.bytes(), printed.as_bytes());
+        assert_eq!(rt; err.as_str(), *reported);
+    }
+    Ok(())
+}
+
 /// Compares what the program answers of each row, with a table in a file of this name.
 fn compare(
     rt: &impl Abort,
@@ -36,6 +103,7 @@ fn compare(
     name: &str,
     rows: &[Row],
 ) -> Result<(), Fail> {
+    compare_plainly(rt, host.alloc(), table, rows)?;
     let path = file_with(host, name, table)?;
     let empty = format!(in host.alloc(); "{path}.tailor")?;
     fs::write(host, empty.as_str(), "")?;
