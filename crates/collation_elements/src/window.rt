@@ -1,4 +1,5 @@
-//! A window of points, from whose front units are cut as soon as what follows cannot change them (UTS #10, S2.1).
+//! A window of points, from whose front units are cut once they are decided, so that what follows cannot change them (UTS #10,
+//! S2.1).
 ghost use Rattle.std.specs.Prelude.{◌≡◌, ◌+◌, ◌<◌, ◌≤◌, ◌↔◌, ◌==◌, ℕ, List, [], ◌∷◌, ◌++◌, Bool, true, false, length, take, drop, slice_get, is_some, Some, if◌then◌else◌, IsTrue, IsSome, IfSome, OnSome, IfNone, IfOk};
 ghost use Rattle.std.specs.List.{list_any, All, Contains};
 ghost use Rattle.unicode_normalization.specs.StreamSafe.{has_short_runs};
@@ -108,8 +109,8 @@ impl Window {
         self.has_ended = true;
     }
 
-    /// The next unit, taken out of the window, where no point that may follow can change it; else `None`, and the window stays
-    /// as it was. So whatever follows, the units of what the window held are this one and then those of what it holds now: that
+    /// The next unit, taken out of the window, where it is decided, and no point that may follow can change it; else `None`, and
+    /// the window stays as it was. So whatever follows, the units of what the window held are this one and then those of what it holds now: that
     /// is `stands`, where what it held was taken and nothing given.
     #[inline(always)]
     pub fn next_unit<'t, W: Weights>(&mut self, table: &'t W) -> Option<Unit<'t>>

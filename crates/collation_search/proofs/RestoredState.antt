@@ -27,7 +27,8 @@ use Rattle.collation_search.specs.Search.{Sought, sought, HasSearched, HasReport
 use Rattle.collation_search.specs.Searching.{Searched}
 use Rattle.collation_search.specs.State.{number_of, state_words, tail_words, words_of}
 use Rattle.collation_search.specs.StateTests.{points_in, head, bytes_in, has_form, is_for, is_state, state_fault}
-use Rattle.collation_search.proofs.RestoredWalk.{flag-read, walks-restored}
+use Rattle.collation_search.proofs.RestoredWalk.{walks-restored}
+use Rattle.collation_search.proofs.StateLemmas.{flag-read}
 use Rattle.collation_search.proofs.SavedBytes.{bytes_in-held}
 use Rattle.collation_search.proofs.SavedState.{SavedLaws, open_head, open-accepted, reported-accepted, points, walk, is_good, sound_held, parts}
 

@@ -11,13 +11,10 @@ use Rattle.collation_search.specs.ByClusters.{placed}
 use Rattle.collation_search.specs.Restoring.{places_in}
 use Rattle.collation_search.specs.State.{flag_word, place_words, kept_places}
 use Rattle.collation_search.specs.Walks.{place_of, WalksOver}
+use Rattle.collation_search.proofs.StateLemmas.{flag-read}
 use Rattle.collation_search.proofs.WalkSteps.{keep_last-all, walks-within, walks-few}
 
 -- ---- words and places
-
-pub flag-read : (b : Bool) → (flag_word b == 1) ≡ b
-flag-read true = refl
-flag-read false = refl
 
 -- the places that records spell
 pub places_in-words : (ps : List KeyPlace) → places_in (place_words ps) ≡ ps

@@ -70,9 +70,6 @@ keeps-saved laws result s words kind fault = record {
 pub fault-of-form : (r : Resumed) (words : List ℕ) → has_form words ≡ false → state_fault r words ≡ Some 51
 fault-of-form r words form = rw form refl
 
-pub fault-of-sizes : (r : Resumed) (words : List ℕ) → has_form words ≡ true → is_for r words ≡ false → state_fault r words ≡ Some 52
-fault-of-sizes r words form sizes = rw (form, sizes) refl
-
 pub fault-of-state : (r : Resumed) (words : List ℕ) → has_form words ≡ true → is_for r words ≡ true → is_state r words ≡ false → state_fault r words ≡ Some 51
 fault-of-state r words form sizes state = rw (form, sizes, state) refl
 

@@ -21,16 +21,9 @@ use Rattle.collation_search.specs.declared.states.Head.{Head}
 use Rattle.collation_search.specs.StateTests.{place_part, window_part, waiting_part, decomposed, is_flag, are_places, are_points, points_in, may_be_in_window, may_wait, has_open_tail}
 use Rattle.collation_search.proofs.MatchingLemmas.{all-among}
 use Rattle.collation_search.proofs.SavingLemmas.{point_words-length}
+use Rattle.collation_search.proofs.StateLemmas.{flag-is, flag-read}
 
 -- ---- points back from their words
-
-flag-back : (b : Bool) → (flag_word b == 1) ≡ b
-flag-back true = refl
-flag-back false = refl
-
-flag-is_flag : (b : Bool) → is_flag (flag_word b) ≡ true
-flag-is_flag true = refl
-flag-is_flag false = refl
 
 -- a point that is its own decomposition
 abbrev pub IsItself : Point → Type 0
@@ -46,7 +39,7 @@ decomposed-back p itself = ap (λ b. cond b p.cp 0) (ap (λ l. bytes_eq l (p.cp 
 point-back : (p : Point) → IsSoundPoint p → IsItself p → record { cp = decomposed p.cp; ccc = canonical_combining_class (decomposed p.cp); offset = p.offset; first = flag_word p.first == 1 } ≡ p
 point-back p sound itself =
     ap (λ (c : ℕ). let q : Point = record { cp = c; ccc = canonical_combining_class c; offset = p.offset; first = flag_word p.first == 1 } in q) (decomposed-back p itself) ∙
-    ap₂ (λ (class : ℕ) (is_first : Bool). let q : Point = record { cp = p.cp; ccc = class; offset = p.offset; first = is_first } in q) (sym sound.class) (flag-back p.first)
+    ap₂ (λ (class : ℕ) (is_first : Bool). let q : Point = record { cp = p.cp; ccc = class; offset = p.offset; first = is_first } in q) (sym sound.class) (flag-read p.first)
 
 pub points_in-saved_before : (ps : List Point) (more : List ℕ) → All IsSoundPoint ps → All IsItself ps → points_in (point_words ps ++ more) ≡ ps ++ points_in more
 points_in-saved_before [] more sound itself = refl
@@ -60,16 +53,13 @@ points_in-saved ps sound itself =
 
 -- ---- the words of some points, and words after them
 
-pub length-saved : (ps : List Point) → length (point_words ps) ≡ 4 * length ps
-length-saved ps = point_words-length ps
-
 pub take-saved : (ps : List Point) (more : List ℕ) → take (4 * length ps) (point_words ps ++ more) ≡ point_words ps
 take-saved ps more =
-    ap (λ n. take n (point_words ps ++ more)) (sym (length-saved ps)) ∙ take-append_seam (point_words ps) more
+    ap (λ n. take n (point_words ps ++ more)) (sym (point_words-length ps)) ∙ take-append_seam (point_words ps) more
 
 pub drop-saved : (ps : List Point) (more : List ℕ) → drop (4 * length ps) (point_words ps ++ more) ≡ more
 drop-saved ps more =
-    ap (λ n. drop n (point_words ps ++ more)) (sym (length-saved ps)) ∙ drop-append_seam (point_words ps) more
+    ap (λ n. drop n (point_words ps ++ more)) (sym (point_words-length ps)) ∙ drop-append_seam (point_words ps) more
 
 -- ---- the test of points
 
@@ -78,7 +68,7 @@ are_points-saved end [] sound below = refl
 are_points-saved end (p ∷ ps) sound below =
     and_from _ _ (All-head IsSoundPoint p ps sound).scalar
     (and_from _ _ (lt-ltb p.offset end (All-head (λ (q : Point). q.offset < end) p ps below))
-    (and_from _ _ (flag-is_flag p.first)
+    (and_from _ _ (flag-is p.first)
     (and_from _ _ refl
     (are_points-saved end ps (All-tail IsSoundPoint p ps sound) (All-tail (λ (q : Point). q.offset < end) p ps below)))))
 

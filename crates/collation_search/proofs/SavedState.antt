@@ -33,6 +33,7 @@ use Rattle.collation_search.specs.StateTests.{is_flag, head, has_form, is_for, m
 use Rattle.collation_search.proofs.SavedBytes.{bytes_in-held, held-few}
 use Rattle.collation_search.proofs.SavedPoints.{PointsAreSaved, points-saved, PartsAre, parts-saved, has_open_tail-saved}
 use Rattle.collation_search.proofs.SavedWalk.{WalkIsSaved, walk-saved, searched-end, saved-match_waits}
+use Rattle.collation_search.proofs.StateLemmas.{flag-is}
 use Rattle.collation_search.proofs.SavingLemmas.{state-records, place_words-length, point_words-length}
 use Rattle.collation_search.proofs.TextCheckLemmas.{open_cut}
 
@@ -67,17 +68,7 @@ open_head pattern cut finder = record {
   waiting_len = length finder.reorder.held;
 }
 
-pub head-saved : (table : TableMap) (pattern : Compiled) (cut : CutState) (finder : Finder) → head (state_words table pattern cut finder None) ≡ open_head pattern cut finder
-head-saved table pattern cut finder = refl
-
-pub tail-saved : (table : TableMap) (pattern : Compiled) (cut : CutState) (finder : Finder) → drop 20 (state_words table pattern cut finder None) ≡ tail_words finder None
-tail-saved table pattern cut finder = refl
-
 -- ---- the form, the sizes and the settings
-
-flag-is : (b : Bool) → is_flag (flag_word b) ≡ true
-flag-is true = refl
-flag-is false = refl
 
 whole-records : (n k : ℕ) → n ≡ 4 * k → (n % 4 == 0) ≡ true
 whole-records n k e = eq-eqb (n % 4) 0 (ap (λ i. i % 4) e ∙ mul-mod_right 4 k)
@@ -88,9 +79,6 @@ form-saved table pattern cut finder (Some fault) k len some = refl
 form-saved table pattern cut finder None k len some =
     let words = state_words table pattern cut finder None in
     and_from (nat_le 20 (length words)) _ (le-leb 20 (length words) (omega arith)) (and_from _ _ (whole-records (length words) k len) refl)
-
-strengths : (s : Strength) → (strength_word s == strength_word s) ≡ true
-strengths s = same (strength_word s)
 
 sizes-saved : (table : TableMap) (pattern : Compiled) (cut : CutState) (finder : Finder) (fault : Option TextFault) →
     is_for (sizes_of table pattern) (state_words table pattern cut finder fault) ≡ true

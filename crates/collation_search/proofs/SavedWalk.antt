@@ -39,7 +39,8 @@ use Rattle.collation_search.proofs.SearchBegins.{items_go_on}
 use Rattle.collation_search.proofs.SearchLemmas.{either}
 use Rattle.collation_search.proofs.TextCheckLemmas.{open_cut, next_offset}
 use Rattle.collation_search.proofs.WalkSteps.{walks-within}
-use Rattle.collation_search.proofs.RestoredWalk.{flag-read, places_in-words, kept_places-length}
+use Rattle.collation_search.proofs.RestoredWalk.{places_in-words, kept_places-length}
+use Rattle.collation_search.proofs.StateLemmas.{flag-is, flag-read}
 
 -- ---- the starts of the clusters of a text rise
 
@@ -72,10 +73,6 @@ below-end (d ∷ before) c following end up = below-end before c following end u
 
 abbrev pub ArePlaces : ℕ → ℕ → List KeyPlace → Type 0
 ArePlaces least most ps = are_places least most (place_words ps) ≡ true
-
-flag-is : (b : Bool) → is_flag (flag_word b) ≡ true
-flag-is true = refl
-flag-is false = refl
 
 places-first : (least most : ℕ) (p : KeyPlace) (ps : List KeyPlace) → least ≤ p.start → p.start ≤ most → ArePlaces p.start most ps → ArePlaces least most (p ∷ ps)
 places-first least most p ps above below later =

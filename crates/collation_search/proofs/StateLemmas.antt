@@ -2,14 +2,24 @@
 use Rattle.std.proofs.Common.{◌≡◌, ℕ, zero, suc, ◌+◌, ◌-◌, ◌≤◌, ◌<◌, Bool, true, false, ◌&&◌, nat_le, ◌==◌, List, [], ◌∷◌, length, take, drop, slice_index_or, refl, ap, sym, ◌∙◌, arith}
 use Rattle.std.proofs.lemmas.Bool.{le-leb}
 use Rattle.std.proofs.lemmas.List.{take_all}
+use Rattle.collation_search.specs.State.{flag_word}
 use Rattle.collation_search.specs.StateTests.{are_places, is_flag}
+
+-- ---- flags
+
+pub flag-is : (b : Bool) → is_flag (flag_word b) ≡ true
+flag-is true = refl
+flag-is false = refl
+
+pub flag-read : (b : Bool) → (flag_word b == 1) ≡ b
+flag-read true = refl
+flag-read false = refl
+
+-- ---- places
 
 place-test : (least most s f a b : ℕ) (later : List ℕ) → least ≤ s → s ≤ most → f ≤ 1 → a ≡ 0 → b ≡ 0 →
     are_places least most (s ∷ f ∷ a ∷ b ∷ later) ≡ are_places s most later
 place-test least most s f a b later l m flag za zb = rw (le-leb least s l, le-leb s most m, le-leb f 1 flag, za, zb) refl
-
-all_of : (n : ℕ) (xs : List ℕ) → length xs ≤ n → take n xs ≡ xs
-all_of n xs h = take_all n xs h
 
 -- the first place is right, so the others decide
 pub places-next : (least most : ℕ) (words : List ℕ) → 4 ≤ length words →
@@ -20,4 +30,4 @@ places-next least most (s ∷ []) len l m f a b = let no : ⊥ = omega arith in 
 places-next least most (s ∷ t ∷ []) len l m f a b = let no : ⊥ = omega arith in elim no [ ]
 places-next least most (s ∷ t ∷ u ∷ []) len l m f a b = let no : ⊥ = omega arith in elim no [ ]
 places-next least most (s ∷ t ∷ u ∷ v ∷ later) len l m f a b =
-    place-test least most s t u v later l m f a b ∙ ap (are_places s most) (sym (all_of (suc (suc (suc (suc (length later)))) - 4) later (omega arith)))
+    place-test least most s t u v later l m f a b ∙ ap (are_places s most) (sym (take_all (suc (suc (suc (suc (length later)))) - 4) later (omega arith)))

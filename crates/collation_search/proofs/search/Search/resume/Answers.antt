@@ -4,7 +4,7 @@ use Rattle.std.proofs.Common.{◌∙◌, sym, ap}
 use Rattle.collation_search.specs.Search.{Sought}
 use Rattle.collation_search.specs.StateTests.{is_for, is_state}
 use Rattle.collation_search.proofs.SavedState.{SavedLaws}
-use Rattle.collation_search.proofs.ResumeLemmas.{keeps-saved, fault-of-form, fault-of-sizes, fault-of-state}
+use Rattle.collation_search.proofs.ResumeLemmas.{keeps-saved, fault-of-form, fault-of-state}
 use Rattle.collation_search.proofs.search.Search.resume.Goals as goal
 
 pub returns-then-not-has_form-clause-kept : goal.returns-then-not-has_form-clause-kept
