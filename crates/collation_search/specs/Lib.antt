@@ -2,6 +2,7 @@ pub mod Matches
 pub mod GoodPrefix
 pub mod Indexing
 pub mod Answer
+pub mod Selecting
 pub mod ByClusters
 pub mod ByClustersLaws
 pub mod Walks

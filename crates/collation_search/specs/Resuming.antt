@@ -1,10 +1,9 @@
 -- What resuming a search from words means.
 use Rattle.std.specs.Prelude.{◌≡◌, ◌⊎◌, ℕ, ◌+◌, ◌==◌, true, false, List, length, Result, IfErr, Some}
 use Rattle.nfd_points.specs.declared.limits.TheConstants.{MOST_GIVEN}
-use Rattle.collation_table.specs.Table.{TableMap, longest_mapped, most_elements}
+use Rattle.collation_table.specs.Table.{longest_mapped, most_elements}
 use Rattle.collation_table.specs.declared.lookup.Weights.{Ghosts}
 use Rattle.collation_elements.specs.Weighing.{weigher}
-use Rattle.collation_pattern.specs.Compiled.{Compiled}
 use Rattle.collation_search.specs.declared.faults.StateFault.{StateFault}
 use Rattle.collation_search.specs.declared.faults.TextFault.{TextFault}
 use Rattle.collation_search.specs.declared.finder.Finder.{Finder}
@@ -17,13 +16,14 @@ use Rattle.collation_search.specs.State.{words_of}
 use Rattle.collation_search.specs.StateTests.{points_in, place_part, window_part, waiting_part, has_form, is_for, state_fault}
 
 -- the sizes and the settings of what is looked for
-abbrev pub sizes_of : TableMap → Compiled → Resumed
-sizes_of table pattern = record {
-  pattern_len = length pattern.keys;
-  longest_key = longest_mapped table;
-  most_elements = most_elements table;
-  strength = pattern.strength;
-  variable = pattern.variable;
+abbrev pub sizes_of : Sought → Resumed
+sizes_of s = record {
+  pattern_len = length s.pattern.keys;
+  longest_key = longest_mapped s.table;
+  most_elements = most_elements s.table;
+  strength = s.pattern.strength;
+  variable = s.pattern.variable;
+  select = s.select;
 }
 
 -- The words are those of a search for the same that has taken the bytes and handed out the ranges.
@@ -52,15 +52,17 @@ pub record KeepsSaved {W : Type 0} {G : Ghosts W} (result : Result (Search W G) 
 
 -- Words are refused for the first test that they fail, or, where they pass the first two, for want of memory.
 abbrev pub IsRefused : Resumed → List ℕ → ℕ → Type 0
-IsRefused r words kind = (state_fault r words ≡ Some kind) ⊎ ((kind ≡ 53) × (has_form words ≡ true) × (is_for r words ≡ true))
+IsRefused r words kind = (state_fault r words ≡ Some kind) ⊎ ((kind ≡ 53) × (has_form r.select words ≡ true) × (is_for r words ≡ true))
 
--- the finder that the words after the first five records say
-pub record IsRestored (table : TableMap) (pattern : Compiled) (h : Head) (words : List ℕ) (finder : Finder) : Type 0 where
+-- the finder that these words say: the end of the last range of a chain, and the words after that
+pub record IsRestored (s : Sought) (h : Head) (last_end : ℕ) (words : List ℕ) (finder : Finder) : Type 0 where
   pub held : finder.reorder.held ≡ points_in (waiting_part h words)
-  pub window : finder.window ≡ record { points = points_in (window_part h words); capacity = longest_mapped table + MOST_GIVEN; has_ended = false }
-  pub weigher : finder.weigher ≡ Rattle.collation_elements.specs.Weighing.weigher pattern.strength pattern.variable (h.after_variable == 1)
+  pub window : finder.window ≡ record { points = points_in (window_part h words); capacity = longest_mapped s.table + MOST_GIVEN; has_ended = false }
+  pub weigher : finder.weigher ≡ Rattle.collation_elements.specs.Weighing.weigher s.pattern.strength s.pattern.variable (h.after_variable == 1)
   pub state : finder.walk.state ≡ h.state
   pub start : finder.walk.start ≡ h.start
   pub has_keys : finder.walk.has_keys ≡ (h.has_keys == 1)
   pub places : finder.walk.places.items ≡ places_in (place_part h words)
-  pub capacity : finder.walk.places.capacity ≡ length pattern.keys
+  pub capacity : finder.walk.places.capacity ≡ length s.pattern.keys
+  pub select : finder.walk.select ≡ s.select
+  pub last_end : finder.walk.last_end ≡ last_end

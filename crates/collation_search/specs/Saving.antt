@@ -1,5 +1,9 @@
 -- How many words a state has, and what stands in a list of words that an append left unfinished.
-use Rattle.std.specs.Prelude.{◌≡◌, ℕ, ◌*◌, ◌≤◌, List, ◌++◌, length}
+use Rattle.std.specs.Prelude.{◌≡◌, ℕ, ◌+◌, ◌*◌, ◌≤◌, List, ◌++◌, length}
+use Rattle.collation_table.specs.Table.{longest_mapped}
+use Rattle.collation_search.specs.declared.select.Select.{Select}
+use Rattle.collation_search.specs.declared.select.Select.TheVariants.{All, Chain}
+use Rattle.collation_search.specs.Search.{Sought}
 
 -- the words before, and some after them
 abbrev pub BeginsWith : List ℕ → List ℕ → Type 0
@@ -8,3 +12,13 @@ BeginsWith before after = (more : List ℕ) × (after ≡ before ++ more)
 -- whole records of four words, at most so many
 abbrev pub HasRecords : List ℕ → ℕ → Type 0
 HasRecords words most = (n : ℕ) × (n ≤ most) × (length words ≡ 4 * n)
+
+-- how many records a state has before those of places and points
+abbrev pub records_before : Select → ℕ
+records_before All = 5
+records_before Chain = 6
+
+-- how many records a state has at most: one for each key of the pattern, each code point of the longest key and each non-starter
+-- that waits, and those before
+abbrev pub most_records : Sought → ℕ
+most_records s = records_before s.select + length s.pattern.keys + longest_mapped s.table + 30

@@ -16,6 +16,8 @@ use Rattle.collation_search.specs.declared.finder.Finder.{Finder}
 use Rattle.collation_search.specs.declared.walk.KeyPlace.{KeyPlace}
 use Rattle.collation_search.specs.declared.walk.Walk.{Walk}
 use Rattle.collation_search.specs.declared.search.Search.{Search}
+use Rattle.collation_search.specs.declared.select.Select.{Select}
+use Rattle.collation_search.specs.declared.select.Select.TheVariants.{All, Chain}
 
 -- ---- single words and records
 
@@ -34,6 +36,11 @@ strength_word Three = 3
 abbrev pub variable_word : Variable → ℕ
 variable_word NonIgnorable = 0
 variable_word Shifted = 1
+
+-- the form of a state: 1 where all ranges are handed out, 2 where a chain of them is
+abbrev pub form_word : Select → ℕ
+form_word All = 1
+form_word Chain = 2
 
 -- bytes after a number, as one number: the first byte is the most significant
 abbrev pub number_from : ℕ → List ℕ → ℕ
@@ -63,8 +70,8 @@ match_waits pattern_len walk =
 -- ---- the records
 
 -- the form, and the sizes of the pattern and the table
-abbrev pub sizes_record : TableMap → Compiled → List ℕ
-sizes_record table pattern = four 1 (length pattern.keys) (longest_mapped table) (most_elements table)
+abbrev pub sizes_record : Select → TableMap → Compiled → List ℕ
+sizes_record select table pattern = four (form_word select) (length pattern.keys) (longest_mapped table) (most_elements table)
 
 -- the settings, the number of bytes taken, and the kind of the fault
 abbrev pub settings_record : Compiled → ℕ → ℕ → List ℕ
@@ -77,6 +84,11 @@ bytes_record fault_offset held after_variable = four fault_offset (length held) 
 -- the current cluster, and how much of the pattern ends the keys so far
 abbrev pub cluster_record : ℕ → Walk → List ℕ
 cluster_record pattern_len walk = four walk.start (flag_word walk.has_keys) (flag_word (match_waits pattern_len walk)) walk.state
+
+-- of a chain where the last range that was handed out ends, 0 if there is none
+abbrev pub chain_record : Select → ℕ → List ℕ
+chain_record All end = []
+chain_record Chain end = four end 0 0 0
 
 abbrev pub place_record : KeyPlace → List ℕ
 place_record place = four place.start (flag_word place.is_first) 0 0
@@ -97,25 +109,30 @@ point_words (point ∷ points) = point_record point ++ point_words points
 -- the five records that each state has; after a fault they say that fault and nothing else
 abbrev pub head_words : TableMap → Compiled → CutState → Finder → Option TextFault → List ℕ
 head_words table pattern cut finder None =
-    sizes_record table pattern
+    sizes_record finder.walk.select table pattern
     ++ settings_record pattern cut.count 0
     ++ bytes_record 0 cut.held (is_after_variable finder.weigher)
     ++ cluster_record (length pattern.keys) finder.walk
     ++ four (length finder.window.points) (length finder.reorder.held) 0 0
 head_words table pattern cut finder (Some fault) =
-    sizes_record table pattern
+    sizes_record finder.walk.select table pattern
     ++ settings_record pattern fault.offset fault.kind
     ++ four fault.offset 0 0 0
     ++ four 0 0 0 0
     ++ four 0 0 0 0
 
--- the records after them: the places of the last keys, the points in the window and those that wait
+-- the record after them of a search for a chain; after a fault it says nothing
+abbrev pub chain_words : Walk → Option TextFault → List ℕ
+chain_words walk None = chain_record walk.select walk.last_end
+chain_words walk (Some fault) = chain_record walk.select 0
+
+-- the records after these: the places of the last keys, the points in the window and those that wait
 abbrev pub tail_words : Finder → Option TextFault → List ℕ
 tail_words finder None = place_words (kept_places finder.walk) ++ point_words finder.window.points ++ point_words finder.reorder.held
 tail_words finder (Some fault) = []
 
 abbrev pub state_words : TableMap → Compiled → CutState → Finder → Option TextFault → List ℕ
-state_words table pattern cut finder fault = head_words table pattern cut finder fault ++ tail_words finder fault
+state_words table pattern cut finder fault = head_words table pattern cut finder fault ++ chain_words finder.walk fault ++ tail_words finder fault
 
 -- the words of a search
 abbrev pub words_of : {W : Type 0} {G : Ghosts W} → Search W G → List ℕ

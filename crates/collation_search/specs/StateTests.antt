@@ -12,7 +12,9 @@ use Rattle.collation_elements.specs.declared.settings.Strength.{Strength}
 use Rattle.collation_elements.specs.declared.settings.Variable.{Variable}
 use Rattle.collation_search.specs.declared.states.Resumed.{Resumed}
 use Rattle.collation_search.specs.declared.states.Head.{Head}
-use Rattle.collation_search.specs.State.{strength_word, variable_word}
+use Rattle.collation_search.specs.declared.select.Select.{Select}
+use Rattle.collation_search.specs.declared.select.Select.TheVariants.{All, Chain}
+use Rattle.collation_search.specs.State.{form_word, strength_word, variable_word}
 
 abbrev pub head : List ℕ → Head
 head words = record {
@@ -33,10 +35,15 @@ head words = record {
 abbrev pub is_flag : ℕ → Bool
 is_flag word = nat_le word 1
 
--- ---- the first test: whole records, five at least, of the form 1
+-- ---- the first test: whole records, five at least, or six of a chain, of the right form
 
-abbrev pub has_form : List ℕ → Bool
-has_form words = nat_le 20 (length words) && (length words % 4 == 0 && slice_index words 0 == 1)
+-- how many words a state has at least
+abbrev pub head_len : Select → ℕ
+head_len All = 20
+head_len Chain = 24
+
+abbrev pub has_form : Select → List ℕ → Bool
+has_form select words = nat_le (head_len select) (length words) && (length words % 4 == 0 && slice_index words 0 == form_word select)
 
 -- ---- the second test: the same sizes and settings
 
@@ -94,13 +101,13 @@ may_wait points = list_all is_non_starter points && is_in_order points
 -- current cluster has keys
 abbrev pub may_match_wait : Resumed → Head → List ℕ → Bool
 may_match_wait r h words =
-    h.waits == 0 || (h.state == r.pattern_len && (slice_index words 21 == 1 && h.has_keys == 1))
+    h.waits == 0 || (h.state == r.pattern_len && (slice_index words (head_len r.select + 1) == 1 && h.has_keys == 1))
 
 -- as many records as the head says, no more of each kind than a search can hold
 abbrev pub has_records : Resumed → Head → List ℕ → Bool
 has_records r h words =
     nat_le h.state r.pattern_len && (nat_le h.window_len r.longest_key && (nat_le h.waiting_len 30
-    && length words == 4 * (5 + (h.state + (h.window_len + h.waiting_len)))))
+    && length words == head_len r.select + 4 * (h.state + (h.window_len + h.waiting_len))))
 
 -- a search that has met no fault
 abbrev pub is_open_head : Resumed → Head → List ℕ → Bool
@@ -110,7 +117,13 @@ is_open_head r h words =
     && (nat_le h.held_len h.taken && (may_be_held h.held_len h.held
     && (has_records r h words && nat_le h.start (h.taken - h.held_len)))))))
 
--- ---- the records after the first five: the places of the last keys, the points in the window and those that wait
+-- of a chain the end of the last range that was handed out: it is not after the current cluster's start
+abbrev pub is_chain_end : Select → Head → List ℕ → Bool
+is_chain_end All h words = true
+is_chain_end Chain h words =
+    nat_le (slice_index words 20) h.start && (slice_index words 21 == 0 && (slice_index words 22 == 0 && slice_index words 23 == 0))
+
+-- ---- the records after these: the places of the last keys, the points in the window and those that wait
 
 abbrev pub place_part : Head → List ℕ → List ℕ
 place_part h words = take (4 * h.state) words
@@ -131,22 +144,23 @@ has_open_tail h words =
 -- ---- the whole
 
 -- a search that has reported a fault, and holds nothing else
-abbrev pub is_reported : Head → List ℕ → Bool
-is_reported h words =
+abbrev pub is_reported : Select → Head → List ℕ → Bool
+is_reported select h words =
     nat_le 31 h.kind && (nat_le h.kind 35 && (h.fault_offset == h.taken
-    && (length words == 20 && list_all (λ word. word == 0) (drop 9 words))))
+    && (length words == head_len select && list_all (λ word. word == 0) (drop 9 words))))
 
 abbrev pub is_state : Resumed → List ℕ → Bool
 is_state r words =
     let h = head words in
-    let whole = is_open_head r h words && (may_match_wait r h words && has_open_tail h (drop 20 words)) in
+    let tail = drop (head_len r.select) words in
+    let whole = is_open_head r h words && (may_match_wait r h words && (is_chain_end r.select h words && has_open_tail h tail)) in
     nat_le h.taken (2 ^ 62)
     && (slice_index words 18 == 0 && (slice_index words 19 == 0
-    && (if h.kind == 0 then whole else is_reported h words)))
+    && (if h.kind == 0 then whole else is_reported r.select h words)))
 
 -- ---- the kind of the fault
 
 -- 51 is a malformed state, 52 one of another pattern, table or setting
 abbrev pub state_fault : Resumed → List ℕ → Option ℕ
 state_fault r words =
-    if not (has_form words) then Some 51 else (if not (is_for r words) then Some 52 else (if is_state r words then None else Some 51))
+    if not (has_form r.select words) then Some 51 else (if not (is_for r words) then Some 52 else (if is_state r words then None else Some 51))

@@ -8,6 +8,7 @@ use Rattle.collation_pattern.specs.Border.{border}
 use Rattle.collation_search.specs.ByClusters.{PlacedKey}
 use Rattle.collation_search.specs.declared.walk.KeyPlace.{KeyPlace}
 use Rattle.collation_search.specs.declared.walk.Walk.{Walk}
+use Rattle.collation_search.specs.Selecting.{selected, remembered}
 use Rattle.collation_search.specs.ByClusters.{text_begin, has_keys, found, placed}
 
 -- where a key stands, without the key
@@ -15,8 +16,8 @@ abbrev pub place_of : PlacedKey → KeyPlace
 place_of k = record { start = k.start; is_first = k.is_first }
 
 -- A walk over these items by this pattern, which has handed out these ranges: with any items that follow, the clusters are
--- those `before`, which have ended, and those from the current one on. The ranges are those that end with one of the former.
--- Of the last keys it has where they stand, of as many as the state says at least.
+-- those `before`, which have ended, and those from the current one on. The ranges are those that end with one of the former, or
+-- the chain of them. Of the last keys it has where they stand, of as many as the state says at least.
 pub record WalksOver (pattern : List Key) (items : List Item) (ranges : List (ℕ × ℕ)) (walk : Walk) : Type 0 where
   pub before : List Cluster
   pub current : Cluster
@@ -27,4 +28,5 @@ pub record WalksOver (pattern : List Key) (items : List Item) (ranges : List (�
   pub capacity : walk.places.capacity ≡ length pattern
   pub few : length walk.places.items ≤ length pattern
   pub places : keep_last walk.state walk.places.items ≡ keep_last walk.state (map place_of (placed (before ++ current ∷ [])))
-  pub handed_out : ranges ≡ found pattern before current.start
+  pub handed_out : ranges ≡ selected walk.select (found pattern before current.start)
+  pub last_end : walk.last_end ≡ remembered walk.select ranges

@@ -52,6 +52,7 @@ impl Finder {
         ensures open { self.new.window.has_ended ≡ false }
         ensures longest { self.new.longest_key ≡ self.old.longest_key }
         ensures pattern_len { self.new.pattern_len ≡ self.old.pattern_len }
+        ensures select { self.new.walk.select ≡ self.old.walk.select }
         ensures callable { F.IsAlwaysCallable sink.new }
     {
         laws_of_points();
@@ -78,6 +79,7 @@ impl Finder {
         ensures open { self.new.window.has_ended ≡ false }
         ensures longest { self.new.longest_key ≡ self.old.longest_key }
         ensures pattern_len { self.new.pattern_len ≡ self.old.pattern_len }
+        ensures select { self.new.walk.select ≡ self.old.walk.select }
     {
         if let Some((lone, start)) = self.lone_front(query) {
             self.take_after_lone(query.pattern, &lone, start, c, offset, found);
@@ -134,6 +136,7 @@ impl Finder {
         ensures open { self.new.window.has_ended ≡ false }
         ensures longest { self.new.longest_key ≡ self.old.longest_key }
         ensures pattern_len { self.new.pattern_len ≡ self.old.pattern_len }
+        ensures select { self.new.walk.select ≡ self.old.walk.select }
     {
         laws_of_points();
         laws_of_reordering();
@@ -166,6 +169,7 @@ fn walk_start(walk: &mut Walk, pattern: &Pattern, begins: bool, start: u64) -> O
     ensures walks { (before : List Item) (ranges : List (ℕ × ℕ)) → WalksOver pattern.now.keys before ranges walk.old
         → WalksOver pattern.now.keys (before ++ (if begins then Item.ClusterStart start ∷ [] else [])) (ranges ++ option_to_list result) walk.new }
     ensures state { walk.new.state ≤ length pattern.now.keys }
+    ensures select { walk.new.select ≡ walk.old.select }
 {
     if begins {
         walk.take(pattern, Item::ClusterStart(start))
@@ -181,6 +185,7 @@ fn walk_key(walk: &mut Walk, pattern: &Pattern, key: Option<Key>)
     ensures walks { (before : List Item) (ranges : List (ℕ × ℕ)) → WalksOver pattern.now.keys before ranges walk.old
         → WalksOver pattern.now.keys (before ++ map (λ k. Item.Element k) (option_to_list key)) ranges walk.new }
     ensures state { walk.new.state ≤ length pattern.now.keys }
+    ensures select { walk.new.select ≡ walk.old.select }
 {
     if let Some(key) = key {
         walk.take(pattern, Item::Element(key));

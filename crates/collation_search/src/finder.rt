@@ -6,6 +6,7 @@ ghost use Rattle.nfd_points.specs.declared.limits.TheConstants.{MOST_GIVEN};
 ghost use Rattle.collation_table.specs.declared.limits.TheConstants.{MOST_STRING_POINTS};
 
 use crate::matching::{Found, cut_units, keep, push_points};
+use crate::select::Select;
 use crate::walk::Walk;
 use arrayvec::ArrayVec;
 use collation_elements::{Item, MOST_ITEMS, Weigher, Window, closed_points_append};
@@ -49,6 +50,7 @@ impl Finder {
     ghost use Rattle.collation_search.specs.Finding.{FinderStandsFor};
     ghost use Rattle.collation_elements.specs.Clusters.{clusters_from};
     ghost use Rattle.collation_search.specs.ByClusters.{text_begin, found as all_found};
+    ghost use Rattle.collation_search.specs.Selecting.{selected};
     ghost use Rattle.collation_search.specs.Walks.{WalksOver};
 
     /// A finder at the beginning of a text.
@@ -56,18 +58,20 @@ impl Finder {
         alloc: Global,
         table: &W,
         pattern: &Pattern,
+        select: Select,
     ) -> Result<Finder, AllocError>
         ensures stands { IfOk result (λ f. FinderStandsFor (W.table table.now) pattern.now f [] []) }
         ensures open { IfOk result (λ f. f.window.has_ended ≡ false) }
         ensures longest { IfOk result (λ f. f.longest_key ≡ longest_key_of (W.table table.now)) }
         ensures pattern_len { IfOk result (λ f. f.pattern_len ≡ length pattern.now.keys) }
+        ensures select { IfOk result (λ f. f.walk.select ≡ select) }
     {
         let longest_key = table.longest_key();
         Ok(Finder {
             reorder: Reorder::new(alloc),
             window: Window::with_capacity(alloc, longest_key)?,
             weigher: Weigher::new(pattern.strength(), pattern.variable()),
-            walk: Walk::new(alloc, pattern)?,
+            walk: Walk::new(alloc, pattern, select)?,
             longest_key,
             pattern_len: pattern.len(),
             given: ArrayVec::new(),
@@ -106,6 +110,7 @@ impl Finder {
         ensures open { self.new.window.has_ended ≡ false }
         ensures longest { self.new.longest_key ≡ self.old.longest_key }
         ensures pattern_len { self.new.pattern_len ≡ self.old.pattern_len }
+        ensures select { self.new.walk.select ≡ self.old.walk.select }
     {
         closed_points_append();
         laws_of_faults();
@@ -137,6 +142,7 @@ impl Finder {
         ensures few { array_vec_len found.new ≤ longest_key_of (W.table table.now) + 30 }
         ensures longest { self.new.longest_key ≡ self.old.longest_key }
         ensures pattern_len { self.new.pattern_len ≡ self.old.pattern_len }
+        ensures select { self.new.walk.select ≡ self.old.walk.select }
     {
         self.reorder.finish(&mut self.given);
         push_points(&mut self.window, self.given.as_slice());
@@ -156,7 +162,7 @@ impl Finder {
     pub(crate) fn last(&self, pattern: &Pattern, end: u64, found: &mut Found)
         requires { array_vec_len found.old < 128 }
         ensures { (items : List _) (ranges : List _) → WalksOver pattern.now.keys items (ranges ++ found.old.items) self.now.walk
-            → ranges ++ found.new.items ≡ all_found pattern.now.keys (clusters_from text_begin items) end }
+            → ranges ++ found.new.items ≡ selected self.now.walk.select (all_found pattern.now.keys (clusters_from text_begin items) end) }
     {
         let range = self.walk.end(pattern, end);
         keep(found, range);

@@ -8,6 +8,7 @@ ghost use Rattle.nfd_points.specs.PointFaults.{point_fault};
 ghost use Rattle.collation_table.specs.Table.{longest_mapped as longest_key_of};
 ghost use Rattle.collation_search.specs.GoodPrefix.{seen as seen_of, byte_fault as byte_fault_of};
 ghost use Rattle.collation_search.specs.Indexing.{first_range as first_range_of, IsFirstOf, HasRead};
+ghost use Rattle.collation_search.specs.declared.select.Select.TheVariants.{All};
 ghost use Rattle.collation_search.specs.Search.{IsCompiledFrom, answer_to};
 
 use crate::bridge::matches_by_clusters;
@@ -15,6 +16,7 @@ use crate::faults::TextFault;
 use crate::finder::Finder;
 use crate::matching::Found;
 use crate::search::MOST_BYTES;
+use crate::select::Select;
 use collation_pattern::Pattern;
 use collation_table::Weights;
 use nfd_points::laws::laws_of_faults;
@@ -33,14 +35,14 @@ pub fn index<W: Weights>(
     pattern: &Pattern,
     text: &[u8],
 ) -> Result<Option<(u64, u64)>, TextFault>
-    ensures first { (p : List ℕ) → IsCompiledFrom (record { table = W.table table.now; pattern = pattern.now }) p
-        → IsFirstOf (answer_to (record { table = W.table table.now; pattern = pattern.now }) p text.now) result }
+    ensures first { (p : List ℕ) → IsCompiledFrom (record { table = W.table table.now; pattern = pattern.now; select = All }) p
+        → IsFirstOf (answer_to (record { table = W.table table.now; pattern = pattern.now; select = All }) p text.now) result }
 {
     matches_by_clusters(table);
     whole_characters_are_the_longest_text();
     laws_of_faults();
     let _some = pattern.len();
-    let Ok(mut finder) = Finder::new(alloc, table, pattern) else {
+    let Ok(mut finder) = Finder::new(alloc, table, pattern, Select::All) else {
         return Err(TextFault {
             kind: TextFault::NO_MEMORY,
             offset: 0,
@@ -94,6 +96,7 @@ fn find_first<W: Weights>(
     ensures open { finder.new.window.has_ended ≡ false }
     ensures longest { finder.new.longest_key ≡ finder.old.longest_key }
     ensures pattern_len { finder.new.pattern_len ≡ finder.old.pattern_len }
+    ensures select { finder.new.walk.select ≡ finder.old.walk.select }
 {
     let mut rest = text.char_indices();
     while let Some((at, c)) = rest.next() {

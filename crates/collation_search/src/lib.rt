@@ -28,6 +28,7 @@ mod resuming;
 mod resuming_walk;
 mod saving;
 mod search;
+mod select;
 mod state_points;
 #[cfg(test)]
 mod state_tests;
@@ -46,3 +47,4 @@ pub use crate::lag::{answers_in_time, matches_in_time, ranges_in_time};
 pub use crate::matching::{Found, MOST_FOUND};
 pub use crate::pieces::{PiecesSearched, search_in_pieces};
 pub use crate::search::{MOST_BYTES, Search};
+pub use crate::select::Select;

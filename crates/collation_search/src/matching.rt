@@ -63,6 +63,7 @@ fn walk_over(walk: &mut Walk, pattern: &Pattern, items: &[Item], found: &mut Fou
         → WalksOver pattern.now.keys (before ++ items.now) (ranges ++ found.new.items) walk.new }
     ensures few { array_vec_len found.new ≤ array_vec_len found.old + length (item_starts items.now) }
     ensures state { walk.new.state ≤ length pattern.now.keys }
+    ensures select { walk.new.select ≡ walk.old.select }
 {
     for item in items {
         let range = walk.take(pattern, *item);
@@ -95,6 +96,7 @@ pub(crate) fn cut_units<W: Weights>(
     ensures last { window.old.has_ended ≡ false → is_closed window.old.points ≡ true → is_closed window.new.points ≡ true }
     ensures all { window.old.has_ended ≡ true → window.new.points ≡ [] }
     ensures state { walk.new.state ≤ length pattern.now.keys }
+    ensures select { walk.new.select ≡ walk.old.select }
 {
     while let Some(unit) = window.next_unit(table) {
         weigher.take(&unit, items);

@@ -1,14 +1,15 @@
 //! A whole search over a text in pieces, saved and resumed after each.
-ghost use Rattle.std.specs.Prelude.{◌≡◌, ℕ, ◌+◌, ◌*◌, ◌≤◌, List, ◌++◌, length, IfOk};
+ghost use Rattle.std.specs.Prelude.{◌≡◌, ℕ, ◌*◌, ◌≤◌, List, ◌++◌, length, IfOk};
 ghost use Rattle.std.specs.List.{FoldsTo};
-ghost use Rattle.collation_table.specs.Table.{longest_mapped};
 ghost use Rattle.collation_search.specs.Pieces.{joined, IsUnderWay};
+ghost use Rattle.collation_search.specs.Saving.{most_records};
 ghost use Rattle.collation_search.specs.Search.{Sought, sought, IsCompiledFrom, answer_to};
 
 use crate::faults::{StateFault, TextFault};
 use crate::feed::hand_out;
 use crate::matching::Found;
 use crate::search::Search;
+use crate::select::Select;
 use crate::states::RECORD_WORDS;
 use collation_pattern::Pattern;
 use collation_table::Weights;
@@ -23,7 +24,8 @@ pub struct PiecesSearched {
     pub most_records: usize,
 }
 
-/// Searches a text in pieces, of any number and size, and calls the sink once for each range of the answer, in order. After each
+/// Searches a text in pieces, of any number and size, and calls the sink once for each range of the answer, or of the chain of
+/// them, in order. After each
 /// piece the search is saved as words and dropped, and a search that is resumed from these words takes the next piece. The sink
 /// must take any two numbers.
 ///
@@ -34,17 +36,18 @@ pub fn search_in_pieces<W: Weights, F: FnMut(u64, u64)>(
     alloc: Global,
     table: &W,
     pattern: &Pattern,
+    select: Select,
     pieces: &[&[u8]],
     sink: &mut F,
 ) -> Result<PiecesSearched, AllocError>
     requires { F.IsAlwaysCallable sink.old }
-    ensures answer { (text : List ℕ) → IsCompiledFrom (record { table = W.table table.now; pattern = pattern.now }) text
+    ensures answer { (text : List ℕ) → IsCompiledFrom (record { table = W.table table.now; pattern = pattern.now; select = select }) text
         → IfOk result (λ told. (found : List (ℕ × ℕ)) × FoldsTo (λ f range g. F.step f range.0 range.1 tt g) sink.old found sink.new
-        × (answer_to (record { table = W.table table.now; pattern = pattern.now }) text (joined pieces.now) ≡ record { ranges = found; fault = told.fault })) }
-    ensures few { IfOk result (λ told. told.most_records ≤ length pattern.now.keys + longest_mapped (W.table table.now) + 35) }
+        × (answer_to (record { table = W.table table.now; pattern = pattern.now; select = select }) text (joined pieces.now) ≡ record { ranges = found; fault = told.fault })) }
+    ensures few { IfOk result (λ told. told.most_records ≤ most_records (record { table = W.table table.now; pattern = pattern.now; select = select })) }
     ensures callable { F.IsAlwaysCallable sink.new }
 {
-    let mut search = Search::new(alloc, table, pattern)?;
+    let mut search = Search::new_with(alloc, table, pattern, select)?;
     let mut words = Vec::new(alloc);
     let mut most_records = 0;
     for piece in pieces {
@@ -79,15 +82,16 @@ fn take_piece<'a, W: Weights, F: FnMut(u64, u64)>(
         × ((s : Sought) (taken : List ℕ) (handed : List (ℕ × ℕ)) → IsUnderWay search.old s taken handed
         → IsUnderWay search.new s (taken ++ piece.now) (handed ++ found))) }
     ensures few { IfOk result (λ records. (length words.new.items ≡ 4 * records)
-        × (records ≤ length (sought search.old).pattern.keys + longest_mapped (sought search.old).table + 35)) }
+        × (records ≤ most_records (sought search.old))) }
     ensures callable { F.IsAlwaysCallable sink.new }
 {
     let table = search.query.table;
     let pattern = search.query.pattern;
+    let select = search.finder.walk.select;
     let _fault = search.feed(piece, sink);
     words.clear();
     search.save(words)?;
-    match Search::resume(alloc, table, pattern, words) {
+    match Search::resume_with(alloc, table, pattern, select, words) {
         Ok(resumed) => {
             *search = resumed;
             Ok(words.len() / RECORD_WORDS)

@@ -6,6 +6,7 @@ ghost use Rattle.nfd_points.specs.Reordering.{IsSoundPoint};
 ghost use Rattle.collation_table.specs.declared.limits.TheConstants.{MOST_STRING_POINTS};
 ghost use Rattle.collation_table.specs.Table.{longest_mapped};
 ghost use Rattle.collation_search.specs.Resuming.{sizes_of, IsRestored};
+ghost use Rattle.collation_search.specs.Restoring.{last_end_in};
 ghost use Rattle.collation_search.specs.StateTests as tests;
 
 use crate::faults::{StateFault, TextFault};
@@ -13,10 +14,11 @@ use crate::finder::Finder;
 use crate::matching::push_points;
 use crate::saving::HEAD_WORDS;
 use crate::search::{MOST_BYTES, Query, Search};
+use crate::select::Select;
 use crate::state_points::{may_be_in_window, may_wait, read_points};
 use crate::states::{
-    Head, RECORD_WORDS, Resumed, are_places, bytes_in, has_form, is_for, is_open_head, is_reported,
-    may_match_wait, read_head,
+    Head, RECORD_WORDS, Resumed, are_places, bytes_in, has_form, head_len, is_chain_end, is_for,
+    is_open_head, is_reported, may_match_wait, read_head,
 };
 use crate::walk::Walk;
 use arrayvec::ArrayVec;
@@ -43,8 +45,8 @@ fn parts<'a>(head: &Head, words: &'a [u64]) -> (&'a [u64], &'a [u64], &'a [u64])
 }
 
 /// What a search is resumed with.
-fn sizes<W: Weights>(table: &W, pattern: &Pattern) -> Resumed
-    ensures { result ≡ sizes_of (W.table table.now) pattern.now }
+fn sizes<W: Weights>(table: &W, pattern: &Pattern, select: Select) -> Resumed
+    ensures { result ≡ sizes_of (record { table = W.table table.now; pattern = pattern.now; select = select }) }
 {
     Resumed {
         pattern_len: pattern.len(),
@@ -52,6 +54,7 @@ fn sizes<W: Weights>(table: &W, pattern: &Pattern) -> Resumed
         most_elements: table.most_elements(),
         strength: pattern.strength(),
         variable: pattern.variable(),
+        select,
     }
 }
 
@@ -68,8 +71,20 @@ fn window_of(alloc: Global, longest_key: usize, points: &[Point]) -> Result<Wind
     Ok(window)
 }
 
+/// Where the last range of a chain ends, by the record after the first five.
+fn last_end_in(select: Select, words: &[u64]) -> u64
+    requires { tests.head_len select ≤ length words.now }
+    ensures { result ≡ last_end_in select words.now }
+{
+    match select {
+        Select::All => 0,
+        Select::Chain => words[HEAD_WORDS],
+    }
+}
+
 impl Finder {
-    /// The finder that the words after the first five records say; `None` where no search holds such a one.
+    /// The finder that a state says; `None` where no search holds such a one. Of a chain the last range that was handed out ends at
+    /// the byte offset `last_end`, and `words` are those of the places of keys and of the points.
     ///
     /// # Errors
     ///
@@ -78,6 +93,8 @@ impl Finder {
         alloc: Global,
         table: &W,
         pattern: &Pattern,
+        select: Select,
+        last_end: u64,
         head: &Head,
         words: &[u64],
     ) -> Result<Option<Finder>, AllocError>
@@ -87,7 +104,7 @@ impl Finder {
         requires held { head.now.held_len ≤ head.now.taken }
         requires records { 4 * (head.now.state + (head.now.window_len + head.now.waiting_len)) ≡ length words.now }
         ensures right { IfOk result (λ read. tests.has_open_tail head.now words.now ≡ is_some read) }
-        ensures restored { IfOk result (λ read. IfSome read (IsRestored (W.table table.now) pattern.now head.now words.now)) }
+        ensures restored { IfOk result (λ read. IfSome read (IsRestored (record { table = W.table table.now; pattern = pattern.now; select = select }) head.now last_end words.now)) }
         ensures longest { IfOk result (λ read. IfSome read (λ f. f.longest_key ≡ longest_mapped (W.table table.now))) }
         ensures pattern_len { IfOk result (λ read. IfSome read (λ f. f.pattern_len ≡ length pattern.now.keys)) }
     {
@@ -119,6 +136,8 @@ impl Finder {
                 head.state as usize,
                 head.start,
                 has_keys,
+                select,
+                last_end,
                 places,
             )?,
             longest_key,
@@ -135,33 +154,56 @@ impl<'a, W: Weights> Search<'a, W> {
     ghost use Rattle.collation_search.specs.Search.{sought, HasReported};
     ghost use Rattle.collation_search.specs.StateTests.{state_fault};
     ghost use Rattle.collation_search.specs.Resuming.{GoesOn, BeginsWithFault, IsRefused, KeepsSaved};
+    ghost use Rattle.collation_search.specs.declared.select.Select.TheVariants.{All as AllRanges};
 
-    /// The search that goes on from a state: `words` are those that `save` appended, and the table and the pattern are the same
-    /// as then. It goes on exactly as the one that was saved; from a state that was saved after a fault it reports that fault.
-    /// Of other words that pass the tests of a state nothing is said of the ranges.
+    /// The search for all minimal matches that goes on from a state, as [`Search::resume_with`] gives it.
     ///
     /// # Errors
     ///
-    /// 51 where the words are no state, 52 where they are one of another pattern, table, strength or variable weighting, and
-    /// 53 where memory was refused.
+    /// Those of [`Search::resume_with`].
     pub fn resume(
         alloc: Global,
         table: &'a W,
         pattern: &'a Pattern,
         words: &[u64],
     ) -> Result<Self, StateFault>
-        ensures goes_on { IfOk result (λ s. GoesOn s (record { table = W.table table.now; pattern = pattern.now }) words.now) }
+        ensures goes_on { IfOk result (λ s. GoesOn s (record { table = W.table table.now; pattern = pattern.now; select = AllRanges }) words.now) }
         ensures begins { IfOk result (λ s. BeginsWithFault s (tests.head words.now)) }
-        ensures accepted { OnOk result (state_fault (sizes_of (W.table table.now) pattern.now) words.now ≡ None) }
-        ensures refused { IfErr result (λ f. IsRefused (sizes_of (W.table table.now) pattern.now) words.now f.kind) }
-        ensures kept { KeepsSaved result (record { table = W.table table.now; pattern = pattern.now }) words.now }
+        ensures accepted { OnOk result (state_fault (sizes_of (record { table = W.table table.now; pattern = pattern.now; select = AllRanges })) words.now ≡ None) }
+        ensures refused { IfErr result (λ f. IsRefused (sizes_of (record { table = W.table table.now; pattern = pattern.now; select = AllRanges })) words.now f.kind) }
+        ensures kept { KeepsSaved result (record { table = W.table table.now; pattern = pattern.now; select = AllRanges }) words.now }
+    {
+        Search::resume_with(alloc, table, pattern, Select::All, words)
+    }
+
+    /// The search that goes on from a state: `words` are those that `save` appended, and the table, the pattern and which ranges
+    /// are handed out are the same as then. It goes on exactly as the one that was saved; from a state that was saved after a
+    /// fault it reports that fault. Of other words that pass the tests of a state nothing is said of the ranges.
+    ///
+    /// # Errors
+    ///
+    /// 51 where the words are no state, or one of the other form: the first form is of a search for all ranges, the second one of a
+    /// search for a chain. 52 where they are one of another pattern, table, strength or variable weighting, and 53 where memory
+    /// was refused.
+    pub fn resume_with(
+        alloc: Global,
+        table: &'a W,
+        pattern: &'a Pattern,
+        select: Select,
+        words: &[u64],
+    ) -> Result<Self, StateFault>
+        ensures goes_on { IfOk result (λ s. GoesOn s (record { table = W.table table.now; pattern = pattern.now; select = select }) words.now) }
+        ensures begins { IfOk result (λ s. BeginsWithFault s (tests.head words.now)) }
+        ensures accepted { OnOk result (state_fault (sizes_of (record { table = W.table table.now; pattern = pattern.now; select = select })) words.now ≡ None) }
+        ensures refused { IfErr result (λ f. IsRefused (sizes_of (record { table = W.table table.now; pattern = pattern.now; select = select })) words.now f.kind) }
+        ensures kept { KeepsSaved result (record { table = W.table table.now; pattern = pattern.now; select = select }) words.now }
     {
         clusters_are_parts();
         laws_of_points();
         laws_of_reordering();
         whole_characters_are_the_longest_text();
-        let sizes = sizes(table, pattern);
-        if !has_form(words) {
+        let sizes = sizes(table, pattern, select);
+        if !has_form(select, words) {
             return Err(StateFault {
                 kind: StateFault::MALFORMED,
             });
@@ -191,12 +233,12 @@ impl<'a, W: Weights> Search<'a, W> {
         sizes: &Resumed,
         words: &[u64],
     ) -> Result<Option<Self>, AllocError>
-        requires sizes { sizes.now ≡ sizes_of (W.table table.now) pattern.now }
-        requires form { tests.has_form words.now ≡ true }
-        requires long { 20 ≤ length words.now }
+        requires sizes { sizes.now ≡ sizes_of (record { table = W.table table.now; pattern = pattern.now; select = sizes.now.select }) }
+        requires form { tests.has_form sizes.now.select words.now ≡ true }
+        requires long { tests.head_len sizes.now.select ≤ length words.now }
         requires same { tests.is_for sizes.now words.now ≡ true }
         ensures right { IfOk result (λ read. tests.is_state sizes.now words.now ≡ is_some read) }
-        ensures goes_on { IfOk result (λ read. IfSome read (λ s. GoesOn s (record { table = W.table table.now; pattern = pattern.now }) words.now)) }
+        ensures goes_on { IfOk result (λ read. IfSome read (λ s. GoesOn s (record { table = W.table table.now; pattern = pattern.now; select = sizes.now.select }) words.now)) }
         ensures begins { IfOk result (λ read. IfSome read (λ s. BeginsWithFault s (tests.head words.now))) }
     {
         clusters_are_parts();
@@ -204,19 +246,25 @@ impl<'a, W: Weights> Search<'a, W> {
         laws_of_reordering();
         whole_characters_are_the_longest_text();
         let head = read_head(words);
+        let select = sizes.select;
         if head.taken > MOST_BYTES || words[18] != 0 || words[19] != 0 {
             return Ok(None);
         }
         if head.kind != 0 {
-            return Search::restore_reported(alloc, table, pattern, &head, words);
+            return Search::restore_reported(alloc, table, pattern, select, &head, words);
         }
-        if !is_open_head(sizes, &head, words) || !may_match_wait(sizes, &head, words) {
+        if !is_open_head(sizes, &head, words)
+            || !may_match_wait(sizes, &head, words)
+            || !is_chain_end(select, &head, words)
+        {
             return Ok(None);
         }
         let Some(held) = bytes_in(head.held_len, head.held) else {
             return Ok(None);
         };
-        let Some(finder) = Finder::restore(alloc, table, pattern, &head, &words[HEAD_WORDS..])?
+        let last_end = last_end_in(select, words);
+        let tail = &words[head_len(select)..];
+        let Some(finder) = Finder::restore(alloc, table, pattern, select, last_end, &head, tail)?
         else {
             return Ok(None);
         };
@@ -237,19 +285,20 @@ impl<'a, W: Weights> Search<'a, W> {
         alloc: Global,
         table: &'a W,
         pattern: &'a Pattern,
+        select: Select,
         head: &Head,
         words: &[u64],
     ) -> Result<Option<Self>, AllocError>
-        requires long { 20 ≤ length words.now }
+        requires long { tests.head_len select ≤ length words.now }
         requires few { head.now.taken ≤ most_bytes }
-        ensures right { IfOk result (λ read. tests.is_reported head.now words.now ≡ is_some read) }
+        ensures right { IfOk result (λ read. tests.is_reported select head.now words.now ≡ is_some read) }
         ensures reported { IfOk result (λ read. IfSome read (λ s. HasReported s (record { kind = head.now.kind; offset = head.now.fault_offset }))) }
-        ensures sought { IfOk result (λ read. IfSome read (λ s. sought s ≡ record { table = W.table table.now; pattern = pattern.now })) }
+        ensures sought { IfOk result (λ read. IfSome read (λ s. sought s ≡ record { table = W.table table.now; pattern = pattern.now; select = select })) }
     {
-        if !is_reported(head, words) {
+        if !is_reported(select, head, words) {
             return Ok(None);
         }
-        let mut search = Search::new(alloc, table, pattern)?;
+        let mut search = Search::new_with(alloc, table, pattern, select)?;
         search.fault = Some(TextFault {
             kind: head.kind as u8,
             offset: head.fault_offset,

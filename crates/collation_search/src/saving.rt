@@ -2,30 +2,28 @@
 //!
 //! A state is a list of records of four words. Its first five records have its form, the sizes of the pattern and the table, the
 //! settings, the bytes taken, the fault, the bytes held, the current cluster, and how many records follow: the places of the last
-//! keys, the points in the window, and the points that wait.
+//! keys, the points in the window, and the points that wait. In the second form, that of a search for a chain, a sixth record says
+//! where the last range ends that was handed out.
 
 ghost use Rattle.std.specs.Prelude.{◌≡◌, ◌+◌, ◌≤◌, ◌++◌, length, OnOk, OnErr};
-ghost use Rattle.collation_search.specs.State.{strength_word, variable_word, number_of, match_waits, head_words, words_of, place_words, point_words, kept_places, place_record, point_record};
-ghost use Rattle.collation_table.specs.Table.{longest_mapped};
+ghost use Rattle.collation_search.specs.State.{form_word, strength_word, variable_word, number_of, match_waits, head_words, chain_words, words_of, place_words, point_words, kept_places, place_record, point_record};
 ghost use Rattle.collation_search.specs.Search.{sought};
-ghost use Rattle.collation_search.specs.Saving.{BeginsWith, HasRecords};
+ghost use Rattle.collation_search.specs.Saving.{BeginsWith, HasRecords, most_records};
 
 use crate::search::Search;
+use crate::select::Select;
 use crate::walk::{KeyPlace, Walk};
 use collation_elements::{Strength, Variable, Window};
 use collation_table::Weights;
 use nfd_points::Point;
 use std::alloc::AllocError;
 
-/// The form of the states that `save` gives.
-pub(crate) const FORM: u64 = 1;
-
 /// How many words the first five records have.
 pub(crate) const HEAD_WORDS: usize = 20;
 
 impl<'a, W: Weights> Search<'a, W> {
     /// Appends what the search holds to `words`, as records of four words: at most as many as the pattern has keys and the
-    /// table's longest key code points, and 35 more, however long the text so far is.
+    /// table's longest key code points, and 35 more, or 36 of a search for a chain, however long the text so far is.
     ///
     /// # Errors
     ///
@@ -33,7 +31,7 @@ impl<'a, W: Weights> Search<'a, W> {
     pub fn save(&self, words: &mut Vec<u64>) -> Result<(), AllocError>
         ensures saved { OnOk result (words.new.items ≡ words.old.items ++ words_of self.now) }
         ensures kept { OnErr result (words.new.items ≡ words.old.items) }
-        ensures few { HasRecords (words_of self.now) (length (sought self.now).pattern.keys + longest_mapped (sought self.now).table + 35) }
+        ensures few { HasRecords (words_of self.now) (most_records (sought self.now)) }
     {
         let before = words.len();
         let saved = self.append_state(words);
@@ -47,9 +45,10 @@ impl<'a, W: Weights> Search<'a, W> {
     fn append_state(&self, words: &mut Vec<u64>) -> Result<(), AllocError>
         ensures saved { OnOk result (words.new.items ≡ words.old.items ++ words_of self.now) }
         ensures begun { OnErr result (BeginsWith words.old.items words.new.items) }
-        ensures few { HasRecords (words_of self.now) (length (sought self.now).pattern.keys + longest_mapped (sought self.now).table + 35) }
+        ensures few { HasRecords (words_of self.now) (most_records (sought self.now)) }
     {
         words.extend_from_slice(&self.head())?;
+        self.append_last_end(words)?;
         if self.fault.is_some() {
             return Ok(());
         }
@@ -60,15 +59,34 @@ impl<'a, W: Weights> Search<'a, W> {
         Ok(())
     }
 
+    /// Appends, of a search for a chain, the record that says where the last range ends that was handed out; after a fault it
+    /// says nothing.
+    fn append_last_end(&self, words: &mut Vec<u64>) -> Result<(), AllocError>
+        ensures saved { OnOk result (words.new.items ≡ words.old.items ++ chain_words self.now.finder.walk self.now.fault) }
+        ensures kept { OnErr result (words.new.items ≡ words.old.items) }
+    {
+        match self.finder.walk.select {
+            Select::All => Ok(()),
+            Select::Chain => {
+                let last_end = match self.fault {
+                    Some(_) => 0,
+                    None => self.finder.walk.last_end,
+                };
+                words.extend_from_slice(&[last_end, 0, 0, 0])
+            }
+        }
+    }
+
     /// The first five records.
     fn head(&self) -> [u64; 20]
         ensures words { result ≡ head_words (W.table self.now.query.table.now) self.now.query.pattern.now self.now.cut self.now.finder self.now.fault }
-        ensures few { HasRecords (words_of self.now) (length (sought self.now).pattern.keys + longest_mapped (sought self.now).table + 35) }
+        ensures few { HasRecords (words_of self.now) (most_records (sought self.now)) }
     {
         let finder = &self.finder;
         let waiting = finder.reorder.waiting();
         let pattern = self.query.pattern;
         let table = self.query.table;
+        let form = word_of_select(finder.walk.select);
         let m = pattern.len() as u64;
         let longest_key = table.longest_key() as u64;
         let most_elements = table.most_elements() as u64;
@@ -76,7 +94,7 @@ impl<'a, W: Weights> Search<'a, W> {
         let variable = word_of_variable(pattern.variable());
         if let Some(fault) = self.fault {
             return [
-                FORM,
+                form,
                 m,
                 longest_key,
                 most_elements,
@@ -100,7 +118,7 @@ impl<'a, W: Weights> Search<'a, W> {
         }
         let held = self.cut.held();
         [
-            FORM,
+            form,
             m,
             longest_key,
             most_elements,
@@ -121,6 +139,16 @@ impl<'a, W: Weights> Search<'a, W> {
             0,
             0,
         ]
+    }
+}
+
+/// The form of the states of a search.
+pub(crate) fn word_of_select(select: Select) -> u64
+    ensures { result ≡ form_word select }
+{
+    match select {
+        Select::All => 1,
+        Select::Chain => 2,
     }
 }
 

@@ -11,6 +11,7 @@ use crate::faults::TextFault;
 use crate::finder::Finder;
 use crate::lag::answers_in_time;
 use crate::matching::Found;
+use crate::select::Select;
 use collation_pattern::Pattern;
 use collation_table::Weights;
 use nfd_points::laws::laws_of_faults;
@@ -57,20 +58,38 @@ impl<'a, W: Weights> Search<'a, W> {
     ghost use Rattle.collation_search.specs.declared.faults.TextFault.{TextFault};
     ghost use Rattle.collation_search.specs.Finding.{FinderStandsFor};
     ghost use Rattle.collation_search.specs.Lag.{code_points_from};
+    ghost use Rattle.collation_search.specs.declared.select.Select.TheVariants.{All};
     ghost use Rattle.collation_search.specs.Search.{HasSearched, HasReported, HasReportedNone, IsCompiledFrom, sought, answer_to, settled_in};
     ghost use Rattle.collation_search.specs.GoodPrefix.{fault as fault_of, is_good_so_far, most_bytes, whole};
 
-    /// A search at the beginning of a text.
+    /// A search at the beginning of a text, for all minimal matches.
     ///
     /// # Errors
     ///
     /// Only where memory was refused.
     pub fn new(alloc: Global, table: &'a W, pattern: &'a Pattern) -> Result<Self, AllocError>
         ensures stands { IfOk result (λ s. HasSearched s [] []) }
-        ensures sought { IfOk result (λ s. sought s ≡ record { table = W.table table.now; pattern = pattern.now }) }
+        ensures sought { IfOk result (λ s. sought s ≡ record { table = W.table table.now; pattern = pattern.now; select = All }) }
+    {
+        Search::new_with(alloc, table, pattern, Select::All)
+    }
+
+    /// A search at the beginning of a text, for all minimal matches or for a chain of them.
+    ///
+    /// # Errors
+    ///
+    /// Only where memory was refused.
+    pub fn new_with(
+        alloc: Global,
+        table: &'a W,
+        pattern: &'a Pattern,
+        select: Select,
+    ) -> Result<Self, AllocError>
+        ensures stands { IfOk result (λ s. HasSearched s [] []) }
+        ensures sought { IfOk result (λ s. sought s ≡ record { table = W.table table.now; pattern = pattern.now; select = select }) }
     {
         let _some = pattern.len();
-        let finder = Finder::new(alloc, table, pattern)?;
+        let finder = Finder::new(alloc, table, pattern, select)?;
         let query = Query::new(table, pattern);
         Ok(Search {
             query,
@@ -98,6 +117,7 @@ impl<'a, W: Weights> Search<'a, W> {
         ensures place { IfErr result (λ f. f.offset ≤ most_bytes) }
         ensures none { OnErr result (found.new.items ≡ []) }
         ensures same { self.new.query ≡ self.old.query }
+        ensures select { self.new.finder.walk.select ≡ self.old.finder.walk.select }
         ensures good { self.new.fault ≡ None }
         ensures few { array_vec_len found.new ≤ longest_key_of (W.table self.old.query.table.now) + 34 }
     {

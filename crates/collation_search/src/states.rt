@@ -6,8 +6,9 @@ ghost use Rattle.std.specs.List.{list_all};
 ghost use Rattle.utf8_cut.specs.Characters.{is_incomplete_or_empty};
 ghost use Rattle.collation_search.specs.StateTests as tests;
 
-use crate::saving::{FORM, HEAD_WORDS, word_of_strength, word_of_variable};
+use crate::saving::{HEAD_WORDS, word_of_select, word_of_strength, word_of_variable};
 use crate::search::MOST_BYTES;
+use crate::select::Select;
 use arrayvec::ArrayVec;
 use collation_elements::{Strength, Variable};
 use nfd_points::MOST_WAITING;
@@ -16,7 +17,7 @@ use utf8_cut::Cut;
 /// How many words a record has.
 pub(crate) const RECORD_WORDS: usize = 4;
 
-/// What a state is resumed with: the sizes of the pattern and the table, and the settings.
+/// What a state is resumed with: the sizes of the pattern and the table, the settings, and which ranges are handed out.
 #[derive(Clone, Copy)]
 pub(crate) struct Resumed {
     pub(crate) pattern_len: usize,
@@ -24,6 +25,7 @@ pub(crate) struct Resumed {
     pub(crate) most_elements: usize,
     pub(crate) strength: Strength,
     pub(crate) variable: Variable,
+    pub(crate) select: Select,
 }
 
 /// The words of the first five records, after the form, the sizes and the settings.
@@ -43,12 +45,25 @@ pub(crate) struct Head {
     pub(crate) waiting_len: u64,
 }
 
-/// Whether there are whole records, five at least, of the form that `save` gives.
-pub(crate) fn has_form(words: &[u64]) -> bool
-    ensures right { result ≡ tests.has_form words.now }
-    ensures long { IsTrue result → 20 ≤ length words.now }
+/// How many words a state has before the places of keys: five records, and of a chain one more.
+pub(crate) fn head_len(select: Select) -> usize
+    ensures right { result ≡ tests.head_len select }
+    ensures long { 20 ≤ result }
 {
-    words.len() >= HEAD_WORDS && words.len() % RECORD_WORDS == 0 && words[0] == FORM
+    match select {
+        Select::All => HEAD_WORDS,
+        Select::Chain => HEAD_WORDS + RECORD_WORDS,
+    }
+}
+
+/// Whether there are whole records, as many as each state has at least, of the form that `save` gives.
+pub(crate) fn has_form(select: Select, words: &[u64]) -> bool
+    ensures right { result ≡ tests.has_form select words.now }
+    ensures long { IsTrue result → tests.head_len select ≤ length words.now }
+{
+    words.len() >= head_len(select)
+        && words.len() % RECORD_WORDS == 0
+        && words[0] == word_of_select(select)
 }
 
 /// Whether the words are of the same sizes and settings.
@@ -126,10 +141,10 @@ fn may_be_held(len: u64, number: u64) -> bool
 
 /// Whether as many records follow as the first five say, no more of each kind than a search can hold.
 fn has_records(resumed: &Resumed, head: &Head, words: &[u64]) -> bool
-    requires { tests.has_form words.now ≡ true }
+    requires { tests.has_form resumed.now.select words.now ≡ true }
     ensures { result ≡ tests.has_records resumed.now head.now words.now }
 {
-    let records = (words.len() / RECORD_WORDS - 5) as u64;
+    let records = ((words.len() - head_len(resumed.select)) / RECORD_WORDS) as u64;
     head.state <= resumed.pattern_len as u64
         && head.window_len <= resumed.longest_key as u64
         && head.waiting_len <= MOST_WAITING as u64
@@ -140,7 +155,7 @@ fn has_records(resumed: &Resumed, head: &Head, words: &[u64]) -> bool
 
 /// Whether the first five records are those of a search that has met no fault.
 pub(crate) fn is_open_head(resumed: &Resumed, head: &Head, words: &[u64]) -> bool
-    requires { tests.has_form words.now ≡ true }
+    requires { tests.has_form resumed.now.select words.now ≡ true }
     ensures { result ≡ tests.is_open_head resumed.now head.now words.now }
 {
     head.fault_offset == 0
@@ -160,19 +175,33 @@ pub(crate) fn may_match_wait(resumed: &Resumed, head: &Head, words: &[u64]) -> b
 {
     head.waits == 0
         || (head.state == resumed.pattern_len as u64
-            && words.get(21).copied() == Some(1)
+            && words.get(head_len(resumed.select) + 1).copied() == Some(1)
             && head.has_keys == 1)
 }
 
+/// Whether the record of a chain says an end that is not after the current cluster's start.
+pub(crate) fn is_chain_end(select: Select, head: &Head, words: &[u64]) -> bool
+    requires { tests.head_len select ≤ length words.now }
+    ensures { result ≡ tests.is_chain_end select head.now words.now }
+{
+    match select {
+        Select::All => true,
+        Select::Chain => words[20] <= head.start
+            && words[21] == 0
+            && words[22] == 0
+            && words[23] == 0,
+    }
+}
+
 /// Whether the words are those of a search that has reported a fault, and hold nothing else.
-pub(crate) fn is_reported(head: &Head, words: &[u64]) -> bool
-    requires { 20 ≤ length words.now }
-    ensures { result ≡ tests.is_reported head.now words.now }
+pub(crate) fn is_reported(select: Select, head: &Head, words: &[u64]) -> bool
+    requires { tests.head_len select ≤ length words.now }
+    ensures { result ≡ tests.is_reported select head.now words.now }
 {
     31 <= head.kind
         && head.kind <= 35
         && head.fault_offset == head.taken
-        && words.len() == HEAD_WORDS
+        && words.len() == head_len(select)
         && are_zero(&words[9..])
 }
 

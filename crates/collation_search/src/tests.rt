@@ -1,6 +1,7 @@
 //! What no clause says: that the walk over a text succeeds where memory is there, the printed fault, and worked texts.
 
 use crate::TextFault;
+use crate::select::Select;
 use crate::walk::Walk;
 use collation_elements::{Item, Key, Strength, Variable};
 use collation_pattern::Pattern;
@@ -33,7 +34,7 @@ fn walk_hands_out_a_range_where_its_last_cluster_ends(rt: HostRuntime) -> Result
     )?;
     let (strength, variable) = (Strength::Three, Variable::NonIgnorable);
     let pattern = Pattern::compile(rt.alloc(), &table, "aa", strength, variable)?;
-    let mut walk = Walk::new(rt.alloc(), &pattern)?;
+    let mut walk = Walk::new(rt.alloc(), &pattern, Select::All)?;
     assert_eq!(rt; walk.take(&pattern, Item::ClusterStart(0)), None);
     assert_eq!(rt; walk.take(&pattern, A), None);
     assert_eq!(rt; walk.end(&pattern, 1), None);

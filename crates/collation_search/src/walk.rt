@@ -4,6 +4,7 @@
 ghost use Rattle.std.specs.Prelude.{ℕ, List, [], ◌++◌, IfOk};
 ghost use Rattle.collation_search.specs.Walks.{WalksOver};
 
+use crate::select::Select;
 use circular_buffer::HeapCircularBuffer;
 use collation_elements::Item;
 use collation_pattern::Pattern;
@@ -29,6 +30,10 @@ pub(crate) struct Walk {
     pub(crate) start: u64,
     /// Whether the current cluster has keys.
     pub(crate) has_keys: bool,
+    /// Which of the ranges it hands out.
+    pub(crate) select: Select,
+    /// Of a chain, where the last range that was handed out ends, in bytes from the beginning of the text; else 0.
+    pub(crate) last_end: u64,
 }
 
 impl Walk {
@@ -37,6 +42,7 @@ impl Walk {
     ghost use Rattle.collation_elements.specs.declared.keys.Item.TheVariants.{ClusterStart};
     ghost use Rattle.collation_elements.specs.Clusters.{clusters_from};
     ghost use Rattle.collation_search.specs.ByClusters.{text_begin, found};
+    ghost use Rattle.collation_search.specs.Selecting.{selected};
     ghost use Rattle.collation_search.specs.Walks.{WalksOver};
 
     /// A walk at the beginning of a text.
@@ -44,15 +50,18 @@ impl Walk {
     /// # Errors
     ///
     /// Only where memory was refused.
-    pub(crate) fn new(alloc: Global, pattern: &Pattern) -> Result<Walk, AllocError>
+    pub(crate) fn new(alloc: Global, pattern: &Pattern, select: Select) -> Result<Walk, AllocError>
         ensures walks { IfOk result (λ walk. WalksOver pattern.now.keys [] [] walk) }
         ensures within { IfOk result (λ walk. walk.state ≤ length pattern.now.keys) }
+        ensures select { IfOk result (λ walk. walk.select ≡ select) }
     {
         Ok(Walk {
             state: 0,
             places: HeapCircularBuffer::with_capacity(alloc, pattern.len())?,
             start: 0,
             has_keys: false,
+            select,
+            last_end: 0,
         })
     }
 
@@ -65,6 +74,7 @@ impl Walk {
             → WalksOver pattern.now.keys items ranges self.old → WalksOver pattern.now.keys (items ++ item ∷ []) (ranges ++ option_to_list result) self.new }
         ensures at_start { IfSome result (λ range. item ≡ ClusterStart range.1) }
         ensures within { self.new.state ≤ length pattern.now.keys }
+        ensures select { self.new.select ≡ self.old.select }
     {
         match item {
             // The first cluster has begun with the text.
@@ -73,6 +83,9 @@ impl Walk {
                 let range = self.end(pattern, start);
                 self.start = start;
                 self.has_keys = false;
+                if range.is_some() && self.select == Select::Chain {
+                    self.last_end = start;
+                }
                 range
             }
             Item::Element(key) => {
@@ -87,13 +100,27 @@ impl Walk {
         }
     }
 
-    /// The range that ends with the current cluster, if that ends at the byte offset `end`: its start and its end, in bytes
-    /// from the beginning of the text, the end not included.
-    ///
-    /// A cluster without keys ends no range, although it leaves the state as it was.
+    /// The range that is handed out if the current cluster ends at the byte offset `end`: its start and its end, in bytes from the
+    /// beginning of the text, the end not included. Of a chain none that begins before the last one ends.
     pub(crate) fn end(&self, pattern: &Pattern, end: u64) -> Option<(u64, u64)>
         ensures found { (items : List Item) (ranges : List (ℕ × ℕ))
-            → WalksOver pattern.now.keys items ranges self.now → ranges ++ option_to_list result ≡ found pattern.now.keys (clusters_from text_begin items) end }
+            → WalksOver pattern.now.keys items ranges self.now
+            → ranges ++ option_to_list result ≡ selected self.now.select (found pattern.now.keys (clusters_from text_begin items) end) }
+        ensures at_end { IfSome result (λ range. range.1 ≡ end) }
+    {
+        let range = self.ended(pattern, end)?;
+        if range.0 < self.last_end {
+            return None;
+        }
+        Some(range)
+    }
+
+    /// The range that ends with the current cluster, if that ends at the byte offset `end`.
+    ///
+    /// A cluster without keys ends no range, although it leaves the state as it was.
+    fn ended(&self, pattern: &Pattern, end: u64) -> Option<(u64, u64)>
+        ensures found { (items : List Item) (ranges : List (ℕ × ℕ)) → (h : WalksOver pattern.now.keys items ranges self.now)
+            → found pattern.now.keys h.before h.current.start ++ option_to_list result ≡ found pattern.now.keys (clusters_from text_begin items) end }
         ensures at_end { IfSome result (λ range. range.1 ≡ end) }
     {
         if !self.has_keys || self.state != pattern.len() {
