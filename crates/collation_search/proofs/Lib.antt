@@ -7,6 +7,7 @@ mod BridgeMinimal
 mod BridgeGrowing
 mod BridgeFlat
 mod BridgeMatches
+pub mod SelectingLemmas
 pub mod WalkSteps
 mod BridgeBorder
 mod FewRanges

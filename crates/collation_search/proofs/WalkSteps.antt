@@ -1,5 +1,5 @@
 -- How a walk by the borders of a pattern goes on: by the start of a cluster, by a key, and to the end.
-use Rattle.std.proofs.Common.{◌≡◌, ℕ, zero, suc, ◌+◌, ◌-◌, ◌≤◌, Bool, true, false, cond, not, nat_lt, ◌==◌, List, [], ◌∷◌, ◌++◌, length, take, drop, map, min, slice_get, Some, None, refl, sym, ap, ◌∙◌, arith, inl, inr, length-append, append_assoc}
+use Rattle.std.proofs.Common.{◌≡◌, ℕ, zero, suc, ◌+◌, ◌-◌, ◌≤◌, Bool, true, false, cond, not, nat_lt, ◌==◌, List, [], ◌∷◌, ◌++◌, length, take, drop, map, min, slice_get, Some, None, refl, sym, ap, ap₂, ◌∙◌, arith, inl, inr, length-append, append_assoc}
 use Rattle.std.proofs.lemmas.Bool.{cond-true, cond-false, cases_Bool, lt-ltb, eqb-true, eq-eqb, ne_eqb}
 use Rattle.std.proofs.lemmas.List.{append-nil, map-append, length-map, drop-drop, drop-append-le, length-drop, length-take-le}
 use Rattle.std.proofs.lemmas.List.Concat.{flat_map-append}
@@ -13,8 +13,10 @@ use Rattle.collation_search.specs.declared.walk.Walk.{Walk}
 use Rattle.collation_search.specs.declared.walk.KeyPlace.{KeyPlace}
 use Rattle.collation_search.specs.ByClusters.{PlacedKey}
 use Rattle.collation_search.specs.ByClusters.{text_begin, has_keys, last_has_keys, ended, found, found_before_last, placed, placed_at, range_from, ended_by_keys}
+use Rattle.collation_search.specs.Selecting.{selected, remembered}
 use Rattle.collation_search.specs.Walks.{place_of, WalksOver}
 use Rattle.collation_search.proofs.BridgeKeys.{same_keys-same}
+use Rattle.collation_search.proofs.SelectingLemmas.{selected_after, selected-append, selected-nil, remembered-nil}
 use Rattle.collation_search.proofs.BridgeGrowing.{found-more, found-begins, before_last-prefix, before_last-begins}
 use Rattle.collation_search.proofs.BridgeFlat.{ended-by_keys}
 use Rattle.collation_search.proofs.BridgeBorder.{ended-by_border, border_up_to-le}
@@ -166,8 +168,8 @@ state-grows pattern k state next within goes =
 -- ---- the walk
 
 pub walks-new : (pattern : List Key) (w : Walk) → w.state ≡ 0 → w.start ≡ 0 → w.has_keys ≡ false → w.places.items ≡ [] → w.places.capacity ≡ length pattern →
-    WalksOver pattern [] [] w
-walks-new pattern w state at none items capacity =
+    w.last_end ≡ 0 → WalksOver pattern [] [] w
+walks-new pattern w state at none items capacity last =
     record {
       before = [];
       current = text_begin;
@@ -178,7 +180,8 @@ walks-new pattern w state at none items capacity =
       capacity = capacity;
       few = omega (arith, ap length items);
       places = ap (keep_last w.state) items;
-      handed_out = refl;
+      handed_out = sym (selected-nil w.select);
+      last_end = last ∙ sym (remembered-nil w.select);
     }
 
 pub walks-within : (pattern : List Key) (items : List Item) (ranges : List (ℕ × ℕ)) (w : Walk) → WalksOver pattern items ranges w → w.state ≤ length pattern
@@ -202,9 +205,13 @@ cond_same : (b : Bool) (xs ys : List (ℕ × ℕ)) → (b ≡ true → xs ≡ ys
 cond_same true xs ys h = h refl
 cond_same false xs ys h = refl
 
+-- the ranges that end with the clusters that have ended
+abbrev pub found_before : {pattern : List Key} {items : List Item} {ranges : List (ℕ × ℕ)} {w : Walk} → (h : WalksOver pattern items ranges w) → List (ℕ × ℕ)
+found_before {pattern} h = found pattern h.before h.current.start
+
 -- the ranges that are found if the current cluster ends there
 ranges_at : {pattern : List Key} {items : List Item} {ranges : List (ℕ × ℕ)} {w : Walk} → (h : WalksOver pattern items ranges w) → (end : ℕ) →
-    found pattern (h.before ++ h.current ∷ []) end ≡ ranges ++ cond w.has_keys (cond (w.state == length pattern) (range_at w.places.items end) []) []
+    found pattern (h.before ++ h.current ∷ []) end ≡ found_before h ++ cond w.has_keys (cond (w.state == length pattern) (range_at w.places.items end) []) []
 ranges_at {pattern} {items} {ranges} {w} h end =
     let cs = h.before ++ h.current ∷ [] in
     let ks = placed cs in
@@ -215,8 +222,7 @@ ranges_at {pattern} {items} {ranges} {w} h end =
     ∙ cond_same (w.state == length pattern) (range_at (keep_last (length pattern) (map place_of ks)) end) (range_at w.places.items end)
     (λ whole. ap (λ (ps : List KeyPlace). range_at ps end) (all_places h (eqb-true w.state (length pattern) whole))) in
     found-more pattern h.before h.current end
-    ∙ ap (λ (rs : List (ℕ × ℕ)). rs ++ ended pattern cs end) (sym h.handed_out)
-    ∙ ap (λ (rs : List (ℕ × ℕ)). ranges ++ rs)
+    ∙ ap (λ (rs : List (ℕ × ℕ)). found_before h ++ rs)
     (ended-last pattern h.before h.current end
     ∙ ap (λ b. cond b (ended_by_keys pattern ks end) []) (sym h.has_keys)
     ∙ ap (λ (rs : List (ℕ × ℕ)). cond w.has_keys rs []) ends)
@@ -227,19 +233,19 @@ all_clusters {pattern} {items} h = ap (clusters_from text_begin) (sym (append-ni
 
 pub walks-end : (pattern : List Key) (items : List Item) (ranges : List (ℕ × ℕ)) (w : Walk) (end : ℕ) (last : List (ℕ × ℕ)) →
     last ≡ cond w.has_keys (cond (w.state == length pattern) (range_at w.places.items end) []) [] →
-    WalksOver pattern items ranges w → ranges ++ last ≡ found pattern (clusters_from text_begin items) end
+    (h : WalksOver pattern items ranges w) → found_before h ++ last ≡ found pattern (clusters_from text_begin items) end
 walks-end pattern items ranges w end last e h =
-    ap (λ (rs : List (ℕ × ℕ)). ranges ++ rs) e ∙ sym (ap (λ (cs : List Cluster). found pattern cs end) (all_clusters h) ∙ ranges_at h end)
+    ap (λ (rs : List (ℕ × ℕ)). found_before h ++ rs) e ∙ sym (ap (λ (cs : List Cluster). found pattern cs end) (all_clusters h) ∙ ranges_at h end)
 
 -- without keys the cluster ends no range, and none is ended where not all of the pattern ends the keys
 pub walks-end_keyless : (pattern : List Key) (items : List Item) (ranges : List (ℕ × ℕ)) (w : Walk) (end : ℕ) → w.has_keys ≡ false →
-    WalksOver pattern items ranges w → ranges ++ [] ≡ found pattern (clusters_from text_begin items) end
+    (h : WalksOver pattern items ranges w) → found_before h ++ [] ≡ found pattern (clusters_from text_begin items) end
 walks-end_keyless pattern items ranges w end none =
     walks-end pattern items ranges w end []
     (sym (cond-false w.has_keys (cond (w.state == length pattern) (range_at w.places.items end) []) [] none))
 
 pub walks-end_short : (pattern : List Key) (items : List Item) (ranges : List (ℕ × ℕ)) (w : Walk) (end : ℕ) → (w.state ≡ length pattern → ⊥) →
-    WalksOver pattern items ranges w → ranges ++ [] ≡ found pattern (clusters_from text_begin items) end
+    (h : WalksOver pattern items ranges w) → found_before h ++ [] ≡ found pattern (clusters_from text_begin items) end
 walks-end_short pattern items ranges w end short =
     walks-end pattern items ranges w end []
     (sym (ap (λ (rs : List (ℕ × ℕ)). cond w.has_keys rs []) (cond-false (w.state == length pattern) (range_at w.places.items end) [] (ne_eqb w.state (length pattern) short))
@@ -250,11 +256,22 @@ walks-end_short pattern items ranges w end short =
     nothing false = refl
 
 pub walks-end_whole : (pattern : List Key) (items : List Item) (ranges : List (ℕ × ℕ)) (w : Walk) (end : ℕ) (last : List (ℕ × ℕ)) → w.has_keys ≡ true → w.state ≡ length pattern →
-    last ≡ range_at w.places.items end → WalksOver pattern items ranges w → ranges ++ last ≡ found pattern (clusters_from text_begin items) end
+    last ≡ range_at w.places.items end → (h : WalksOver pattern items ranges w) → found_before h ++ last ≡ found pattern (clusters_from text_begin items) end
 walks-end_whole pattern items ranges w end last some whole e =
     walks-end pattern items ranges w end last
     (e ∙ sym (cond-true (w.state == length pattern) (range_at w.places.items end) [] (eq-eqb w.state (length pattern) whole))
     ∙ sym (cond-true w.has_keys (cond (w.state == length pattern) (range_at w.places.items end) []) [] some))
+
+-- what is handed out of the ranges that end there
+pub walks-select : (pattern : List Key) (items : List Item) (ranges last : List (ℕ × ℕ)) (w : Walk) (end : ℕ) → (h : WalksOver pattern items ranges w) →
+    found_before h ++ last ≡ found pattern (clusters_from text_begin items) end →
+    ranges ++ selected_after w.select w.last_end last ≡ selected w.select (found pattern (clusters_from text_begin items) end)
+walks-select pattern items ranges last w end h all =
+    let handed = h.handed_out in
+    ap (λ (rs : List (ℕ × ℕ)). rs ++ selected_after w.select w.last_end last) handed
+    ∙ ap (λ n. selected w.select (found_before h) ++ selected_after w.select n last) (h.last_end ∙ ap (remembered w.select) handed)
+    ∙ sym (selected-append w.select (found_before h) last)
+    ∙ ap (selected w.select) all
 
 -- an item that the text's clusters pass over
 pub walks-zero : (pattern : List Key) (items : List Item) (ranges : List (ℕ × ℕ)) (w : Walk) → WalksOver pattern items ranges w →
@@ -271,12 +288,13 @@ walks-zero pattern items ranges w h =
       few = h.few;
       places = h.places;
       handed_out = append-nil ranges ∙ h.handed_out;
+      last_end = h.last_end ∙ sym (ap (remembered w.select) (append-nil ranges));
     }
 
 pub walks-start : (pattern : List Key) (items : List Item) (ranges last : List (ℕ × ℕ)) (s : ℕ) (w v : Walk) → WalksOver pattern items ranges w → (s == 0) ≡ false →
-    v.start ≡ s → v.has_keys ≡ false → v.state ≡ w.state → v.places ≡ w.places →
-    ranges ++ last ≡ found pattern (clusters_from text_begin items) s → WalksOver pattern (items ++ ClusterStart s ∷ []) (ranges ++ last) v
-walks-start pattern items ranges last s w v h after at none state places handed =
+    v.start ≡ s → v.has_keys ≡ false → v.state ≡ w.state → v.places ≡ w.places → v.select ≡ w.select →
+    v.last_end ≡ remembered w.select (ranges ++ last) → ranges ++ last ≡ selected w.select (found pattern (clusters_from text_begin items) s) → WalksOver pattern (items ++ ClusterStart s ∷ []) (ranges ++ last) v
+walks-start pattern items ranges last s w v h after at none state places select last_end handed =
     let next : Cluster = record { start = s; keys = [] } in
     let same : placed (h.before ++ h.current ∷ []) ≡ placed ((h.before ++ h.current ∷ []) ++ next ∷ []) =
     sym (placed-last (h.before ++ h.current ∷ []) next ∙ append-nil (placed (h.before ++ h.current ∷ []))) in
@@ -295,16 +313,18 @@ walks-start pattern items ranges last s w v h after at none state places handed 
       places = ap (λ n. keep_last n v.places.items) state ∙ ap (λ b. keep_last w.state b.items) places ∙ h.places
           ∙ ap (λ (ks : List PlacedKey). keep_last w.state (map place_of ks)) same
           ∙ sym (ap (λ n. keep_last n (map place_of (placed ((h.before ++ h.current ∷ []) ++ next ∷ [])))) state);
-      handed_out = handed ∙ ap (λ (cs : List Cluster). found pattern cs s) (all_clusters h);
+      handed_out = handed ∙ ap (λ (cs : List Cluster). selected w.select (found pattern cs s)) (all_clusters h)
+          ∙ sym (ap (λ t. selected t (found pattern (h.before ++ h.current ∷ []) s)) select);
+      last_end = last_end ∙ sym (ap (λ t. remembered t (ranges ++ last)) select);
     }
 
 pub walks-key : (pattern : List Key) (items : List Item) (ranges : List (ℕ × ℕ)) (k : Key) (w v : Walk) → WalksOver pattern items ranges w →
     v.start ≡ w.start → v.has_keys ≡ true →
     ((ks : List Key) → border pattern ks ≡ w.state → v.state ≡ border pattern (ks ++ k ∷ [])) →
-    v.places.capacity ≡ w.places.capacity →
+    v.places.capacity ≡ w.places.capacity → v.select ≡ w.select → v.last_end ≡ w.last_end →
     v.places.items ≡ keep_last w.places.capacity (w.places.items ++ record { start = w.start; is_first = not w.has_keys } ∷ []) →
     WalksOver pattern (items ++ Element k ∷ []) (ranges ++ []) v
-walks-key pattern items ranges k w v h at some state capacity places =
+walks-key pattern items ranges k w v h at some state capacity select last_end places =
     let longer : Cluster = record { start = h.current.start; keys = h.current.keys ++ k ∷ [] } in
     let ks = placed (h.before ++ h.current ∷ []) in
     let flag : (b : Bool) → not b ≡ cond b false true = elim [ true ↦ refl | false ↦ refl ] in
@@ -339,37 +359,48 @@ walks-key pattern items ranges k w v h at some state capacity places =
           ∙ ap (λ (p : KeyPlace). keep_last v.state (map place_of ks ++ p ∷ [])) same_place
           ∙ ap (keep_last v.state) (sym (map-append place_of ks (new ∷ [])))
           ∙ ap (λ (l : List PlacedKey). keep_last v.state (map place_of l)) all;
-      handed_out = append-nil ranges ∙ h.handed_out;
+      handed_out = append-nil ranges ∙ h.handed_out ∙ sym (ap (λ t. selected t (found_before h)) select);
+      last_end = last_end ∙ h.last_end ∙ sym (ap₂ remembered select (append-nil ranges));
     }
 
 -- ---- what the ranges that were handed out are
 
 -- those that end with a cluster but the last one of the items so far
 pub walks-settled : (pattern : List Key) (items : List Item) (ranges : List (ℕ × ℕ)) (w : Walk) (end : ℕ) → WalksOver pattern items ranges w →
-    ranges ≡ found_before_last pattern (clusters_from text_begin items) end
+    ranges ≡ selected w.select (found_before_last pattern (clusters_from text_begin items) end)
 walks-settled pattern items ranges w end h =
     h.handed_out
-    ∙ sym (ap (λ (cs : List Cluster). found_before_last pattern cs end) (all_clusters h) ∙ before_last-prefix pattern h.before h.current end)
+    ∙ sym (ap (selected w.select) (ap (λ (cs : List Cluster). found_before_last pattern cs end) (all_clusters h) ∙ before_last-prefix pattern h.before h.current end))
 
--- whatever items follow, the ranges begin those that are found, also those that end before the last cluster
-pub walks-begin : (pattern : List Key) (items : List Item) (ranges : List (ℕ × ℕ)) (w : Walk) (following : List Item) (end : ℕ) → WalksOver pattern items ranges w →
-    (rest : List (ℕ × ℕ)) × (found pattern (clusters_from text_begin (items ++ following)) end ≡ ranges ++ rest)
+-- whatever items follow, the ranges of the clusters that have ended begin those that are found, also those that end before the
+-- last cluster
+pub walks-begin : (pattern : List Key) (items : List Item) (ranges : List (ℕ × ℕ)) (w : Walk) (following : List Item) (end : ℕ) → (h : WalksOver pattern items ranges w) →
+    (rest : List (ℕ × ℕ)) × (found pattern (clusters_from text_begin (items ++ following)) end ≡ found_before h ++ rest)
 walks-begin pattern items ranges w following end h =
     let first = clusters_begin h.current following in
     let c : Cluster = record { start = h.current.start; keys = first.0 } in
     let all = h.clusters following ∙ ap (λ (cs : List Cluster). h.before ++ cs) first.2 in
     let begins = found-begins pattern h.before c first.1 end in (
       begins.0,
-      ap (λ (cs : List Cluster). found pattern cs end) all ∙ begins.1 ∙ ap (λ (rs : List (ℕ × ℕ)). rs ++ begins.0) (sym h.handed_out),
+      ap (λ (cs : List Cluster). found pattern cs end) all ∙ begins.1,
     )
 
-pub walks-begin_settled : (pattern : List Key) (items : List Item) (ranges : List (ℕ × ℕ)) (w : Walk) (following : List Item) (end : ℕ) → WalksOver pattern items ranges w →
-    (rest : List (ℕ × ℕ)) × (found_before_last pattern (clusters_from text_begin (items ++ following)) end ≡ ranges ++ rest)
+pub walks-begin_settled : (pattern : List Key) (items : List Item) (ranges : List (ℕ × ℕ)) (w : Walk) (following : List Item) (end : ℕ) → (h : WalksOver pattern items ranges w) →
+    (rest : List (ℕ × ℕ)) × (found_before_last pattern (clusters_from text_begin (items ++ following)) end ≡ found_before h ++ rest)
 walks-begin_settled pattern items ranges w following end h =
     let first = clusters_begin h.current following in
     let c : Cluster = record { start = h.current.start; keys = first.0 } in
     let all = h.clusters following ∙ ap (λ (cs : List Cluster). h.before ++ cs) first.2 in
     let begins = before_last-begins pattern h.before c first.1 end in (
       begins.0,
-      ap (λ (cs : List Cluster). found_before_last pattern cs end) all ∙ begins.1 ∙ ap (λ (rs : List (ℕ × ℕ)). rs ++ begins.0) (sym h.handed_out),
+      ap (λ (cs : List Cluster). found_before_last pattern cs end) all ∙ begins.1,
+    )
+
+-- and what was handed out begins what is handed out of more ranges
+pub walks-select_begin : (pattern : List Key) (items : List Item) (ranges : List (ℕ × ℕ)) (w : Walk) (all : List (ℕ × ℕ)) → (h : WalksOver pattern items ranges w) →
+    (rest : List (ℕ × ℕ)) × (all ≡ found_before h ++ rest) → (rest : List (ℕ × ℕ)) × (selected w.select all ≡ ranges ++ rest)
+walks-select_begin pattern items ranges w all h more =
+    let later = selected_after w.select (remembered w.select (selected w.select (found_before h))) more.0 in (
+      later,
+      ap (selected w.select) more.1 ∙ selected-append w.select (found_before h) more.0 ∙ ap (λ (rs : List (ℕ × ℕ)). rs ++ later) (sym h.handed_out),
     )

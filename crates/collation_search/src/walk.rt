@@ -42,7 +42,7 @@ impl Walk {
     ghost use Rattle.collation_elements.specs.declared.keys.Item.TheVariants.{ClusterStart};
     ghost use Rattle.collation_elements.specs.Clusters.{clusters_from};
     ghost use Rattle.collation_search.specs.ByClusters.{text_begin, found};
-    ghost use Rattle.collation_search.specs.Selecting.{selected};
+    ghost use Rattle.collation_search.specs.Selecting.{selected, remembered};
     ghost use Rattle.collation_search.specs.Walks.{WalksOver};
 
     /// A walk at the beginning of a text.
@@ -83,9 +83,7 @@ impl Walk {
                 let range = self.end(pattern, start);
                 self.start = start;
                 self.has_keys = false;
-                if range.is_some() && self.select == Select::Chain {
-                    self.last_end = start;
-                }
+                self.last_end = self.last_end_with(range);
                 range
             }
             Item::Element(key) => {
@@ -113,6 +111,18 @@ impl Walk {
             return None;
         }
         Some(range)
+    }
+
+    /// Where the last range of a chain ends that was handed out, this one included.
+    #[inline(always)]
+    fn last_end_with(&self, range: Option<(u64, u64)>) -> u64
+        ensures { (ranges : List (ℕ × ℕ)) → self.now.last_end ≡ remembered self.now.select ranges
+            → result ≡ remembered self.now.select (ranges ++ option_to_list range) }
+    {
+        match (self.select, range) {
+            (Select::Chain, Some((_, end))) => end,
+            _ => self.last_end,
+        }
     }
 
     /// The range that ends with the current cluster, if that ends at the byte offset `end`.

@@ -15,16 +15,16 @@ pub returns-in-ClusterStart-clause-walks : goal.returns-in-ClusterStart-clause-w
 returns-in-ClusterStart-clause-walks c = λ items ranges h.
     let old = c.args.self.now in
     let start = c.in-ClusterStart.start in
-    let walk : Walk = record { state = old.state; places = old.places; start = start; has_keys = false } in
+    let walk : Walk = record { state = old.state; places = old.places; start = start; has_keys = false; select = old.select; last_end = c.last_end_with-self.result } in
     let after : start ≡ 0 → ⊥ = rw c.in-ClusterStart.is at c.in-ClusterStart.start-test.1 in
     subst (λ (item : Item). WalksOver c.args.pattern.now.keys (items ++ item ∷ []) (ranges ++ option_to_list c.end-range.result) walk) (sym c.in-ClusterStart.is)
-    (walks-start c.args.pattern.now.keys items ranges (option_to_list c.end-range.result) start old walk h (ne_eqb start 0 after) refl refl refl refl
-    (c.end-range.ensures.found items ranges h))
+    (walks-start c.args.pattern.now.keys items ranges (option_to_list c.end-range.result) start old walk h (ne_eqb start 0 after) refl refl refl refl refl
+    (c.last_end_with-self.ensures ranges h.last_end) (c.end-range.ensures.found items ranges h))
 
 pub returns-in-Element-clause-walks : goal.returns-in-Element-clause-walks
 returns-in-Element-clause-walks c = λ items ranges h.
     let old = c.args.self.now in
-    let walk : Walk = record { state = c.advance-self.result; places = c.push_back.new.self; start = old.start; has_keys = true } in
+    let walk : Walk = record { state = c.advance-self.result; places = c.push_back.new.self; start = old.start; has_keys = true; select = old.select; last_end = old.last_end } in
     subst (λ (item : Item). WalksOver c.args.pattern.now.keys (items ++ item ∷ []) (ranges ++ []) walk) (sym c.in-Element.is)
     (walks-key c.args.pattern.now.keys items ranges c.in-Element.key old walk h refl refl c.advance-self.ensures.border
-    (ap (λ b. b.capacity) c.push_back.ensures.items) (ap (λ b. b.items) c.push_back.ensures.items))
+    (ap (λ b. b.capacity) c.push_back.ensures.items) refl refl (ap (λ b. b.items) c.push_back.ensures.items))
