@@ -17,7 +17,7 @@ use Rattle.collation_search.proofs.BridgeMatches.{below_offsets, rising_boundari
 use Rattle.collation_search.proofs.BridgeRanges.{Before, in_ranges, rising_ranges, is_within_from, in_minimal, rising_minimal}
 
 -- the second range starts after the first
-abbrev From : ℕ × ℕ → ℕ × ℕ → Type 0
+abbrev pub From : ℕ × ℕ → ℕ × ℕ → Type 0
 From r s = r.0 < s.0
 
 rising_stronger : {A : Type 0} (R S : A → A → Type 0) (xs : List A) → ((x y : A) → In xs x → In xs y → R x y → S x y) → Rising R xs → Rising S xs
@@ -77,6 +77,18 @@ module _ (table : TableMap) (strength : Strength) (variable : Variable) (pattern
       (rising_filter From (λ range. nat_lt range.1 (length text)) (matches table strength variable pattern text) matches_rise)
       (λ r h. starts_within r (in_filter (λ range. nat_lt range.1 (length text)) (matches table strength variable pattern text) r h).0) in
       omega (arith, few)
+
+rise_at : (table : TableMap) (strength : Strength) (variable : Variable) (pattern bytes : List ℕ) (at : Option TextFault) →
+    Rising From (answer_at table strength variable pattern bytes at).ranges
+rise_at table strength variable pattern bytes None = matches_rise table strength variable pattern bytes
+rise_at table strength variable pattern bytes (Some at) =
+    let text = good_prefix bytes in
+    rising_filter From (λ range. nat_lt range.1 (length text)) (matches table strength variable pattern text) (matches_rise table strength variable pattern text)
+
+-- the starts of an answer's ranges rise
+pub answered-rise : (table : TableMap) (strength : Strength) (variable : Variable) (pattern bytes : List ℕ) →
+    Rising From (answer table strength variable pattern bytes).ranges
+answered-rise table strength variable pattern bytes = rise_at table strength variable pattern bytes (fault bytes)
 
 few_at : (table : TableMap) (strength : Strength) (variable : Variable) (pattern bytes : List ℕ) (at : Option TextFault) → fault bytes ≡ at →
     length (answer_at table strength variable pattern bytes at).ranges ≤ length bytes + 1

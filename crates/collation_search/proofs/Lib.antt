@@ -15,6 +15,7 @@ mod LagCounts
 mod LagRanges
 mod LagTexts
 mod LagLaw
+mod SelectedInTime
 pub mod TextCheckLemmas
 pub mod WorkedRowLemmas
 pub mod SearchLemmas

@@ -18,8 +18,9 @@ use Rattle.collation_search.specs.Answer.{Answer}
 use Rattle.collation_search.specs.ByClusters.{text_begin, found, found_before_last}
 use Rattle.collation_search.specs.ByClustersLaws.{matches_are_found, settled_are_found, items_give_ranges}
 use Rattle.collation_search.specs.GoodPrefix.{fault, whole}
-use Rattle.collation_search.specs.Matches.{matches}
+use Rattle.collation_search.specs.Matches.{matches, settled}
 use Rattle.collation_search.specs.Search.{Sought, IsCompiledFrom, answer_to, settled_in}
+use Rattle.collation_search.specs.Selecting.{selected, selected_answer}
 use Rattle.collation_search.specs.Walks.{WalksOver}
 use Rattle.collation_search.proofs.SearchLemmas.{answer_good, answer_bad}
 use Rattle.collation_search.proofs.WalkSteps.{walks-settled}
@@ -37,41 +38,47 @@ has_key s p h some = let same = ap length h.keys in omega (arith, same, some)
 
 -- a walk over all items of a text has found the settled matches
 pub walked-settled : (s : Sought) → settled_are_found s.table → items_give_ranges s.table → (p text : List ℕ) (ranges : List (ℕ × ℕ)) (w : Walk) →
-    IsCompiledFrom s p → 1 ≤ length s.pattern.keys → IsUtf8 text → WalksOver s.pattern.keys (items_in s text) ranges w →
+    w.select ≡ s.select → IsCompiledFrom s p → 1 ≤ length s.pattern.keys → IsUtf8 text → WalksOver s.pattern.keys (items_in s text) ranges w →
     ranges ≡ settled_in s p text
-walked-settled s settled_law items_law p text ranges w h some utf8 walked =
+walked-settled s settled_law items_law p text ranges w same h some utf8 walked =
     let keys = text_keys s.table s.pattern.strength s.pattern.variable p in
     let law = settled_law s.pattern.strength s.pattern.variable p text h.text utf8 (has_key s p h some) in
     let reported = (items_law s.pattern.strength s.pattern.variable s.pattern.keys text (length text)).1 in
     walks-settled s.pattern.keys (items_in s text) ranges w (length text) walked
-    ∙ sym (law ∙ ap (λ (ks : List Key). found_before_last ks (clusters_in s text) (length text)) (sym h.keys) ∙ reported)
+    ∙ ap (λ select. selected select (found_before_last s.pattern.keys (clusters_from text_begin (items_in s text)) (length text))) same
+    ∙ ap (selected s.select) (sym (law ∙ ap (λ (ks : List Key). found_before_last ks (clusters_in s text) (length text)) (sym h.keys) ∙ reported))
 
 -- and with the range that ends with its last cluster all matches
 pub walked-all : (s : Sought) → matches_are_found s.table → items_give_ranges s.table → (p text : List ℕ) (ranges : List (ℕ × ℕ)) →
     IsCompiledFrom s p → 1 ≤ length s.pattern.keys → IsUtf8 text →
-    ranges ≡ found s.pattern.keys (clusters_from text_begin (items_in s text)) (length text) →
-    ranges ≡ matches s.table s.pattern.strength s.pattern.variable p text
+    ranges ≡ selected s.select (found s.pattern.keys (clusters_from text_begin (items_in s text)) (length text)) →
+    ranges ≡ selected s.select (matches s.table s.pattern.strength s.pattern.variable p text)
 walked-all s law items_law p text ranges h some utf8 walked =
     let all = law s.pattern.strength s.pattern.variable p text h.text utf8 (has_key s p h some) in
     let reported = (items_law s.pattern.strength s.pattern.variable s.pattern.keys text (length text)).0 in
-    walked ∙ sym (all ∙ ap (λ (ks : List Key). found ks (clusters_in s text) (length text)) (sym h.keys) ∙ reported)
+    walked ∙ ap (selected s.select) (sym (all ∙ ap (λ (ks : List Key). found ks (clusters_in s text) (length text)) (sym h.keys) ∙ reported))
 
 -- the answer to bytes with a fault where the whole characters of the first ones end
 pub answer-at_fault : (s : Sought) → settled_are_found s.table → items_give_ranges s.table → (p u rest : List ℕ) (ranges : List (ℕ × ℕ)) (w : Walk) (f : TextFault) →
-    IsCompiledFrom s p → 1 ≤ length s.pattern.keys → IsUtf8 (whole u) → characters_end u ≤ length u →
+    w.select ≡ s.select → IsCompiledFrom s p → 1 ≤ length s.pattern.keys → IsUtf8 (whole u) → characters_end u ≤ length u →
     WalksOver s.pattern.keys (items_in s (whole u)) ranges w → fault (u ++ rest) ≡ Some f → f.offset ≡ characters_end u →
     answer_to s p (u ++ rest) ≡ record { ranges = ranges; fault = Some f }
-answer-at_fault s settled_law items_law p u rest ranges w f h some utf8 within walked bad at =
+answer-at_fault s settled_law items_law p u rest ranges w f same h some utf8 within walked bad at =
     let prefix : take f.offset (u ++ rest) ≡ whole u = ap (λ n. take n (u ++ rest)) at ∙ take-append-le (characters_end u) u rest within in
-    answer_bad s.table s.pattern.strength s.pattern.variable p (u ++ rest) ranges f (sym bad)
-    (walked-settled s settled_law items_law p (whole u) ranges w h some utf8 walked ∙ ap (settled_in s p) (sym prefix))
+    let all = settled s.table s.pattern.strength s.pattern.variable p (take f.offset (u ++ rest)) in
+    ap (selected_answer s.select) (answer_bad s.table s.pattern.strength s.pattern.variable p (u ++ rest) all f (sym bad) refl)
+    ∙ ap (λ (rs : List (ℕ × ℕ)). let a : Answer = record { ranges = rs; fault = Some f } in a)
+    (sym (walked-settled s settled_law items_law p (whole u) ranges w same h some utf8 walked ∙ ap (settled_in s p) (sym prefix)))
 
 -- the answer to bytes without a fault
 pub answer-good : (s : Sought) → matches_are_found s.table → items_give_ranges s.table → (p u : List ℕ) (ranges : List (ℕ × ℕ)) (end : ℕ) →
     IsCompiledFrom s p → 1 ≤ length s.pattern.keys → IsUtf8 (whole u) → whole u ≡ u → end ≡ length u → None ≡ fault u →
-    ranges ≡ found s.pattern.keys (clusters_from text_begin (items_in s (whole u))) end →
+    ranges ≡ selected s.select (found s.pattern.keys (clusters_from text_begin (items_in s (whole u))) end) →
     answer_to s p u ≡ record { ranges = ranges; fault = None }
 answer-good s law items_law p u ranges end h some utf8 same end_is good walked =
-    answer_good s.table s.pattern.strength s.pattern.variable p u ranges good
-    (walked-all s law items_law p u ranges h some (subst IsUtf8 same utf8)
-    (walked ∙ ap (λ n. found s.pattern.keys (clusters_from text_begin (items_in s (whole u))) n) end_is ∙ ap (λ t. found s.pattern.keys (clusters_from text_begin (items_in s t)) (length u)) same))
+    let all = matches s.table s.pattern.strength s.pattern.variable p u in
+    ap (selected_answer s.select) (answer_good s.table s.pattern.strength s.pattern.variable p u all good refl)
+    ∙ ap (λ (rs : List (ℕ × ℕ)). let a : Answer = record { ranges = rs; fault = None } in a)
+    (sym (walked-all s law items_law p u ranges h some (subst IsUtf8 same utf8)
+    (walked ∙ ap (selected s.select) (ap (λ n. found s.pattern.keys (clusters_from text_begin (items_in s (whole u))) n) end_is
+    ∙ ap (λ t. found s.pattern.keys (clusters_from text_begin (items_in s t)) (length u)) same))))

@@ -15,19 +15,20 @@ use Rattle.collation_pattern.specs.Levels.{text_keys}
 use Rattle.collation_search.specs.declared.faults.TextFault.{TextFault}
 use Rattle.collation_search.specs.declared.finder.Finder.{Finder}
 use Rattle.collation_search.specs.declared.walk.Walk.{Walk}
-use Rattle.collation_search.specs.Answer.{Answer, answer_at}
+use Rattle.collation_search.specs.Answer.{Answer, answer, answer_at}
 use Rattle.collation_search.specs.ByClusters.{text_begin, found, found_before_last}
 use Rattle.collation_search.specs.ByClustersLaws.{matches_are_found, settled_are_found, items_give_ranges}
 use Rattle.collation_search.specs.Finding.{FinderStandsFor}
 use Rattle.collation_search.specs.GoodPrefix.{fault, good_prefix, prefix_at, whole, is_good_so_far}
-use Rattle.collation_search.specs.Matches.{matches}
-use Rattle.collation_search.specs.Search.{Sought, IsCompiledFrom, answer_to, settled_in}
+use Rattle.collation_search.specs.Matches.{matches, settled}
+use Rattle.collation_search.specs.Search.{Sought, IsCompiledFrom, answer_to}
+use Rattle.collation_search.specs.Selecting.{selected}
 use Rattle.collation_search.specs.Walks.{WalksOver}
 use Rattle.collation_search.proofs.LagRanges.{items-append}
 use Rattle.collation_search.proofs.LagTexts.{TextLaws, BeginsWith, begins-append, begins-take, begins-chars, fault_after, no_fault_text}
 use Rattle.collation_search.proofs.SearchAnswers.{items_in, has_key}
 use Rattle.collation_search.proofs.SearchLemmas.{either, good_prefix_found}
-use Rattle.collation_search.proofs.WalkSteps.{walks-begin, walks-begin_settled}
+use Rattle.collation_search.proofs.WalkSteps.{found_before, walks-begin, walks-begin_settled, walks-select_begin}
 
 -- the ranges begin the list
 abbrev pub BeginsRanges : List (ℕ × ℕ) → List (ℕ × ℕ) → Type 0
@@ -57,10 +58,10 @@ items_go_on s finder taken more handed h goes_on =
     false_is_true e = cc
 
 -- so their ranges, and those that end before the last cluster
-begins_found : (s : Sought) (finder : Finder) (taken more : List ℕ) (handed : List (ℕ × ℕ)) (end : ℕ) → FinderStandsFor s.table s.pattern finder taken handed → finder.window.has_ended ≡ false →
+begins_found : (s : Sought) (finder : Finder) (taken more : List ℕ) (handed : List (ℕ × ℕ)) (end : ℕ) → (h : FinderStandsFor s.table s.pattern finder taken handed) → finder.window.has_ended ≡ false →
     (text : List ℕ) → chars text ≡ taken ++ more →
-    BeginsRanges handed (found s.pattern.keys (clusters_from text_begin (items_in s text)) end)
-    × BeginsRanges handed (found_before_last s.pattern.keys (clusters_from text_begin (items_in s text)) end)
+    BeginsRanges (found_before h.matched.walked) (found s.pattern.keys (clusters_from text_begin (items_in s text)) end)
+    × BeginsRanges (found_before h.matched.walked) (found_before_last s.pattern.keys (clusters_from text_begin (items_in s text)) end)
 begins_found s finder taken more handed end h goes_on text codes =
     let rest = items_go_on s finder taken more handed h goes_on in
     let all : items_in s text ≡ h.matched.items ++ rest.0 =
@@ -74,8 +75,9 @@ begins_found s finder taken more handed end h goes_on text codes =
 -- a text that the whole characters of the bytes so far begin
 begins_text : TextLaws → (s : Sought) → matches_are_found s.table → settled_are_found s.table → items_give_ranges s.table → (p taken good : List ℕ) (finder : Finder) (handed : List (ℕ × ℕ)) →
     IsCompiledFrom s p → 1 ≤ length s.pattern.keys → IsUtf8 good → BeginsWith taken good →
-    FinderStandsFor s.table s.pattern finder (chars (whole taken)) handed → finder.window.has_ended ≡ false →
-    BeginsRanges handed (matches s.table s.pattern.strength s.pattern.variable p good) × BeginsRanges handed (settled_in s p good)
+    (h : FinderStandsFor s.table s.pattern finder (chars (whole taken)) handed) → finder.window.has_ended ≡ false →
+    BeginsRanges (found_before h.matched.walked) (matches s.table s.pattern.strength s.pattern.variable p good)
+    × BeginsRanges (found_before h.matched.walked) (settled s.table s.pattern.strength s.pattern.variable p good)
 begins_text laws s matches_law settled_law items_law p taken good finder handed compiled some utf8 begins h goes_on =
     let codes = begins-chars laws taken good begins in
     let both = begins_found s finder (chars (whole taken)) (chars (drop (characters_end taken) good)) handed (length good) h goes_on good codes in
@@ -86,11 +88,12 @@ begins_text laws s matches_law settled_law items_law p taken good finder handed 
     let ended = settled_law s.pattern.strength s.pattern.variable p good compiled.text utf8 key ∙ ap (λ (ks : List Key). found_before_last ks cs (length good)) (sym compiled.keys) ∙ read.1 in
     ((both.0.0, all ∙ both.0.1), (both.1.0, ended ∙ both.1.1))
 
-pub begins-answer : TextLaws → (s : Sought) → matches_are_found s.table → settled_are_found s.table → items_give_ranges s.table → (p taken later : List ℕ) (finder : Finder) (handed : List (ℕ × ℕ)) →
+-- and of all matches
+pub begins-found : TextLaws → (s : Sought) → matches_are_found s.table → settled_are_found s.table → items_give_ranges s.table → (p taken later : List ℕ) (finder : Finder) (handed : List (ℕ × ℕ)) →
     IsCompiledFrom s p → 1 ≤ length s.pattern.keys → is_good_so_far taken ≡ true →
-    FinderStandsFor s.table s.pattern finder (chars (whole taken)) handed → finder.window.has_ended ≡ false →
-    BeginsRanges handed (answer_to s p (taken ++ later)).ranges
-begins-answer laws s matches_law settled_law items_law p taken later finder handed compiled some open_bytes h goes_on =
+    (h : FinderStandsFor s.table s.pattern finder (chars (whole taken)) handed) → finder.window.has_ended ≡ false →
+    BeginsRanges (found_before h.matched.walked) (answer s.table s.pattern.strength s.pattern.variable p (taken ++ later)).ranges
+begins-found laws s matches_law settled_law items_law p taken later finder handed compiled some open_bytes h goes_on =
     let bytes = taken ++ later in
     let at_fault = answer_at s.table s.pattern.strength s.pattern.variable p bytes in
     elim (either (fault bytes)) [
@@ -104,5 +107,17 @@ begins-answer laws s matches_law settled_law items_law p taken later finder hand
           let text : IsUtf8 (take at.offset bytes) = subst IsUtf8 (sym good.1.taken) good.1.text in
           let begins = begins-take taken bytes at.offset (fault_after laws taken later at open_bytes bad.1) (begins-append laws taken later) in
           let b = begins_text laws s matches_law settled_law items_law p taken (take at.offset bytes) finder handed compiled some text begins h goes_on in
-          (b.1.0, ap (λ (a : Answer). a.ranges) (ap at_fault bad.1) ∙ ap (settled_in s p) there ∙ b.1.1)
+          (b.1.0, ap (λ (a : Answer). a.ranges) (ap at_fault bad.1) ∙ ap (settled s.table s.pattern.strength s.pattern.variable p) there ∙ b.1.1)
     ]
+
+-- so what was handed out begins the answer
+pub begins-answer : TextLaws → (s : Sought) → matches_are_found s.table → settled_are_found s.table → items_give_ranges s.table → (p taken later : List ℕ) (finder : Finder) (handed : List (ℕ × ℕ)) →
+    finder.walk.select ≡ s.select → IsCompiledFrom s p → 1 ≤ length s.pattern.keys → is_good_so_far taken ≡ true →
+    FinderStandsFor s.table s.pattern finder (chars (whole taken)) handed → finder.window.has_ended ≡ false →
+    BeginsRanges handed (answer_to s p (taken ++ later)).ranges
+begins-answer laws s matches_law settled_law items_law p taken later finder handed same compiled some open_bytes h goes_on =
+    let all = (answer s.table s.pattern.strength s.pattern.variable p (taken ++ later)).ranges in
+    let m = h.matched in
+    let begins = walks-select_begin s.pattern.keys m.items handed finder.walk all m.walked
+    (begins-found laws s matches_law settled_law items_law p taken later finder handed compiled some open_bytes h goes_on) in
+    (begins.0, ap (λ select. selected select all) (sym same) ∙ begins.1)

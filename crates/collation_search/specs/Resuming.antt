@@ -55,7 +55,7 @@ abbrev pub IsRefused : Resumed → List ℕ → ℕ → Type 0
 IsRefused r words kind = (state_fault r words ≡ Some kind) ⊎ ((kind ≡ 53) × (has_form r.select words ≡ true) × (is_for r words ≡ true))
 
 -- the finder that these words say: the end of the last range of a chain, and the words after that
-pub record IsRestored (s : Sought) (h : Head) (last_end : ℕ) (words : List ℕ) (finder : Finder) : Type 0 where
+pub record IsRestored (s : Sought) (h : Head) (end : ℕ) (words : List ℕ) (finder : Finder) : Type 0 where
   pub held : finder.reorder.held ≡ points_in (waiting_part h words)
   pub window : finder.window ≡ record { points = points_in (window_part h words); capacity = longest_mapped s.table + MOST_GIVEN; has_ended = false }
   pub weigher : finder.weigher ≡ Rattle.collation_elements.specs.Weighing.weigher s.pattern.strength s.pattern.variable (h.after_variable == 1)
@@ -65,4 +65,4 @@ pub record IsRestored (s : Sought) (h : Head) (last_end : ℕ) (words : List ℕ
   pub places : finder.walk.places.items ≡ places_in (place_part h words)
   pub capacity : finder.walk.places.capacity ≡ length s.pattern.keys
   pub select : finder.walk.select ≡ s.select
-  pub last_end : finder.walk.last_end ≡ last_end
+  pub last_end : finder.walk.last_end ≡ end

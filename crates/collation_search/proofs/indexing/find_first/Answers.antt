@@ -62,4 +62,5 @@ loop-at-preserved g c =
       pattern_len = c.in_default-take.ensures.pattern_len ∙ inv.pattern_len;
       same_longest = c.in_default-take.ensures.longest ∙ inv.same_longest;
       same_pattern_len = c.in_default-take.ensures.pattern_len ∙ inv.same_pattern_len;
+      select = c.in_default-take.ensures.select ∙ inv.select;
     }

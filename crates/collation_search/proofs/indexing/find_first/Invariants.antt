@@ -18,4 +18,5 @@ invariant-loop-at g l = record {
   pattern_len : l.finder.pattern_len ≡ length l.pattern.keys;
   same_longest : l.finder.longest_key ≡ l.initial.finder.longest_key;
   same_pattern_len : l.finder.pattern_len ≡ l.initial.finder.pattern_len;
+  select : l.finder.walk.select ≡ l.initial.finder.walk.select;
 }

@@ -45,6 +45,7 @@ loop-unit-preserved g c =
       ended = ap (λ w. w.has_ended) c.in-Some.ensures.rest ∙ c.loop-unit.invariant.ended;
       last = λ open_window starts. c.in-Some.ensures.last (c.loop-unit.invariant.ended ∙ open_window) (c.loop-unit.invariant.last open_window starts);
       state = c.walk_over.ensures.state;
+      select = c.walk_over.ensures.select ∙ c.loop-unit.invariant.select;
     }
 
 pub loop-unit-init : goal.loop-unit-init
@@ -57,6 +58,7 @@ loop-unit-init g c = record {
   ended = refl;
   last = λ open_window starts. starts;
   state = c.requires.state;
+  select = refl;
 }
 
 pub returns-clause-kept : goal.returns-clause-kept

@@ -19,6 +19,7 @@ invariant-loop-unit g l = record {
   ended : l.window.has_ended ≡ l.initial.window.has_ended;
   last : l.initial.window.has_ended ≡ false → is_closed l.initial.window.points ≡ true → is_closed l.window.points ≡ true;
   state : l.walk.state ≤ length l.pattern.keys;
+  select : l.walk.select ≡ l.initial.walk.select;
 }
 
 abbrev pub decreases-loop-unit : goal.decreases-loop-unit

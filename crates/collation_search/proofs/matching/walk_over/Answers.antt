@@ -36,6 +36,7 @@ loop-item-preserved c =
           let starts = ap (λ t. length (item_starts t)) more ∙ ap length (item_starts-append (take i xs) (x ∷ [])) ∙ length-append (item_starts (take i xs)) (item_starts (x ∷ [])) in
           omega (arith, few_at_start x c.take-range.result c.take-range.ensures.at_start, c.loop-item.invariant.few, sum, starts);
       state = c.take-range.ensures.within;
+      select = c.take-range.ensures.select ∙ c.loop-item.invariant.select;
     }
 
 pub returns-clause-stands : goal.returns-clause-stands

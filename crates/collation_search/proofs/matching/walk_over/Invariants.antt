@@ -11,4 +11,5 @@ invariant-loop-item l = record {
       → WalksOver l.pattern.keys (before ++ take l.item-index l.items) (ranges ++ l.found.items) l.walk;
   few : length l.found.items ≤ length l.initial.found.items + length (item_starts (take l.item-index l.items));
   state : l.walk.state ≤ length l.pattern.keys;
+  select : l.walk.select ≡ l.initial.walk.select;
 }

@@ -18,6 +18,7 @@ loop-byte-init g c =
       open_window = c.requires.open;
       longest = refl;
       pattern_len = refl;
+      select = refl;
       place = omega arith;
       taken = (
         [],
@@ -43,6 +44,7 @@ loop-byte-preserved g c =
       open_window = c.take_one.ensures.open;
       longest = c.take_one.ensures.longest ∙ c.loop-byte.invariant.longest;
       pattern_len = c.take_one.ensures.pattern_len ∙ c.loop-byte.invariant.pattern_len;
+      select = c.take_one.ensures.select ∙ c.loop-byte.invariant.select;
       place = let at = c.loop-byte.invariant.place in omega (arith, at);
       taken = (
         before.0 ++ found,

@@ -12,6 +12,7 @@ invariant-loop-byte g l = record {
   open_window : l.self.window.has_ended ≡ false;
   longest : l.self.longest_key ≡ l.initial.self.longest_key;
   pattern_len : l.self.pattern_len ≡ l.initial.self.pattern_len;
+  select : l.self.walk.select ≡ l.initial.self.walk.select;
   place : l.at ≡ l.offset + l.byte-index;
   taken : (ranges : List (ℕ × ℕ)) × FoldsTo (λ f range t. goal.F-step g f range.0 range.1 tt t) l.fn.sink ranges l.sink
       × ((taken : List ℕ) (handed : List (ℕ × ℕ)) → FinderStandsFor (g.W.Weights.table l.query.table.now) l.query.pattern.now l.initial.self taken handed → l.offset ≡ byte_len taken

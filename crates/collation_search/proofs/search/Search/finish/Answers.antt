@@ -4,7 +4,10 @@ use Rattle.std.proofs.lemmas.List.{append-nil}
 use Rattle.utf8_cut.specs.Characters.{characters, characters_end}
 use Rattle.collation_search.specs.declared.faults.TextFault.{TextFault}
 use Rattle.collation_search.specs.GoodPrefix.{fault, whole}
+use Rattle.collation_elements.specs.Clusters.{clusters_from}
+use Rattle.collation_search.specs.ByClusters.{text_begin, found}
 use Rattle.collation_search.specs.Search.{sought, answer_to}
+use Rattle.collation_search.specs.Selecting.{selected}
 use Rattle.collation_search.proofs.TextCheckLemmas.{good_end, cut_end, whole_of_good, first_fault-at}
 use Rattle.collation_search.proofs.SearchAnswers.{answer-good, answer-at_fault, items_in}
 use Rattle.collation_search.proofs.search.Search.finish.Goals as goal
@@ -17,7 +20,8 @@ returns-in-None-clause-good g c = λ text u handed compiled h.
     let walked = c.end.ensures.ended (chars (whole u)) handed h.found in
     answer-good s c.matches_by_clusters.ensures.matches c.matches_by_clusters.ensures.items text u (handed ++ c.last.new.found.items) c.count-end.result
     compiled h.some_key (c.whole_characters_are_the_longest_text.ensures.text u) (whole_of_good u h.open_bytes good) (c.count-end.ensures.stands_for u (characters u) h.cut_stands) good
-    (c.last.ensures (items_in s (whole u)) handed walked)
+    (c.last.ensures (items_in s (whole u)) handed walked
+    ∙ ap (λ select. selected select (found s.pattern.keys (clusters_from text_begin (items_in s (whole u))) c.count-end.result)) c.end.ensures.select)
 
 pub returns-clause-bad : goal.returns-clause-bad
 returns-clause-bad g c = λ text u handed compiled h.
@@ -28,6 +32,6 @@ returns-clause-bad g c = λ text u handed compiled h.
     let walked = c.end.ensures.ended (chars (whole u)) handed h.found in
     let all = append-nil u in
     let answered = answer-at_fault s c.matches_by_clusters.ensures.settled c.matches_by_clusters.ensures.items text u [] (handed ++ c.end.new.found.items) c.end.new.self.walk
-    (record { kind = 31; offset = c.in-Some-finish.offset }) compiled h.some_key (c.whole_characters_are_the_longest_text.ensures.text u) within walked (ap fault all ∙ bad)
+    (record { kind = 31; offset = c.in-Some-finish.offset }) c.end.ensures.select compiled h.some_key (c.whole_characters_are_the_longest_text.ensures.text u) within walked (ap fault all ∙ bad)
     (first_fault-at u c.in-Some-finish.offset cut) in
     ap (answer_to s text) (sym all) ∙ answered

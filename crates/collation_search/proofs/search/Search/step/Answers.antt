@@ -1,5 +1,5 @@
 use Rattle.std.specs.Str.{chars}
-use Rattle.std.proofs.Common.{◌≡◌, ℕ, List, ◌∷◌, ◌++◌, Some, ap, subst}
+use Rattle.std.proofs.Common.{◌≡◌, ◌∙◌, ℕ, List, ◌∷◌, ◌++◌, Some, ap, subst}
 use Rattle.collation_search.specs.GoodPrefix.{whole}
 use Rattle.collation_search.specs.Search.{Sought, sought}
 use Rattle.collation_search.specs.Walks.{WalksOver}
@@ -10,11 +10,11 @@ pub returns-in-Err-clause-answer : goal.returns-in-Err-clause-answer
 returns-in-Err-clause-answer g c = λ text u more handed compiled h.
     let table = g.W.Weights.table in
     let old = sought c.args.self.now in
-    let new : Sought = record { table = table c.take.new.self.query.table.now; pattern = c.take.new.self.query.pattern.now } in
-    let same : new ≡ old = ap (λ q. let s : Sought = record { table = table q.table.now; pattern = q.pattern.now } in s) c.in-Err.ensures.same in
+    let new : Sought = record { table = table c.take.new.self.query.table.now; pattern = c.take.new.self.query.pattern.now; select = old.select } in
+    let same : new ≡ old = ap (λ q. let s : Sought = record { table = table q.table.now; pattern = q.pattern.now; select = old.select } in s) c.in-Err.ensures.same in
     let ranges = handed ++ c.end.new.found.items in
     let walked = subst (λ (s : Sought). WalksOver s.pattern.keys (items_in s (whole u)) ranges c.end.new.self.walk) same
     (c.end.ensures.ended (chars (whole u)) handed (c.in-Err.ensures.kept u handed h)) in
     answer-at_fault old c.matches_by_clusters.ensures.settled c.matches_by_clusters.ensures.items text u (c.args.byte ∷ more) ranges c.end.new.self.walk c.in-Err.fault
-    compiled h.some_key (c.whole_characters_are_the_longest_text.ensures.text u) (c.whole_characters_are_the_longest_text.ensures.within u)
+    (c.end.ensures.select ∙ c.in-Err.ensures.select) compiled h.some_key (c.whole_characters_are_the_longest_text.ensures.text u) (c.whole_characters_are_the_longest_text.ensures.within u)
     walked (c.in-Err.ensures.fault u more handed h) (c.in-Err.ensures.offset u handed h)

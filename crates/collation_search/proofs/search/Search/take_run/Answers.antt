@@ -1,10 +1,11 @@
 use Rattle.std.specs.Str.{chars}
 use Rattle.std.specs.Prelude.{Ok}
-use Rattle.std.proofs.Common.{◌≡◌, ◌∙◌, [], length, take, refl, sym, subst, arith}
+use Rattle.std.proofs.Common.{◌≡◌, ◌∙◌, [], length, take, refl, sym, ap, subst, arith}
 use Rattle.std.proofs.lemmas.List.{length-take-le}
 use Rattle.utf8_cut.specs.Characters.{characters}
 use Rattle.collation_search.specs.GoodPrefix.{whole}
 use Rattle.collation_search.specs.Feeding.{Feeds}
+use Rattle.collation_search.specs.Search.{Sought}
 use Rattle.collation_search.proofs.FeedLemmas.{feeds-none, feeds-good, none_or_some}
 use Rattle.collation_search.proofs.AsciiRunLemmas.{searched-ascii, offset-ascii}
 use Rattle.collation_search.proofs.search.Search.take_run.Goals as goal
@@ -29,7 +30,8 @@ returns-then-len-gt0-clause-fed g c =
     let between = c.ascii_run-len.ensures.between c.if-len-gt0.true in (
       taken.0,
       taken.1,
-      feeds-good search _ run taken.0 c.requires.none c.requires.none refl
+      feeds-good search _ run taken.0 c.requires.none c.requires.none
+          (ap (λ select. let s : Sought = record { table = g.W.Weights.table search.query.table.now; pattern = search.query.pattern.now; select = select } in s) c.take_ascii.ensures.select)
           (λ u handed h.
           let at = offset-ascii (g.W.Weights.table search.query.table.now) search.query.pattern.now search.cut search.finder search.fault u handed h between
           (c.whole_characters_are_the_longest_text.ensures.text u) (c.whole_characters_are_the_longest_text.ensures.within u) in

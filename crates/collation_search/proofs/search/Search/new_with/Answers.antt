@@ -6,7 +6,7 @@ use Rattle.nfd_points.specs.PointFaults.{fault_from}
 use Rattle.collation_table.specs.Table.{TableMap}
 use Rattle.collation_pattern.specs.Compiled.{Compiled}
 use Rattle.collation_search.specs.Finding.{FinderStandsFor}
-use Rattle.collation_search.proofs.search.Search.new.Goals as goal
+use Rattle.collation_search.proofs.search.Search.new_with.Goals as goal
 
 pub returns-clause-stands : goal.returns-clause-stands
 unfolding chars is_utf8 utf8_valid_len encode_utf8 fault_from
