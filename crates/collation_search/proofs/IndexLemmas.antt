@@ -23,6 +23,7 @@ use Rattle.collation_search.specs.Finding.{FinderStandsFor}
 use Rattle.collation_search.specs.GoodPrefix.{most_bytes, seen, whole, byte_fault, fault, is_good_so_far}
 use Rattle.collation_search.specs.Indexing.{first_range, HasRead}
 use Rattle.collation_search.specs.Search.{Sought, IsCompiledFrom, answer_to}
+use Rattle.collation_search.specs.Selecting.{selected}
 use Rattle.collation_search.specs.Walks.{WalksOver}
 use Rattle.collation_search.proofs.TextCheckLemmas.{byte_len_encoded, open_from, seen_short}
 use Rattle.collation_search.proofs.LagTexts.{TextLaws}
@@ -58,14 +59,14 @@ first-begins [] rest f g h = absurd (omega (arith, h))
 first-begins (r ∷ rs) rest f g h = refl
 
 pub first-found : TextLaws → (s : Sought) → matches_are_found s.table → settled_are_found s.table → items_give_ranges s.table → (p text taken rest : List ℕ) (finder : Finder) (ranges : List (ℕ × ℕ)) →
-    IsCompiledFrom s p → 1 ≤ length s.pattern.keys → IsUtf8 taken → length taken ≤ most_bytes → text ≡ taken ++ rest →
+    finder.walk.select ≡ s.select → IsCompiledFrom s p → 1 ≤ length s.pattern.keys → IsUtf8 taken → length taken ≤ most_bytes → text ≡ taken ++ rest →
     FinderStandsFor s.table s.pattern finder (chars taken) ranges → finder.window.has_ended ≡ false → 0 < length ranges →
     first_range ranges None ≡ first_range (answer_to s p text).ranges (answer_to s p text).fault
-first-found laws s matches_law settled_law items_law p text taken rest finder ranges compiled some utf8 short parts stands goes_on found_some =
+first-found laws s matches_law settled_law items_law p text taken rest finder ranges select compiled some utf8 short parts stands goes_on found_some =
     let same = whole_of_text laws.longest taken utf8 in
     let open_bytes = text_open laws taken utf8 short stands.reordered.good in
     let here = subst (λ t. FinderStandsFor s.table s.pattern finder (chars t) ranges) (sym same) stands in
-    let begins = begins-answer laws s matches_law settled_law items_law p taken rest finder ranges compiled some open_bytes here goes_on in
+    let begins = begins-answer laws s matches_law settled_law items_law p taken rest finder ranges select compiled some open_bytes here goes_on in
     let a = answer_to s p text in
     let all : a.ranges ≡ ranges ++ begins.0 = ap (λ t. (answer_to s p t).ranges) parts ∙ begins.1 in
     first-begins ranges begins.0 None a.fault found_some ∙ ap (λ (rs : List (ℕ × ℕ)). first_range rs a.fault) (sym all)
@@ -74,25 +75,25 @@ first-of_answer : (a : Answer) (ranges : List (ℕ × ℕ)) (f : Option TextFaul
 first-of_answer a ranges f e = ap (λ (b : Answer). first_range b.ranges b.fault) (sym e)
 
 pub first-at_fault : TextLaws → (s : Sought) → settled_are_found s.table → items_give_ranges s.table → (p text taken rest : List ℕ) (ranges : List (ℕ × ℕ)) (w : Walk) (f : TextFault) →
-    IsCompiledFrom s p → 1 ≤ length s.pattern.keys → IsUtf8 taken → text ≡ taken ++ rest →
+    w.select ≡ s.select → IsCompiledFrom s p → 1 ≤ length s.pattern.keys → IsUtf8 taken → text ≡ taken ++ rest →
     WalksOver s.pattern.keys (items_in s taken) ranges w → fault text ≡ Some f → f.offset ≡ length taken →
     first_range ranges (Some f) ≡ first_range (answer_to s p text).ranges (answer_to s p text).fault
-first-at_fault laws s settled_law items_law p text taken rest ranges w f compiled some utf8 parts walked bad at =
+first-at_fault laws s settled_law items_law p text taken rest ranges w f select compiled some utf8 parts walked bad at =
     let same = whole_of_text laws.longest taken utf8 in
     let here = subst (λ t. WalksOver s.pattern.keys (items_in s t) ranges w) (sym same) walked in
-    let answered = answer-at_fault s settled_law items_law p taken rest ranges w f compiled some (laws.text taken) (laws.within taken) here
+    let answered = answer-at_fault s settled_law items_law p taken rest ranges w f select compiled some (laws.text taken) (laws.within taken) here
     (ap fault (sym parts) ∙ bad) (at ∙ sym (text_end laws taken utf8)) in
     first-of_answer (answer_to s p text) ranges (Some f) (ap (answer_to s p) parts ∙ answered)
 
 pub first-good : TextLaws → (s : Sought) → matches_are_found s.table → items_give_ranges s.table → (p text : List ℕ) (ranges : List (ℕ × ℕ)) →
     IsCompiledFrom s p → 1 ≤ length s.pattern.keys → IsUtf8 text → fault text ≡ None →
-    ranges ≡ found s.pattern.keys (clusters_from text_begin (items_in s text)) (length text) →
+    ranges ≡ selected s.select (found s.pattern.keys (clusters_from text_begin (items_in s text)) (length text)) →
     first_range ranges None ≡ first_range (answer_to s p text).ranges (answer_to s p text).fault
 first-good laws s matches_law items_law p text ranges compiled some utf8 good walked =
     let same = whole_of_text laws.longest text utf8 in
     first-of_answer (answer_to s p text) ranges None
     (answer-good s matches_law items_law p text ranges (length text) compiled some (laws.text text) same refl (sym good)
-    (walked ∙ ap (λ t. found s.pattern.keys (clusters_from text_begin (items_in s t)) (length text)) (sym same)))
+    (walked ∙ ap (λ t. selected s.select (found s.pattern.keys (clusters_from text_begin (items_in s t)) (length text))) (sym same)))
 
 -- ---- faults of the bytes
 
@@ -240,19 +241,19 @@ taken_short laws text taken rest h =
 -- ---- the end of the whole characters
 
 pub ends-bad : TextLaws → (s : Sought) → settled_are_found s.table → items_give_ranges s.table → (p text taken : List ℕ) (o : Option TextFault) (f : TextFault) (ranges : List (ℕ × ℕ)) (w : Walk) →
-    IsCompiledFrom s p → 1 ≤ length s.pattern.keys → whole (seen text) ≡ taken ++ [] → point_fault (chars taken) ≡ None → o ≡ byte_fault text → o ≡ Some f →
+    w.select ≡ s.select → IsCompiledFrom s p → 1 ≤ length s.pattern.keys → whole (seen text) ≡ taken ++ [] → point_fault (chars taken) ≡ None → o ≡ byte_fault text → o ≡ Some f →
     WalksOver s.pattern.keys (items_in s taken) ranges w → first_range ranges o ≡ first_range (answer_to s p text).ranges (answer_to s p text).fault
-ends-bad laws s settled_law items_law p text taken o f ranges w compiled some same good at is walked =
+ends-bad laws s settled_law items_law p text taken o f ranges w select compiled some same good at is walked =
     let all : whole (seen text) ≡ taken = same ∙ append-nil taken in
     let reported : byte_fault text ≡ Some f = sym at ∙ is in
     let len : length taken ≡ characters_end (seen text) = ap length (sym all) ∙ length-take-le (characters_end (seen text)) (seen text) (laws.within (seen text)) in
     ap (first_range ranges) is
-    ∙ first-at_fault laws s settled_law items_law p text taken (rest_after text []) ranges w f compiled some (subst IsUtf8 all (laws.text (seen text))) (parts_of text taken [] same)
+    ∙ first-at_fault laws s settled_law items_law p text taken (rest_after text []) ranges w f select compiled some (subst IsUtf8 all (laws.text (seen text))) (parts_of text taken [] same)
     walked (fault-of_bytes text (ap (λ t. point_fault (chars t)) all ∙ good) ∙ reported) (byte_fault_at text f reported ∙ sym len)
 
 pub ends-good : TextLaws → (s : Sought) → matches_are_found s.table → items_give_ranges s.table → (p text taken : List ℕ) (o : Option TextFault) (ranges : List (ℕ × ℕ)) →
     IsCompiledFrom s p → 1 ≤ length s.pattern.keys → whole (seen text) ≡ taken ++ [] → point_fault (chars taken) ≡ None → o ≡ byte_fault text → o ≡ None →
-    ranges ≡ found s.pattern.keys (clusters_from text_begin (items_in s taken)) (length text) →
+    ranges ≡ selected s.select (found s.pattern.keys (clusters_from text_begin (items_in s taken)) (length text)) →
     first_range ranges o ≡ first_range (answer_to s p text).ranges (answer_to s p text).fault
 ends-good laws s matches_law items_law p text taken o ranges compiled some same good at is walked =
     let all : whole (seen text) ≡ taken = same ∙ append-nil taken in
@@ -261,4 +262,4 @@ ends-good laws s matches_law items_law p text taken o ranges compiled some same 
     ap (first_range ranges) is
     ∙ first-good laws s matches_law items_law p text ranges compiled some (subst IsUtf8 (all ∙ here) (laws.text (seen text)))
     (fault-of_bytes text (ap (λ t. point_fault (chars t)) all ∙ good) ∙ reported)
-    (walked ∙ ap (λ t. found s.pattern.keys (clusters_from text_begin (items_in s t)) (length text)) here)
+    (walked ∙ ap (λ t. selected s.select (found s.pattern.keys (clusters_from text_begin (items_in s t)) (length text))) here)

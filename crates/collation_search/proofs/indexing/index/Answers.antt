@@ -6,8 +6,12 @@ use Rattle.nfd_points.specs.PointFaults.{point_fault}
 use Rattle.collation_search.specs.declared.faults.TextFault.{TextFault}
 use Rattle.collation_search.specs.Finding.{FinderStandsFor}
 use Rattle.collation_search.specs.GoodPrefix.{seen, whole}
+use Rattle.collation_elements.specs.Clusters.{clusters_from}
+use Rattle.collation_search.specs.ByClusters.{text_begin, found}
 use Rattle.collation_search.specs.Indexing.{first_range}
+use Rattle.collation_search.specs.Selecting.{selected}
 use Rattle.collation_search.specs.Search.{Sought, answer_to}
+use Rattle.collation_search.specs.declared.select.Select.TheVariants.{All}
 use Rattle.collation_search.proofs.TextCheckLemmas.{fault_by_code}
 use Rattle.collation_search.proofs.LagTexts.{TextLaws}
 use Rattle.collation_search.proofs.SearchAnswers.{items_in}
@@ -29,7 +33,7 @@ end-requires-in-Ok-find_first-clause-empty g c =
 pub returns-in-Err : goal.returns-in-Err
 returns-in-Err g c = record {
   first = λ p compiled.
-      let s : Sought = record { table = g.W.Weights.table c.args.table.now; pattern = c.args.pattern.now } in
+      let s : Sought = record { table = g.W.Weights.table c.args.table.now; pattern = c.args.pattern.now; select = All } in
       let laws : TextLaws = record {
         text = c.whole_characters_are_the_longest_text.ensures.text;
         longest = c.whole_characters_are_the_longest_text.ensures.longest;
@@ -43,14 +47,14 @@ returns-in-Err g c = record {
       let all : c.front.result.0.now ≡ whole (seen text) = c.front.ensures.text ∙ ap whole c.seen.ensures in
       let bad = fault_by_code text (length x.0, f.kind) (ap (λ t. point_fault (chars t)) (sym all) ∙ x.4) ∙ ap (λ o. let t : TextFault = record { kind = f.kind; offset = o } in Some t) (sym x.3) in
       inr (c.first_range.ensures ∙ ap (λ (t : List (ℕ × ℕ)). first_range t (Some f)) c.as_slice.ensures.value
-      ∙ first-at_fault laws s law.settled law.items p text x.0 (rest_after text x.1) c.end.new.found.items c.end.new.self.walk f compiled (omega (arith, c.len-some.ensures.keys, c.len-some.ensures.some)) x.2.utf8
+      ∙ first-at_fault laws s law.settled law.items p text x.0 (rest_after text x.1) c.end.new.found.items c.end.new.self.walk f (c.end.ensures.select ∙ c.find_first.ensures.select ∙ c.in-Ok.ensures.select) compiled (omega (arith, c.len-some.ensures.keys, c.len-some.ensures.some)) x.2.utf8
       (parts_of text x.0 x.1 (sym all ∙ x.2.parts)) (c.end.ensures.ended (chars x.0) [] x.2.stands) bad x.3);
 }
 
 pub returns-then-not-is_empty : goal.returns-then-not-is_empty
 returns-then-not-is_empty g c = record {
   first = λ p compiled.
-      let s : Sought = record { table = g.W.Weights.table c.args.table.now; pattern = c.args.pattern.now } in
+      let s : Sought = record { table = g.W.Weights.table c.args.table.now; pattern = c.args.pattern.now; select = All } in
       let laws : TextLaws = record {
         text = c.whole_characters_are_the_longest_text.ensures.text;
         longest = c.whole_characters_are_the_longest_text.ensures.longest;
@@ -65,14 +69,14 @@ returns-then-not-is_empty g c = record {
       let ranges = c.find_first.new.found.items in
       let there = some_found ranges c.is_empty.result c.is_empty.ensures c.if-not-is_empty.true in
       inr (c.first_range-then-not-is_empty.ensures ∙ ap (λ (t : List (ℕ × ℕ)). first_range t None) c.as_slice-then-not-is_empty.ensures.value
-      ∙ first-found laws s law.matches law.settled law.items p text x.0 (rest_after text x.1) c.find_first.new.finder ranges compiled (omega (arith, c.len-some.ensures.keys, c.len-some.ensures.some)) x.2.utf8
+      ∙ first-found laws s law.matches law.settled law.items p text x.0 (rest_after text x.1) c.find_first.new.finder ranges (c.find_first.ensures.select ∙ c.in-Ok.ensures.select) compiled (omega (arith, c.len-some.ensures.keys, c.len-some.ensures.some)) x.2.utf8
       (taken_short laws text x.0 x.1 parts) (parts_of text x.0 x.1 parts) x.2.stands c.in-Ok-find_first.ensures.open there);
 }
 
 pub returns : goal.returns
 returns g c = record {
   first = λ p compiled.
-      let s : Sought = record { table = g.W.Weights.table c.args.table.now; pattern = c.args.pattern.now } in
+      let s : Sought = record { table = g.W.Weights.table c.args.table.now; pattern = c.args.pattern.now; select = All } in
       let laws : TextLaws = record {
         text = c.whole_characters_are_the_longest_text.ensures.text;
         longest = c.whole_characters_are_the_longest_text.ensures.longest;
@@ -93,11 +97,14 @@ returns g c = record {
       let answered : first_range ranges o ≡ first_range (answer_to s p text).ranges (answer_to s p text).fault = elim c.if-is_none.branch [
         | then-is_none w ↦
             ends-good laws s law.matches law.items p text x.0 o ranges compiled (omega (arith, c.len-some.ensures.keys, c.len-some.ensures.some)) same good c.byte_fault-fault.ensures (none_from o (c.is_none.ensures ∙ ap not w.if-is_none.true))
-            (ap (λ v. v.items) w.found-is ∙ w.last.ensures (items_in s x.0) [] walked)
+            (ap (λ v. v.items) w.found-is ∙ w.last.ensures (items_in s x.0) [] walked
+            ∙ ap (λ select. selected select (found s.pattern.keys (clusters_from text_begin (items_in s x.0)) (length text)))
+            (c.end-in-Ok-find_first.ensures.select ∙ c.find_first.ensures.select ∙ c.in-Ok.ensures.select))
         | else-is_none w ↦
             let some = some_from o (c.is_none.ensures ∙ ap not w.if-is_none.false) in
             ap (λ v. first_range v.items o) w.found-is
-            ∙ ends-bad laws s law.settled law.items p text x.0 o some.0 c.end-in-Ok-find_first.new.found.items c.end-in-Ok-find_first.new.self.walk compiled (omega (arith, c.len-some.ensures.keys, c.len-some.ensures.some)) same good
+            ∙ ends-bad laws s law.settled law.items p text x.0 o some.0 c.end-in-Ok-find_first.new.found.items c.end-in-Ok-find_first.new.self.walk
+            (c.end-in-Ok-find_first.ensures.select ∙ c.find_first.ensures.select ∙ c.in-Ok.ensures.select) compiled (omega (arith, c.len-some.ensures.keys, c.len-some.ensures.some)) same good
             c.byte_fault-fault.ensures some.1 walked
       ] in
       inr (c.first_range-in-Ok-find_first.ensures ∙ ap (λ (t : List (ℕ × ℕ)). first_range t o) c.as_slice-in-Ok-find_first.ensures.value ∙ answered);
