@@ -25,9 +25,8 @@ pub struct PiecesSearched {
 }
 
 /// Searches a text in pieces, of any number and size, and calls the sink once for each range of the answer, or of the chain of
-/// them, in order. After each
-/// piece the search is saved as words and dropped, and a search that is resumed from these words takes the next piece. The sink
-/// must take any two numbers.
+/// them, in order. After each piece the search is saved as words and dropped, and a search that is resumed from these words takes
+/// the next piece. The sink must take any two numbers.
 ///
 /// # Errors
 ///

@@ -9,6 +9,7 @@ use collation_table::Table;
 use std::test::Fail;
 
 mod ascii_runs;
+mod chains;
 mod first_ranges;
 mod long_keys;
 mod long_texts;
