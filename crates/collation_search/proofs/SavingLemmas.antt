@@ -4,12 +4,16 @@ use Rattle.std.proofs.lemmas.List.{append-nil, length-drop}
 use Rattle.nfd_points.specs.declared.points.Point.{Point}
 use Rattle.utf8_cut.specs.Value.{CutState}
 use Rattle.collation_table.specs.Table.{TableMap, longest_mapped}
+use Rattle.collation_search.specs.declared.select.Select.{Select}
+use Rattle.collation_search.specs.declared.select.Select.TheVariants.{All, Chain}
 use Rattle.collation_pattern.specs.Compiled.{Compiled}
 use Rattle.collation_search.specs.declared.walk.KeyPlace.{KeyPlace}
 use Rattle.collation_search.specs.declared.faults.TextFault.{TextFault}
 use Rattle.collation_search.specs.declared.finder.Finder.{Finder}
-use Rattle.collation_search.specs.State.{place_record, point_record, place_words, point_words, kept_places, head_words, state_words}
-use Rattle.collation_search.specs.Saving.{BeginsWith, HasRecords}
+use Rattle.collation_search.specs.Search.{Sought}
+use Rattle.collation_search.specs.State.{place_record, point_record, place_words, point_words, kept_places, head_words, chain_record, chain_words, state_words}
+use Rattle.collation_search.specs.StateTests.{head_len}
+use Rattle.collation_search.specs.Saving.{BeginsWith, HasRecords, records_before, most_records}
 
 -- ---- what follows an index
 
@@ -59,41 +63,66 @@ pub point_words-length : (ps : List Point) → length (point_words ps) ≡ 4 * l
 point_words-length [] = refl
 point_words-length (p ∷ ps) = omega (arith, point_words-length ps, length-append (point_record p) (point_words ps))
 
+chain_record-records : (select : Select) (end : ℕ) → 20 + length (chain_record select end) ≡ 4 * records_before select
+chain_record-records All end = refl
+chain_record-records Chain end = refl
+
+chain_record-length : (select : Select) (end : ℕ) → 20 + length (chain_record select end) ≡ head_len select
+chain_record-length All end = refl
+chain_record-length Chain end = refl
+
+-- the words before those of places and points
+pub before_tail-length : (table : TableMap) (pattern : Compiled) (cut : CutState) (finder : Finder) (fault : Option TextFault) →
+    length (head_words table pattern cut finder fault ++ chain_words finder.walk fault) ≡ head_len finder.walk.select
+before_tail-length table pattern cut finder None =
+    omega (arith, length-append (head_words table pattern cut finder None) (chain_words finder.walk None), chain_record-length finder.walk.select finder.walk.last_end)
+before_tail-length table pattern cut finder (Some fault) =
+    omega (arith, length-append (head_words table pattern cut finder (Some fault)) (chain_words finder.walk (Some fault)), chain_record-length finder.walk.select 0)
+
 pub state-records : (table : TableMap) (pattern : Compiled) (cut : CutState) (finder : Finder) (fault : Option TextFault) →
     finder.walk.state ≤ length pattern.keys → length finder.window.points ≤ longest_mapped table → length finder.reorder.held ≤ 30 →
-    HasRecords (state_words table pattern cut finder fault) (length pattern.keys + longest_mapped table + 35)
-state-records table pattern cut finder (Some fault) state window waiting = (5, omega arith, refl)
+    HasRecords (state_words table pattern cut finder fault) (most_records (record { table = table; pattern = pattern; select = finder.walk.select }))
+state-records table pattern cut finder (Some fault) state window waiting =
+    let chain = chain_words finder.walk (Some fault) in (
+      records_before finder.walk.select,
+      omega arith,
+      omega (arith, ap length (append-nil chain), chain_record-records finder.walk.select 0),
+    )
 state-records table pattern cut finder None state window waiting =
     let kept = kept_places finder.walk in
     let places = place_words kept in
     let points = point_words finder.window.points in
     let held = point_words finder.reorder.held in
-    let short : length kept ≤ finder.walk.state = omega (arith, length-drop (length finder.walk.places.items - finder.walk.state) finder.walk.places.items) in (
-      5 + (length kept + (length finder.window.points + length finder.reorder.held)),
+    let chain = chain_words finder.walk None in
+    let short : length kept ≤ finder.walk.state = omega (arith, length-drop (length finder.walk.places.items - finder.walk.state) finder.walk.places.items) in
+    let before = chain_record-records finder.walk.select finder.walk.last_end in (
+      records_before finder.walk.select + (length kept + (length finder.window.points + length finder.reorder.held)),
       omega arith,
-      omega (arith, length-append (places ++ points) held, length-append places points, place_words-length kept, point_words-length finder.window.points, point_words-length finder.reorder.held),
+      omega (arith, before, length-append chain ((places ++ points) ++ held), length-append (places ++ points) held, length-append places points, place_words-length kept, point_words-length finder.window.points, point_words-length finder.reorder.held),
     )
 
 -- ---- the whole state
 
-pub append-all : (table : TableMap) (pattern : Compiled) (cut : CutState) (finder : Finder) (fault : Option TextFault) (w0 w1 w2 w3 w4 : List ℕ) →
+pub append-all : (table : TableMap) (pattern : Compiled) (cut : CutState) (finder : Finder) (fault : Option TextFault) (w0 w1 w2 w3 w4 w5 : List ℕ) →
     is_some fault ≡ false →
     w1 ≡ w0 ++ head_words table pattern cut finder fault →
-    w2 ≡ w1 ++ place_words (kept_places finder.walk) →
-    w3 ≡ w2 ++ point_words finder.window.points →
-    w4 ≡ w3 ++ point_words finder.reorder.held →
-    w4 ≡ w0 ++ state_words table pattern cut finder fault
-append-all table pattern cut finder (Some fault) w0 w1 w2 w3 w4 none a b c d = cc
-append-all table pattern cut finder None w0 w1 w2 w3 w4 none a b c d =
+    w2 ≡ w1 ++ chain_words finder.walk fault →
+    w3 ≡ w2 ++ place_words (kept_places finder.walk) →
+    w4 ≡ w3 ++ point_words finder.window.points →
+    w5 ≡ w4 ++ point_words finder.reorder.held →
+    w5 ≡ w0 ++ state_words table pattern cut finder fault
+append-all table pattern cut finder (Some fault) w0 w1 w2 w3 w4 w5 none a b c d e = cc
+append-all table pattern cut finder None w0 w1 w2 w3 w4 w5 none a b c d e =
     let head = head_words table pattern cut finder None in
+    let chain = chain_words finder.walk None in
     let places = place_words (kept_places finder.walk) in
     let points = point_words finder.window.points in
     let held = point_words finder.reorder.held in
-    d ∙ ap (λ l. l ++ held) (c ∙ ap (λ l. l ++ points) (b ∙ ap (λ l. l ++ places) a))
-    ∙ five w0 head places points held
+    e ∙ ap (λ l. l ++ held) (d ∙ ap (λ l. l ++ points) (c ∙ ap (λ l. l ++ places) (b ∙ ap (λ l. l ++ chain) a)))
+    ∙ six w0 head chain places points held
   where
-    five : (w0 head places points held : List ℕ) → (((w0 ++ head) ++ places) ++ points) ++ held ≡ w0 ++ (head ++ ((places ++ points) ++ held))
-    five w0 head places points held = simp append_assoc
+    six : (w0 head chain places points held : List ℕ) → ((((w0 ++ head) ++ chain) ++ places) ++ points) ++ held ≡ w0 ++ ((head ++ chain) ++ ((places ++ points) ++ held))
+    six w0 head chain places points held = simp append_assoc
 
 pub on_err : {A E : Type 0} (r : Result A E) (P : Type 0) → P → OnErr r P
 on_err (Ok a) P p = tt
