@@ -29,6 +29,7 @@ pub mod SavedPoints
 pub mod SavingLemmas
 pub mod RestoredWalk
 pub mod SavedBytes
+pub mod LastEnds
 pub mod SavedWalk
 pub mod SavedState
 pub mod RestoredState

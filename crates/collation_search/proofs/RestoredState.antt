@@ -36,7 +36,8 @@ use Rattle.collation_search.proofs.SavedState.{SavedLaws, open_head, open-accept
 
 module _ (laws : SavedLaws) (s : Sought) (cut : CutState) (finder : Finder) (taken : List ℕ) (handed : List (ℕ × ℕ))
     (h : Searched s.table s.pattern cut finder None taken handed) (goes_on : finder.window.has_ended ≡ false) (longest : finder.longest_key ≡ longest_mapped s.table)
-    (new : Finder) (restored : IsRestored s.table s.pattern (open_head s.pattern cut finder) (tail_words finder None) new) where
+    (same_select : finder.walk.select ≡ s.select) (last_end : ℕ) (same_end : last_end ≡ finder.walk.last_end)
+    (new : Finder) (restored : IsRestored s (open_head s.pattern cut finder) last_end (tail_words finder None) new) where
   same_reorder : new.reorder ≡ finder.reorder
   same_reorder =
       let there = parts laws s cut finder taken handed h goes_on longest in
@@ -77,7 +78,8 @@ module _ (laws : SavedLaws) (s : Sought) (cut : CutState) (finder : Finder) (tak
           cut = subst (λ (w : Held). WindowStandsFor s.table w f.points m.units) (sym same_window) m.cut;
           weighed = subst (λ w. WeigherStandsFor s.table w m.units m.items) (sym same_weigher) m.weighed;
           walked = walks-restored s.pattern.keys m.items handed finder.walk new.walk m.walked restored.state restored.start
-              (restored.has_keys ∙ flag-read finder.walk.has_keys) (restored.places ∙ ap places_in there.places ∙ kept.back) restored.capacity;
+              (restored.has_keys ∙ flag-read finder.walk.has_keys) (restored.places ∙ ap places_in there.places ∙ kept.back) restored.capacity
+              (restored.select ∙ sym same_select) (restored.last_end ∙ same_end);
           strength = ap (λ w. w.strength) same_weigher ∙ m.strength;
           variable = ap (λ w. w.variable) same_weigher ∙ m.variable;
           kept = subst (λ (w : Held). All (Contains f.points) w.points) (sym same_window) m.kept;

@@ -7,7 +7,9 @@ use Rattle.collation_elements.specs.Items.{items}
 use Rattle.circular_buffer.specs.Buffer.{keep_last}
 use Rattle.collation_search.specs.declared.walk.KeyPlace.{KeyPlace}
 use Rattle.collation_search.specs.declared.walk.Walk.{Walk}
-use Rattle.collation_search.specs.ByClusters.{placed}
+use Rattle.collation_search.specs.ByClusters.{placed, found}
+use Rattle.collation_search.specs.declared.select.Select.{Select}
+use Rattle.collation_search.specs.Selecting.{selected, remembered}
 use Rattle.collation_search.specs.Restoring.{places_in}
 use Rattle.collation_search.specs.State.{flag_word, place_words, kept_places}
 use Rattle.collation_search.specs.Walks.{place_of, WalksOver}
@@ -34,8 +36,8 @@ kept_places-length pattern items ranges w h =
 -- one that has the places kept of another one, and else what that has, stands for the same
 pub walks-restored : (pattern : List Key) (items : List Item) (ranges : List (ℕ × ℕ)) (old new : Walk) → WalksOver pattern items ranges old →
     new.state ≡ old.state → new.start ≡ old.start → new.has_keys ≡ old.has_keys → new.places.items ≡ kept_places old → new.places.capacity ≡ length pattern →
-    WalksOver pattern items ranges new
-walks-restored pattern items ranges old new h state start has_keys places capacity =
+    new.select ≡ old.select → new.last_end ≡ old.last_end → WalksOver pattern items ranges new
+walks-restored pattern items ranges old new h state start has_keys places capacity select last_end =
     let kept = kept_places-length pattern items ranges old h in
     let len = ap length places in
     let all = map place_of (placed (h.before ++ h.current ∷ [])) in
@@ -49,5 +51,6 @@ walks-restored pattern items ranges old new h state start has_keys places capaci
       capacity = capacity;
       few = omega (arith, len, kept, walks-within pattern items ranges old h);
       places = keep_last-all new.state new.places.items (omega (arith, len, kept, state)) ∙ places ∙ h.places ∙ sym (ap (λ n. keep_last n all) state);
-      handed_out = h.handed_out;
+      handed_out = h.handed_out ∙ sym (ap (λ (s : Select). selected s (found pattern h.before h.current.start)) select);
+      last_end = last_end ∙ h.last_end ∙ sym (ap (λ (s : Select). remembered s ranges) select);
     }

@@ -1,7 +1,7 @@
 -- What a search that goes on saves of its walk is as a state says.
 use Rattle.std.specs.Str.{chars, IsUtf8}
 use Rattle.std.proofs.Common.{◌≡◌, ℕ, zero, suc, ◌+◌, ◌-◌, ◌*◌, ◌<◌, ◌≤◌, ◌==◌, nat_le, Bool, true, false, cond, ◌&&◌, ◌||◌, not, List, [], ◌∷◌, ◌++◌, length, take, drop, map, slice_get, slice_index, Option, Some, None, refl, sym, ap, ◌∙◌, subst, arith, inl, inr, append-nil}
-use Rattle.std.proofs.lemmas.Bool.{and_parts, le-leb, cases_Bool, leb-true, or_right}
+use Rattle.std.proofs.lemmas.Bool.{and_parts, and_from, le-leb, cases_Bool, leb-true, or_right}
 use Rattle.std.proofs.lemmas.List.{length-drop, length-take-le}
 use Rattle.std.proofs.lemmas.Str.{chars-nil}
 use Rattle.utf8_cut.specs.Characters.{characters_end, after_characters}
@@ -23,17 +23,20 @@ use Rattle.collation_search.specs.declared.walk.Walk.{Walk}
 use Rattle.collation_search.specs.ByClusters.{PlacedKey, text_begin, placed, placed_at}
 use Rattle.collation_search.specs.Finding.{FinderStandsFor}
 use Rattle.collation_search.specs.GoodPrefix.{whole}
-use Rattle.collation_search.specs.Restoring.{places_in}
+use Rattle.collation_search.specs.Restoring.{places_in, last_end_in}
 use Rattle.collation_search.specs.Search.{Sought}
 use Rattle.collation_search.specs.Searching.{Searched}
-use Rattle.collation_search.specs.State.{flag_word, place_words, point_words, kept_places, match_waits, is_first_place, state_words}
+use Rattle.collation_search.specs.State.{flag_word, place_words, point_words, kept_places, match_waits, is_first_place, head_words, chain_record, tail_words, state_words}
+use Rattle.collation_search.specs.declared.select.Select.{Select}
+use Rattle.collation_search.specs.declared.select.Select.TheVariants.{All, Chain}
 use Rattle.collation_search.specs.declared.states.Resumed.{Resumed}
-use Rattle.collation_search.specs.StateTests.{head, is_flag, are_places, may_match_wait}
+use Rattle.collation_search.specs.StateTests.{head, head_len, is_flag, are_places, may_match_wait, is_chain_end}
 use Rattle.collation_search.specs.Walks.{place_of}
 use Rattle.collation_search.proofs.BridgeLists.{In, Rising, in_left, in_right}
 use Rattle.collation_search.proofs.BridgeRanges.{Below}
 use Rattle.collation_search.proofs.BridgeMatches.{rising_boundaries}
 use Rattle.collation_search.proofs.LagRanges.{begins-with}
+use Rattle.collation_search.proofs.LastEnds.{StartBy, walks-last_end}
 use Rattle.collation_search.proofs.SavingLemmas.{drop-some, place_words-length}
 use Rattle.collation_search.proofs.SearchBegins.{items_go_on}
 use Rattle.collation_search.proofs.SearchLemmas.{either}
@@ -218,6 +221,24 @@ searched-start law text_law within s cut finder fault taken handed h goes_on =
     let order = walked-in_order law s finder (whole taken) handed h.found goes_on (text_law taken) in
     omega (arith, w.start, order.within, searched-whole within s cut finder fault taken handed h)
 
+-- the last range of a chain ends at the start of the current cluster or before
+in_order-start_by : (least most : ℕ) (before : List Cluster) (current : Cluster) → InOrder least most (before ++ current ∷ []) → StartBy most before
+in_order-start_by least most [] current h = λ start none. absurd none
+in_order-start_by least most (d ∷ before) current h =
+    λ start there. elim there [
+      | inl e ↦ omega (arith, h.1, e)
+      | inr later ↦ in_order-start_by d.start most before current h.2 start later
+    ]
+
+pub searched-last_end : BoundariesAreStarts → TextLaw → (s : Sought) (cut : CutState) (finder : Finder) (fault : Option TextFault) (taken : List ℕ) (handed : List (ℕ × ℕ)) →
+    Searched s.table s.pattern cut finder fault taken handed → finder.window.has_ended ≡ false →
+    finder.walk.last_end ≤ finder.walk.start
+searched-last_end law text_law s cut finder fault taken handed h goes_on =
+    let m = h.found.matched in
+    let w = m.walked in
+    let order = walked-in_order law s finder (whole taken) handed h.found goes_on (text_law taken) in
+    walks-last_end s.pattern.keys m.items handed finder.walk w (in_order-start_by 0 w.current.start w.before w.current order.in_order)
+
 pub searched-state : (s : Sought) (cut : CutState) (finder : Finder) (fault : Option TextFault) (taken : List ℕ) (handed : List (ℕ × ℕ)) →
     Searched s.table s.pattern cut finder fault taken handed → finder.walk.state ≤ length s.pattern.keys
 searched-state s cut finder fault taken handed h =
@@ -230,6 +251,7 @@ pub record WalkIsSaved (pattern_len : ℕ) (walk : Walk) (end : ℕ) : Type 0 wh
   pub places : are_places 0 walk.start (place_words (kept_places walk)) ≡ true
   pub start : walk.start ≤ end
   pub state : walk.state ≤ pattern_len
+  pub last_end : walk.last_end ≤ walk.start
 
 pub walk-saved : BoundariesAreStarts → TextLaw → WithinLaw → (s : Sought) (cut : CutState) (finder : Finder) (fault : Option TextFault) (taken : List ℕ) (handed : List (ℕ × ℕ)) →
     Searched s.table s.pattern cut finder fault taken handed → finder.window.has_ended ≡ false →
@@ -243,7 +265,35 @@ walk-saved law text_law within s cut finder fault taken handed h goes_on =
       places = searched-places law text_law s cut finder fault taken handed h goes_on;
       start = searched-start law text_law within s cut finder fault taken handed h goes_on;
       state = searched-state s cut finder fault taken handed h;
+      last_end = searched-last_end law text_law s cut finder fault taken handed h goes_on;
     }
+
+-- ---- the records before those of places and points
+
+-- the words of a search that goes on, where this is selected and that end is said of a chain
+abbrev pub open_words : Select → TableMap → Compiled → CutState → Finder → ℕ → List ℕ → List ℕ
+open_words select table pattern cut finder end tail = head_words table pattern cut finder None ++ chain_record select end ++ tail
+
+pub open_words-tail : (select : Select) (table : TableMap) (pattern : Compiled) (cut : CutState) (finder : Finder) (end : ℕ) (tail : List ℕ) →
+    drop (head_len select) (open_words select table pattern cut finder end tail) ≡ tail
+open_words-tail All table pattern cut finder end tail = refl
+open_words-tail Chain table pattern cut finder end tail = refl
+
+-- the word after the first of the tail
+open_words-second : (select : Select) (table : TableMap) (pattern : Compiled) (cut : CutState) (finder : Finder) (end : ℕ) (tail : List ℕ) →
+    slice_index (open_words select table pattern cut finder end tail) (head_len select + 1) ≡ slice_index tail 1
+open_words-second All table pattern cut finder end tail = refl
+open_words-second Chain table pattern cut finder end tail = refl
+
+pub open_words-last_end : (select : Select) (table : TableMap) (pattern : Compiled) (cut : CutState) (finder : Finder) (end : ℕ) (tail : List ℕ) → (select ≡ All → end ≡ 0) →
+    last_end_in select (open_words select table pattern cut finder end tail) ≡ end
+open_words-last_end All table pattern cut finder end tail none = sym (none refl)
+open_words-last_end Chain table pattern cut finder end tail none = refl
+
+pub open_words-chain_end : (select : Select) (table : TableMap) (pattern : Compiled) (cut : CutState) (finder : Finder) (end : ℕ) (tail : List ℕ) → end ≤ finder.walk.start →
+    is_chain_end select (head (open_words select table pattern cut finder end tail)) (open_words select table pattern cut finder end tail) ≡ true
+open_words-chain_end All table pattern cut finder end tail below = refl
+open_words-chain_end Chain table pattern cut finder end tail below = and_from _ _ (le-leb end finder.walk.start below) refl
 
 -- ---- a match that waits
 
@@ -256,14 +306,17 @@ first-place ps i h =
     ]
 
 -- a match waits as a state says
-pub saved-match_waits : (r : Resumed) (table : TableMap) (pattern : Compiled) (cut : CutState) (finder : Finder) (fault : Option TextFault) → r.pattern_len ≡ length pattern.keys →
+pub saved-match_waits : (r : Resumed) (table : TableMap) (pattern : Compiled) (cut : CutState) (finder : Finder) (fault : Option TextFault) → r.pattern_len ≡ length pattern.keys → r.select ≡ finder.walk.select →
     may_match_wait r (head (state_words table pattern cut finder fault)) (state_words table pattern cut finder fault) ≡ true
-saved-match_waits r table pattern cut finder (Some fault) same = refl
-saved-match_waits r table pattern cut finder None same =
+saved-match_waits r table pattern cut finder (Some fault) same select = refl
+saved-match_waits r table pattern cut finder None same select =
     let walk = finder.walk in
     let words = state_words table pattern cut finder None in
     let later = point_words finder.window.points in
     let last = point_words finder.reorder.held in
+    let second : ℕ = slice_index words (head_len r.select + 1) in
+    let second_is : second ≡ slice_index (tail_words finder None) 1 =
+    ap (λ x. slice_index words (head_len x + 1)) select ∙ open_words-second walk.select table pattern cut finder walk.last_end (tail_words finder None) in
     let at = length walk.places.items - walk.state in
     let oldest = is_first_place (slice_get walk.places.items at) in
     elim (cases_Bool (match_waits (length pattern.keys) walk)) [
@@ -272,10 +325,11 @@ saved-match_waits r table pattern cut finder None same =
           let b = and_parts (walk.state == length pattern.keys) oldest a.1 in
           let first = first-place walk.places.items at b.1 in
           let state : (walk.state == r.pattern_len) ≡ true = ap (λ n. walk.state == n) same ∙ b.0 in
-          let flag : (slice_index words 21 == 1) ≡ true =
-          ap (λ (ps : List KeyPlace). slice_index ((place_words ps ++ later) ++ last) 1 == 1) first.2 ∙ flag-read first.0.is_first ∙ first.3 in
+          let flag : (second == 1) ≡ true =
+          ap (λ (n : ℕ). n == 1) second_is
+          ∙ ap (λ (ps : List KeyPlace). slice_index ((place_words ps ++ later) ++ last) 1 == 1) first.2 ∙ flag-read first.0.is_first ∙ first.3 in
           let keyed : (flag_word walk.has_keys == 1) ≡ true = flag-read walk.has_keys ∙ a.0 in
-          or_right (flag_word (match_waits (length pattern.keys) walk) == 0) (walk.state == r.pattern_len && (slice_index words 21 == 1 && flag_word walk.has_keys == 1))
+          or_right (flag_word (match_waits (length pattern.keys) walk) == 0) (walk.state == r.pattern_len && (second == 1 && flag_word walk.has_keys == 1))
           (rw (state, flag, keyed) refl)
-      | inr none ↦ ap (λ b. flag_word b == 0 || (walk.state == r.pattern_len && (slice_index words 21 == 1 && flag_word walk.has_keys == 1))) none
+      | inr none ↦ ap (λ b. flag_word b == 0 || (walk.state == r.pattern_len && (second == 1 && flag_word walk.has_keys == 1))) none
     ]

@@ -63,9 +63,9 @@ pub point_words-length : (ps : List Point) → length (point_words ps) ≡ 4 * l
 point_words-length [] = refl
 point_words-length (p ∷ ps) = omega (arith, point_words-length ps, length-append (point_record p) (point_words ps))
 
-chain_record-records : (select : Select) (end : ℕ) → 20 + length (chain_record select end) ≡ 4 * records_before select
-chain_record-records All end = refl
-chain_record-records Chain end = refl
+pub head_len-records : (select : Select) → head_len select ≡ 4 * records_before select
+head_len-records All = refl
+head_len-records Chain = refl
 
 chain_record-length : (select : Select) (end : ℕ) → 20 + length (chain_record select end) ≡ head_len select
 chain_record-length All end = refl
@@ -86,7 +86,7 @@ state-records table pattern cut finder (Some fault) state window waiting =
     let chain = chain_words finder.walk (Some fault) in (
       records_before finder.walk.select,
       omega arith,
-      omega (arith, ap length (append-nil chain), chain_record-records finder.walk.select 0),
+      omega (arith, ap length (append-nil chain), chain_record-length finder.walk.select 0, head_len-records finder.walk.select),
     )
 state-records table pattern cut finder None state window waiting =
     let kept = kept_places finder.walk in
@@ -95,10 +95,10 @@ state-records table pattern cut finder None state window waiting =
     let held = point_words finder.reorder.held in
     let chain = chain_words finder.walk None in
     let short : length kept ≤ finder.walk.state = omega (arith, length-drop (length finder.walk.places.items - finder.walk.state) finder.walk.places.items) in
-    let before = chain_record-records finder.walk.select finder.walk.last_end in (
+    let before = chain_record-length finder.walk.select finder.walk.last_end in (
       records_before finder.walk.select + (length kept + (length finder.window.points + length finder.reorder.held)),
       omega arith,
-      omega (arith, before, length-append chain ((places ++ points) ++ held), length-append (places ++ points) held, length-append places points, place_words-length kept, point_words-length finder.window.points, point_words-length finder.reorder.held),
+      omega (arith, before, head_len-records finder.walk.select, length-append chain ((places ++ points) ++ held), length-append (places ++ points) held, length-append places points, place_words-length kept, point_words-length finder.window.points, point_words-length finder.reorder.held),
     )
 
 -- ---- the whole state
