@@ -3,12 +3,16 @@
 use Rattle.std.specs.Prelude.{◌≡◌, ℕ, ◌+◌, ◌^◌, List, ◌++◌, take, slice_set, Option, None, Some}
 use Rattle.collation_elements.specs.declared.settings.Variable.TheVariants.{NonIgnorable}
 use Rattle.collation_elements.specs.declared.settings.Strength.TheVariants.{Three}
+use Rattle.collation_search.specs.declared.select.Select.TheVariants.{All, Chain}
 use Rattle.collation_search.specs.State.{four}
 use Rattle.collation_search.specs.declared.states.Resumed.{Resumed}
 use Rattle.collation_search.specs.StateTests.{state_fault}
 
 abbrev pub worked : Resumed
-worked = record { pattern_len = 2; longest_key = 2; most_elements = 2; strength = Three; variable = NonIgnorable }
+worked = record { pattern_len = 2; longest_key = 2; most_elements = 2; strength = Three; variable = NonIgnorable; select = All }
+
+abbrev pub worked_chain : Resumed
+worked_chain = record { pattern_len = 2; longest_key = 2; most_elements = 2; strength = Three; variable = NonIgnorable; select = Chain }
 
 abbrev pub at_begin : List ℕ
 at_begin = four 1 2 2 2 ++ four 3 0 0 0 ++ four 0 0 0 0 ++ four 0 0 0 0 ++ four 0 0 0 0
@@ -33,6 +37,15 @@ accent_waits = four 1 2 2 2 ++ four 3 0 2 0 ++ four 0 0 0 0 ++ four 0 0 0 0 ++ f
 -- after the byte ff
 abbrev pub after_fault : List ℕ
 after_fault = four 1 2 2 2 ++ four 3 0 0 31 ++ four 0 0 0 0 ++ four 0 0 0 0 ++ four 0 0 0 0
+
+-- of a chain after `aaaa`, where the range from 0 to 2 was handed out
+abbrev pub chain_after_aaaa : List ℕ
+chain_after_aaaa =
+    four 2 2 2 2 ++ four 3 0 4 0 ++ four 0 0 0 0 ++ four 2 1 1 2 ++ four 1 0 0 0 ++ four 2 0 0 0 ++ four 1 1 0 0 ++ four 2 1 0 0 ++ four 97 3 1 0
+
+-- of a chain after the byte ff
+abbrev pub chain_after_fault : List ℕ
+chain_after_fault = four 2 2 2 2 ++ four 3 0 0 31 ++ four 0 0 0 0 ++ four 0 0 0 0 ++ four 0 0 0 0 ++ four 0 0 0 0
 
 -- the state after `a` with one word, counted from 0, changed
 abbrev pub changed : ℕ → ℕ → Option ℕ
@@ -64,3 +77,14 @@ pub record ChangedStates : Type 0 where
   pub decomposed_accent_waits : state_fault worked (slice_set accent_waits 24 836) ≡ Some 51
   pub offset : changed 21 1 ≡ Some 51
   pub zero_word : changed 23 1 ≡ Some 51
+
+pub record ChainStates : Type 0 where
+  pub aaaa : state_fault worked_chain chain_after_aaaa ≡ None
+  pub under_all : state_fault worked chain_after_aaaa ≡ Some 51
+  pub first_form : state_fault worked_chain (slice_set chain_after_aaaa 0 1) ≡ Some 51
+  pub of_all_ranges : state_fault worked_chain after_aaa ≡ Some 51
+  pub without_the_sixth_record : state_fault worked_chain (slice_set at_begin 0 2) ≡ Some 51
+  pub late_end : state_fault worked_chain (slice_set chain_after_aaaa 20 3) ≡ Some 51
+  pub not_zero : state_fault worked_chain (slice_set chain_after_aaaa 21 1) ≡ Some 51
+  pub fault : state_fault worked_chain chain_after_fault ≡ None
+  pub end_at_a_fault : state_fault worked_chain (slice_set chain_after_fault 20 1) ≡ Some 51

@@ -12,7 +12,7 @@ pub loop-piece-preserved : goal.loop-piece-preserved
 loop-piece-preserved g c =
     let i = c.loop-piece.piece-index in
     let pieces = c.args.pieces.now in
-    let s : Sought = record { table = g.W.Weights.table c.args.table.now; pattern = c.args.pattern.now } in
+    let s : Sought = record { table = g.W.Weights.table c.args.table.now; pattern = c.args.pattern.now; select = c.args.select } in
     let before = c.loop-piece.invariant.2 in
     let taken = c.in_ok-records.ensures.taken in
     let few = c.in_ok-records.ensures.few in (
@@ -27,7 +27,7 @@ loop-piece-preserved g c =
 
 pub returns-clause-answer : goal.returns-clause-answer
 returns-clause-answer g c = λ text compiled.
-    let s : Sought = record { table = g.W.Weights.table c.args.table.now; pattern = c.args.pattern.now } in
+    let s : Sought = record { table = g.W.Weights.table c.args.table.now; pattern = c.args.pattern.now; select = c.args.select } in
     let before = c.loop-piece.invariant.2 in
     let all = take_all c.loop-piece.piece-index c.args.pieces.now (omega (arith, c.loop-piece-test.false)) in
     let whole = subst (λ t. IsUnderWay c.loop-piece.search s (joined t) before.0) all before.2 in

@@ -18,5 +18,5 @@ prove_eq-unreachable-requires g c =
     let fed = c.feed-fault.ensures.fed in
     let words = c.deref.ensures.value ∙ c.in_ok-save.ensures.saved ∙ ap (λ (t : List ℕ). t ++ words_of c.feed-fault.new.self) c.clear.ensures.items in
     let way = c.requires.under_way in
-    let kind = under_way-kept c.args.search.now c.feed-fault.new.self c.args.piece.now c.feed-fault.result fed.0 c.deref.result.now c.resume.result fed.2 words c.resume.ensures.kept way.0 way.1 way.2 way.3 in
+    let kind = under_way-kept c.args.search.now c.feed-fault.new.self c.args.piece.now c.feed-fault.result fed.0 c.deref.result.now c.resume_with.result fed.2 words c.resume_with.ensures.kept way.0 way.1 way.2 way.3 in
     search (kind, rules)
