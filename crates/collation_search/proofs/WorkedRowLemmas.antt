@@ -7,7 +7,7 @@ use Rattle.unicode_normalization.specs.StreamSafe.{has_short_runs}
 use Rattle.unicode_normalization.proofs.Computing.{unicode_normalization}
 use Rattle.nfd_points.specs.Points.{byte_len, points_at, points_from, is_reorderable, is_in_order, sink, ordered}
 use Rattle.nfd_points.specs.PointFaults.{run_after, fault_of_code_point, fault_from}
-use Rattle.collation_search.specs.WorkedRows.{OverlappingLetters, ComposedPrimary, ComposedSecondary, DecomposedPrimary, DecomposedSecondary, InsideContraction, HyphenShifted, HyphenKept, SoftHyphen, Discontiguous, DiscontiguousSecondary, BlockedAccent, BlockedBase, AccentBefore, BadByte, IncompleteSequence}
+use Rattle.collation_search.specs.WorkedRows.{OverlappingLetters, ComposedPrimary, ComposedSecondary, DecomposedPrimary, DecomposedSecondary, InsideContraction, HyphenShifted, HyphenKept, SoftHyphen, Discontiguous, DiscontiguousSecondary, BlockedAccent, BlockedBase, AccentBefore, BadByte, IncompleteSequence, ChainOfLetters, ChainAtBadByte}
 
 -- `unfolding rows` lets `refl` compute a row
 unfoldable rows : Unit {0}
@@ -77,3 +77,11 @@ bad_byte_lem = refl
 pub incomplete_sequence_lem : IncompleteSequence
 unfolding rows
 incomplete_sequence_lem = refl
+
+pub chain_of_letters_lem : ChainOfLetters
+unfolding rows
+chain_of_letters_lem = refl
+
+pub chain_at_bad_byte_lem : ChainAtBadByte
+unfolding rows
+chain_at_bad_byte_lem = refl

@@ -4,6 +4,8 @@ use Rattle.collation_elements.specs.declared.settings.Variable.TheVariants.{NonI
 use Rattle.collation_elements.specs.declared.settings.Strength.TheVariants.{One, Two, Three}
 use Rattle.collation_search.specs.Matches.{matches}
 use Rattle.collation_search.specs.Answer.{answer}
+use Rattle.collation_search.specs.declared.select.Select.TheVariants.{Chain}
+use Rattle.collation_search.specs.Selecting.{chain, selected_answer}
 use Rattle.collation_elements.specs.WorkedTable.{worked_table}
 
 -- UTF-8 of U+00E9, U+00FA, U+0300, U+0301, U+0327
@@ -85,3 +87,13 @@ BadByte = answer worked_table Three NonIgnorable (codes "a") (codes "ab " ++ 0xF
 -- `b` in `ab` and the byte c3: the match that ends at the fault is not handed out
 abbrev pub IncompleteSequence : Type 0
 IncompleteSequence = answer worked_table Three NonIgnorable (codes "b") (codes "ab" ++ 0xC3 ∷ []) ≡ record { ranges = []; fault = Some (record { kind = 31; offset = 2 }) }
+
+-- the chain of `aa` in `aaaa`: the range from 1 to 3 overlaps the first one
+abbrev pub ChainOfLetters : Type 0
+ChainOfLetters = chain (matches worked_table Three NonIgnorable (codes "aa") (codes "aaaa")) ≡ (0, 2) ∷ (2, 4) ∷ []
+
+-- the chain of `aa` in `aaaaa` and the byte ff: of the settled ranges
+abbrev pub ChainAtBadByte : Type 0
+ChainAtBadByte =
+    selected_answer Chain (answer worked_table Three NonIgnorable (codes "aa") (codes "aaaaa" ++ 0xFF ∷ []))
+    ≡ record { ranges = (0, 2) ∷ (2, 4) ∷ []; fault = Some (record { kind = 31; offset = 5 }) }

@@ -1,6 +1,6 @@
 //! Worked rows: small texts whose matches the definitions give, one row a function, proved by computing.
 
-ghost use Rattle.collation_search.specs.WorkedRows.{OverlappingLetters, ComposedPrimary, ComposedSecondary, DecomposedPrimary, DecomposedSecondary, InsideContraction, HyphenShifted, HyphenKept, SoftHyphen, Discontiguous, DiscontiguousSecondary, BlockedAccent, BlockedBase, AccentBefore, BadByte, IncompleteSequence};
+ghost use Rattle.collation_search.specs.WorkedRows.{OverlappingLetters, ComposedPrimary, ComposedSecondary, DecomposedPrimary, DecomposedSecondary, InsideContraction, HyphenShifted, HyphenKept, SoftHyphen, Discontiguous, DiscontiguousSecondary, BlockedAccent, BlockedBase, AccentBefore, BadByte, IncompleteSequence, ChainOfLetters, ChainAtBadByte};
 
 /// `aa` in `aaa`: ranges that overlap are all found.
 pub fn overlapping_letters()
@@ -80,4 +80,14 @@ pub fn bad_byte()
 /// `b` in `ab` and the byte c3: the match that ends at the fault is not handed out.
 pub fn incomplete_sequence()
     ensures { IncompleteSequence }
+{}
+
+/// The chain of `aa` in `aaaa`.
+pub fn chain_of_letters()
+    ensures { ChainOfLetters }
+{}
+
+/// The chain of `aa` in `aaaaa` and the byte ff: of the settled ranges.
+pub fn chain_at_bad_byte()
+    ensures { ChainAtBadByte }
 {}

@@ -1,7 +1,7 @@
 //! Strings of many code points that a table maps: of 17, and of 64, the most that one may have.
 
 use super::searches::{KEPT, ONE, Range, TABLE, THREE, fed};
-use crate::{Found, Search};
+use crate::{Found, Search, Select};
 use collation_pattern::Pattern;
 use collation_table::Table;
 use std::alloc::Global;
@@ -43,7 +43,7 @@ fn string_of_seventeen(rt: HostRuntime) -> Result<(), Fail> {
 }
 
 /// A match waits while the string of 64 letters and 30 accents after it are undecided, 94 code points; that is also the greatest
-/// state. One code point more, and it is handed out.
+/// state, which has a record more where a chain is handed out. One code point more, and the match is handed out.
 #[test]
 fn string_of_sixty_four(rt: HostRuntime) -> Result<(), Fail> {
     let alloc = rt.alloc();
@@ -51,17 +51,19 @@ fn string_of_sixty_four(rt: HostRuntime) -> Result<(), Fail> {
     let pattern = Pattern::compile(alloc, &table, "aa", THREE, KEPT)?;
     let letters = "b".repeat(alloc, 64)?;
     let accents = "\u{301}".repeat(alloc, 30)?;
-    let mut search = Search::new(alloc, &table, &pattern)?;
-    let mut handed_out = 0_u64;
-    for piece in ["aa", &letters, &accents] {
-        let _fault = search.feed(piece.as_bytes(), &mut |_, end| handed_out = end);
+    for (select, records) in [(Select::All, 101), (Select::Chain, 102)] {
+        let mut search = Search::new_with(alloc, &table, &pattern, select)?;
+        let mut handed_out = 0_u64;
+        for piece in ["aa", &letters, &accents] {
+            let _fault = search.feed(piece.as_bytes(), &mut |_, end| handed_out = end);
+        }
+        assert_eq!(rt; handed_out, 0);
+        let mut words = Vec::new(alloc);
+        search.save(&mut words)?;
+        assert_eq!(rt; words.len(), 4 * records);
+        let mut found = Found::new();
+        assert!(rt; search.step(b'a', &mut found).is_ok());
+        assert_eq!(rt; found.as_slice(), [(0, 2)].as_slice());
     }
-    assert_eq!(rt; handed_out, 0);
-    let mut words = Vec::new(alloc);
-    search.save(&mut words)?;
-    assert_eq!(rt; words.len(), 4 * 101);
-    let mut found = Found::new();
-    assert!(rt; search.step(b'a', &mut found).is_ok());
-    assert_eq!(rt; found.as_slice(), [(0, 2)].as_slice());
     Ok(())
 }
