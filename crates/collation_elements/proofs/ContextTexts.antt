@@ -9,7 +9,6 @@ use Rattle.collation_elements.specs.Context.{UnitsPartWhereClustersBegin}
 use Rattle.collation_elements.specs.Elements.{unit_row, begins_primary, begins_cluster}
 use Rattle.collation_elements.proofs.ContextUnits.{CutsOff, CutsOff-from, CutsOff-suffix, CutsOff-prefix, first_unit-head, units-cons}
 use Rattle.collation_elements.proofs.ContextOffsets.{units-shift}
-use Rattle.collation_elements.proofs.ContextPoints.{points-split}
 use Rattle.collation_elements.proofs.PointLaws.{PointLaws}
 
 -- a unit that begins a cluster begins with a starter that is the first point of its code point
@@ -36,12 +35,12 @@ units-split laws table cs us p ps vs h e =
     let f = units-first table cut.0 p ps vs cut.2 in
     let off : CutsOff table (points cs) us (p ∷ f.0) = subst (CutsOff table (points cs) us) f.1 cut.1 in
     let s = CutsOff-suffix table (points cs) us p f.0 b.1 off in
-    let text = points-split laws cs s.0 p f.0 b.1 b.0 s.1 in
+    let text = laws.cuts cs s.0 p f.0 b.1 b.0 s.1 in
     record {
       before = text.before;
       following = text.c ∷ text.following;
-      cs_are = text.cs_are;
-      start_is = sym text.offset_is;
-      before_units = ap (units table) text.prefix_is ∙ CutsOff-prefix table s.0 us p f.0 b.1 (subst (λ l. CutsOff table l us (p ∷ f.0)) s.1 off);
-      following_units = sym (units-shift table (byte_len text.before) (points (text.c ∷ text.following))) ∙ ap (units table) (text.later_is ∙ sym f.1) ∙ cut.2;
+      cs_are = text.text;
+      start_is = sym text.offset;
+      before_units = ap (units table) text.points_before ∙ CutsOff-prefix table s.0 us p f.0 b.1 (subst (λ l. CutsOff table l us (p ∷ f.0)) s.1 off);
+      following_units = sym (units-shift table (byte_len text.before) (points (text.c ∷ text.following))) ∙ ap (units table) (text.points_after ∙ sym f.1) ∙ cut.2;
     }

@@ -232,12 +232,12 @@ CutsOff-units table (p ∷ ps) (u ∷ us) rest h =
 
 -- ---- a point that fails a test is not in a list that passes it
 
-pub record After (prefix left later : List Point) (s : Point) (rest : List Point) : Type 0 where
+record After (prefix left later : List Point) (s : Point) (rest : List Point) : Type 0 where
   pub gap : List Point
   pub prefix_is : prefix ≡ left ++ gap
   pub later_is : later ≡ gap ++ s ∷ rest
 
-pub after_passed : (test : Point → Bool) (prefix left later : List Point) (s : Point) (rest : List Point) → list_all test left ≡ true → test s ≡ false → prefix ++ s ∷ rest ≡ left ++ later → After prefix left later s rest
+after_passed : (test : Point → Bool) (prefix left later : List Point) (s : Point) (rest : List Point) → list_all test left ≡ true → test s ≡ false → prefix ++ s ∷ rest ≡ left ++ later → After prefix left later s rest
 after_passed test prefix [] later s rest h fails e = record { gap = prefix; prefix_is = refl; later_is = sym e }
 after_passed test [] (l ∷ left) later s rest h fails e =
     let parts = and_parts (test l) (list_all test left) h in

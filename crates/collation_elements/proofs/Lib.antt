@@ -14,7 +14,6 @@ pub mod ContextJoined
 pub mod ContextLaw
 pub mod ContextOffsets
 pub mod ContextParts
-pub mod ContextPoints
 pub mod ContextTexts
 pub mod ContextUnits
 pub mod ContextWeights

@@ -8,8 +8,7 @@ returns c =
     let laws : PointLaws = record {
       short = c.laws_of_decompositions.ensures.short;
       bytes = c.laws_of_points.ensures.bytes;
-      shifts = c.laws_of_points.ensures.shifted;
-      ordering_shifts = c.laws_of_ordering.ensures.shifted;
+      cuts = c.laws_of_points.ensures.cuts;
       ordering_counts = c.laws_of_ordering.ensures.counts;
     } in
     record { boundaries = boundaries_start laws; keys = parts_have_keys laws; texts = parts_are_utf8 laws }

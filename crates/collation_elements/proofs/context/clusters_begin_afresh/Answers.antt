@@ -8,8 +8,7 @@ returns c =
     let laws : PointLaws = record {
       short = c.laws_of_decompositions.ensures.short;
       bytes = c.laws_of_points.ensures.bytes;
-      shifts = c.laws_of_points.ensures.shifted;
-      ordering_shifts = c.laws_of_ordering.ensures.shifted;
+      cuts = c.laws_of_points.ensures.cuts;
       ordering_counts = c.laws_of_ordering.ensures.counts;
     } in
     record { units = units-split laws; weights = weighted_rows-primary }

@@ -1,5 +1,4 @@
-use Rattle.std.proofs.Common.{◌≡◌, sym, ◌∙◌, ap}
-use Rattle.collation_elements.specs.declared.weigher.Weigher.{Weigher}
+use Rattle.std.proofs.Common.{sym, ◌∙◌, ap}
 use Rattle.collation_elements.specs.Elements.{begins_primary}
 use Rattle.collation_elements.specs.Weighing.{is_after_variable}
 use Rattle.collation_elements.proofs.ItemLaws.{lone_items_from}

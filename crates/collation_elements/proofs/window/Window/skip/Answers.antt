@@ -1,5 +1,5 @@
 -- Without the first points no run of non-starters is longer.
-use Rattle.std.proofs.Common.{◌≡◌, true, drop, ◌∙◌, ap, subst}
+use Rattle.std.proofs.Common.{◌≡◌, true, ◌∙◌, ap, subst}
 use Rattle.unicode_normalization.specs.StreamSafe.{has_short_runs}
 use Rattle.nfd_points.specs.declared.points.Point.{Point}
 use Rattle.circular_buffer.specs.Buffer.{Buffer}
