@@ -1,10 +1,11 @@
 -- The keys of the rows of a well-formed table, and of implicit pairs, can be read from their levels in one way only.
 use Rattle.std.specs.List.{AllByRecursion}
+use Rattle.std.specs.Int.{is_in_range}
 use Rattle.std.specs.Prelude.{IsTrue}
 use Rattle.std.proofs.Common.{◌≡◌, ℕ, ◌<◌, ◌≤◌, Bool, true, false, not, ◌&&◌, ◌||◌, ◌==◌, nat_lt, nat_le, List, [], ◌∷◌, ◌++◌, ◌⊎◌, inl, inr, sym, ◌∙◌, ap, arith, refl}
 use Rattle.std.proofs.lemmas.Bool.{cases_Bool, and_parts, or_cases, ltb-true, ltb-false, leb-true, leb-false, le-leb, lt-ltb, eq-eqb, eqb-true, eqb-false, both_ways, not-true}
 use Rattle.collation_table.specs.declared.elements.Element.{Element}
-use Rattle.collation_table.specs.Table.{TableMap, is_between}
+use Rattle.collation_table.specs.Table.{TableMap}
 use Rattle.collation_table.specs.WellFormed.{is_lead, is_follower, is_primary, is_secondary, is_tertiary, is_high_variable, skips_level, breaks_pairs, HasElement, IsWf2}
 use Rattle.collation_elements.specs.declared.settings.Strength.{Strength}
 use Rattle.collation_elements.specs.declared.settings.Strength.TheVariants.{One, Two, Three}
@@ -90,7 +91,7 @@ outside T e p h = elim (cases_Bool e.is_variable) [
       let test : nat_le 0xFB00 e.w1 ≡ false = rw is at high in
       absurd (both_ways _ test (le-leb 0xFB00 e.w1 h))
   | inr is ↦
-      let lead : (not e.is_variable && is_between 0xFB00 0xFBFF e.w1 && not (is_follower e)) ≡ false = p.no_lead in
+      let lead : (not e.is_variable && is_in_range 0xFB00 0xFBFF e.w1 && not (is_follower e)) ≡ false = p.no_lead in
       let plain = p.no_follower in
       let low = le-leb 0xFB00 e.w1 h in
       elim (cases_Bool (nat_le e.w1 0xFBFF)) [
@@ -168,8 +169,8 @@ ignorable_readable T wf Three = tt
 pair_readable : (T : TableMap) (wf : IsWf2 T) (s : Strength) (e f : Element) → is_lead e ≡ true → is_follower f ≡ true →
     0 < e.w2 → LowSecond T e.w2 → 0 < e.w3 → LowThird T e.w3 → IsReadable (scale_of T wf) s (pair_key s e f)
 pair_readable T wf s e f lead follower some2 low2 some3 low3 =
-    let parts = and_parts (not e.is_variable && is_between 0xFB00 0xFBFF e.w1) (not (is_follower e)) lead in
-    let between = and_parts (nat_le 0xFB00 e.w1) (nat_le e.w1 0xFBFF) (and_parts (not e.is_variable) (is_between 0xFB00 0xFBFF e.w1) parts.0).1 in
+    let parts = and_parts (not e.is_variable && is_in_range 0xFB00 0xFBFF e.w1) (not (is_follower e)) lead in
+    let between = and_parts (nat_le 0xFB00 e.w1) (nat_le e.w1 0xFBFF) (and_parts (not e.is_variable) (is_in_range 0xFB00 0xFBFF e.w1) parts.0).1 in
     let prefix = and_parts (not f.is_variable && nat_le 0x8000 f.w1 && (f.w2 == 0)) (f.w3 == 0) follower in
     let form = and_parts (not f.is_variable && nat_le 0x8000 f.w1) (f.w2 == 0) prefix.0 in
     let high = leb-true 0x8000 f.w1 (and_parts (not f.is_variable) (nat_le 0x8000 f.w1) form.0).1 in
@@ -249,8 +250,8 @@ not_false false h = cc
 -- the weights of an element that begins a pair, in a row of a table
 leading : (T : TableMap) (e : Element) → IsSound T e → is_lead e ≡ true → (0 < e.w2) × LowSecond T e.w2 × (0 < e.w3) × LowThird T e.w3
 leading T e sound lead =
-    let parts = and_parts (not e.is_variable && is_between 0xFB00 0xFBFF e.w1) (not (is_follower e)) lead in
-    let between = and_parts (nat_le 0xFB00 e.w1) (nat_le e.w1 0xFBFF) (and_parts (not e.is_variable) (is_between 0xFB00 0xFBFF e.w1) parts.0).1 in
+    let parts = and_parts (not e.is_variable && is_in_range 0xFB00 0xFBFF e.w1) (not (is_follower e)) lead in
+    let between = and_parts (nat_le 0xFB00 e.w1) (nat_le e.w1 0xFBFF) (and_parts (not e.is_variable) (is_in_range 0xFB00 0xFBFF e.w1) parts.0).1 in
     let low = leb-true 0xFB00 e.w1 between.0 in
     let follower : is_follower e ≡ false = not-true (is_follower e) parts.1 in
     let first = lt-ltb 0 e.w1 (omega arith) in

@@ -1,12 +1,13 @@
 -- The keys of a text under a well-formed table can be read from their levels in one way only.
 use Rattle.std.specs.List.{AllByRecursion, slice_get, find, list_any}
+use Rattle.std.specs.Int.{is_in_range}
 use Rattle.std.specs.Prelude.{Contains}
 use Rattle.std.proofs.Common.{◌≡◌, ℕ, zero, suc, ◌/◌, ◌<◌, ◌≤◌, Bool, true, false, not, nat_lt, nat_le, List, [], ◌∷◌, ◌++◌, take, drop, map, flat_map, max, inl, inr, arith, refl, lit<, lit≤, Option, Some, None}
 use Rattle.std.proofs.lemmas.Bool.{cases_Bool, and_parts, leb-true, le-leb, not-false}
 use Rattle.std.proofs.lemmas.Nat.{div_below}
 use Rattle.collation_table.specs.declared.elements.Element.{Element}
 use Rattle.collation_table.specs.declared.ranges.ImplicitRange.{ImplicitRange}
-use Rattle.collation_table.specs.Table.{TableMap, row_of, is_between, is_in, implicit_base, implicit_weights, implicit_weights_in, longest_prefix, is_core_ideograph, is_other_ideograph}
+use Rattle.collation_table.specs.Table.{TableMap, row_of, is_in, implicit_base, implicit_weights, implicit_weights_in, longest_prefix, is_core_ideograph, is_other_ideograph}
 use Rattle.collation_table.specs.WellFormed.{is_lead, is_follower, skips_level, HasElement, IsWellFormed}
 use Rattle.nfd_points.specs.declared.points.Point.{Point}
 use Rattle.nfd_points.specs.Points.{is_starter}
@@ -105,8 +106,8 @@ range_base T wf p r h =
     let sound = wf.ranges at.0 r at.1 in
     let last = or_false _ _ sound in
     let overlap = or_false _ _ last.0 in
-    let based = or_false (nat_lt r.last r.first) (not (is_between 0xFB00 0xFB3F r.base)) overlap.0 in
-    let between = and_parts (nat_le 0xFB00 r.base) (nat_le r.base 0xFB3F) (not-false (is_between 0xFB00 0xFB3F r.base) based.1) in
+    let based = or_false (nat_lt r.last r.first) (not (is_in_range 0xFB00 0xFB3F r.base)) overlap.0 in
+    let between = and_parts (nat_le 0xFB00 r.base) (nat_le r.base 0xFB3F) (not-false (is_in_range 0xFB00 0xFB3F r.base) based.1) in
     (leb-true 0xFB00 r.base between.0, leb-true r.base 0xFB3F between.1)
 
 base_between : (cp : ℕ) → (0xFB40 ≤ implicit_base cp) × (implicit_base cp ≤ 0xFBC0)

@@ -1,9 +1,10 @@
 -- Lemmas on lists of implicit ranges.
 use Rattle.std.proofs.Common.{◌≡◌, ℕ, zero, suc, ◌+◌, ◌-◌, ◌<◌, ◌≤◌, Bool, true, false, not, ◌||◌, nat_eq, nat_lt, nat_le, cond, List, [], ◌∷◌, take, map, Some, slice_get, refl, sym, ap, ◌∙◌, arith, eq-eqb, if◌then◌else◌, find, ◌⊎◌, inl, inr, lit≤}
+use Rattle.std.specs.Int.{is_in_range}
 use Rattle.std.proofs.lemmas.Bool.{ltb-false, leb-true, eqb-true, cases_lt, and_parts, or_parts}
 use Rattle.std.specs.List.{list_any}
 use Rattle.collation_table.specs.declared.ranges.ImplicitRange.{ImplicitRange}
-use Rattle.collation_table.specs.Table.{is_between, is_core_ideograph, is_other_ideograph, implicit_base, first_with_base, greatest, is_in}
+use Rattle.collation_table.specs.Table.{is_core_ideograph, is_other_ideograph, implicit_base, first_with_base, greatest, is_in}
 use Rattle.collation_table.specs.WellFormed.{breaks_ranges, overlaps, with_base, AreRangesSound}
 
 pub first_with_base-le : (base cp : ℕ) (rs : List ImplicitRange) → first_with_base base cp rs ≤ cp
@@ -52,7 +53,7 @@ spread_le earlier r h =
     let lasts = greatest (map (λ s. s.last) (r ∷ with_base r.base earlier)) in
     let first = first_with_base r.base r.first earlier in
     let narrow : nat_lt 0x7FFF (lasts - first) ≡ false =
-    (or_parts (nat_lt r.last r.first || not (is_between 0xFB00 0xFB3F r.base) || list_any (overlaps r) earlier) (nat_lt 0x7FFF (lasts - first)) h).1 in
+    (or_parts (nat_lt r.last r.first || not (is_in_range 0xFB00 0xFB3F r.base) || list_any (overlaps r) earlier) (nat_lt 0x7FFF (lasts - first)) h).1 in
     let le : lasts - first ≤ 0x7FFF = ltb-false 0x7FFF (lasts - first) narrow in
     omega (arith, le)
 

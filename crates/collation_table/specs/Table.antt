@@ -1,6 +1,7 @@
 -- A collation element table as a finite map from lists of code points to lists of collation elements, with the ranges
 -- of implicit weights (UTS #10, sections 3 and 10.1.3).
-use Rattle.std.specs.Prelude.{◌≡◌, ℕ, zero, suc, ◌+◌, ◌-◌, ◌/◌, ◌%◌, ◌≤◌, min, max, Bool, false, ◌&&◌, ◌||◌, ◌==◌, nat_le, if◌then◌else◌, List, [], ◌∷◌, ◌++◌, length, take, map, find, Option, Some, None, is_some, bytes_eq}
+use Rattle.std.specs.Prelude.{◌≡◌, ℕ, zero, suc, ◌+◌, ◌-◌, ◌/◌, ◌%◌, ◌≤◌, min, max, Bool, false, ◌&&◌, ◌||◌, ◌==◌, if◌then◌else◌, List, [], ◌∷◌, ◌++◌, length, take, map, find, Option, Some, None, is_some, bytes_eq}
+use Rattle.std.specs.Int.{is_in_range}
 use Rattle.unicode_normalization.specs.Forms.{nfd}
 use Rattle.unicode_normalization.specs.Lookups.{canonical_combining_class}
 use Rattle.collation_table.specs.declared.limits.TheConstants.{MOST_STRING_POINTS, MOST_ROW_ELEMENTS}
@@ -44,19 +45,16 @@ ContinuesNoString T cp = (first : ℕ) (prefix rest : List ℕ) → is_mapped T 
 
 -- ---- implicit weights (UTS #10, section 10.1.3)
 
-abbrev pub is_between : ℕ → ℕ → ℕ → Bool
-is_between first last cp = nat_le first cp && nat_le cp last
-
 abbrev pub is_in : ℕ → ImplicitRange → Bool
-is_in cp range = is_between range.first range.last cp
+is_in cp range = is_in_range range.first range.last cp
 
 -- the ideographs of the block CJK Unified Ideographs, and those among the compatibility ideographs
 abbrev pub is_core_ideograph : ℕ → Bool
-is_core_ideograph cp = is_between 0x4E00 0x9FFF cp || is_between 0xFA0E 0xFA0F cp || (cp == 0xFA11) || is_between 0xFA13 0xFA14 cp || (cp == 0xFA1F) || (cp == 0xFA21) || is_between 0xFA23 0xFA24 cp || is_between 0xFA27 0xFA29 cp
+is_core_ideograph cp = is_in_range 0x4E00 0x9FFF cp || is_in_range 0xFA0E 0xFA0F cp || (cp == 0xFA11) || is_in_range 0xFA13 0xFA14 cp || (cp == 0xFA1F) || (cp == 0xFA21) || is_in_range 0xFA23 0xFA24 cp || is_in_range 0xFA27 0xFA29 cp
 
 -- the ideographs of the extensions
 abbrev pub is_other_ideograph : ℕ → Bool
-is_other_ideograph cp = is_between 0x3400 0x4DBF cp || is_between 0x20000 0x2A6DF cp || is_between 0x2A700 0x2EE5F cp || is_between 0x30000 0x323AF cp
+is_other_ideograph cp = is_in_range 0x3400 0x4DBF cp || is_in_range 0x20000 0x2A6DF cp || is_in_range 0x2A700 0x2EE5F cp || is_in_range 0x30000 0x323AF cp
 
 -- the base to which the upper bits of a code point in no range are added
 abbrev pub implicit_base : ℕ → ℕ
@@ -109,7 +107,7 @@ pub record HasSizes (T : TableMap) : Type 0 where
 -- ---- starters
 
 abbrev pub is_scalar_value : ℕ → Bool
-is_scalar_value cp = is_between 0 0xD7FF cp || is_between 0xE000 0x10FFFF cp
+is_scalar_value cp = is_in_range 0 0xD7FF cp || is_in_range 0xE000 0x10FFFF cp
 
 -- The canonical combining class of a code point that stands in a mapped string. One that a text in NFD never has, as a
 -- surrogate or a code point that is not its own decomposition, counts as a starter.

@@ -2,12 +2,13 @@
 -- that this library adds, so that the primary weights of a sort key can be read in one way only, and the conditions on the
 -- ranges of implicit weights. Each `breaks_` is a test that is true where the condition is broken.
 use Rattle.std.specs.Prelude.{◌≡◌, ℕ, ◌-◌, ◌<◌, ◌≤◌, Bool, true, false, not, ◌&&◌, ◌||◌, ◌==◌, nat_le, nat_lt, if◌then◌else◌, List, [], ◌∷◌, length, take, map, filter, flat_map, All, Contains, slice_get, slice_index, Option, Some, None, IsTrue}
+use Rattle.std.specs.Int.{is_in_range}
 use Rattle.std.specs.List.{list_any, AllByRecursion}
 use Rattle.collation_table.specs.declared.limits.TheConstants.{MOST_STRING_POINTS, MOST_ROW_ELEMENTS}
 use Rattle.collation_table.specs.declared.elements.Element.{Element}
 use Rattle.collation_table.specs.declared.ranges.ImplicitRange.{ImplicitRange}
 use Rattle.collation_table.specs.Kinds.{wf2_kind, wf4_kind, wf5_kind, no_entry_kind}
-use Rattle.collation_table.specs.Table.{TableMap, row_with, row_of, is_mapped, is_between, greatest, first_with_base, class_of}
+use Rattle.collation_table.specs.Table.{TableMap, row_with, row_of, is_mapped, greatest, first_with_base, class_of}
 
 -- ---- kinds of elements
 
@@ -17,7 +18,7 @@ is_follower e = not e.is_variable && nat_le 0x8000 e.w1 && (e.w2 == 0) && (e.w3 
 
 -- a primary weight that takes one weight more, that of the follower after it
 abbrev pub is_lead : Element → Bool
-is_lead e = not e.is_variable && is_between 0xFB00 0xFBFF e.w1 && not (is_follower e)
+is_lead e = not e.is_variable && is_in_range 0xFB00 0xFBFF e.w1 && not (is_follower e)
 
 -- a pair counts as its lead, so a follower is of none of these kinds
 abbrev pub is_primary : Element → Bool
@@ -73,7 +74,7 @@ spreads_too_far earlier r =
 -- an earlier one, or spreads too far
 abbrev pub breaks_ranges : List ImplicitRange → ImplicitRange → Bool
 breaks_ranges earlier r =
-    nat_lt r.last r.first || not (is_between 0xFB00 0xFB3F r.base) || list_any (overlaps r) earlier || spreads_too_far earlier r
+    nat_lt r.last r.first || not (is_in_range 0xFB00 0xFB3F r.base) || list_any (overlaps r) earlier || spreads_too_far earlier r
 
 -- ---- conditions on the whole table
 
