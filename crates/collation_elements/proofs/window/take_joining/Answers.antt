@@ -31,6 +31,14 @@ loop-left-preserved-then-lengthen g c =
       so_far = subst (λ (q : Buffer Point). JoinsSoFar T c.args.string.now.items c.args.points.now.items c.lengthen.new.string.items q.items left) (sym after) now;
     }
 
+pub loop-left-smaller-then-lengthen : goal.loop-left-smaller-then-lengthen
+loop-left-smaller-then-lengthen g c =
+    let ps : List Point = c.loop-left.points.items in
+    let left : ℕ = c.loop-left.left in
+    let within : left < length ps = omega (arith, c.loop-left-test.true, c.len.ensures.len) in
+    let few : length c.remove.new.self.items ≡ length (remove ps left) = ap (λ (q : Buffer Point). length q.items) c.remove.ensures in
+    omega (arith, few, length-remove ps left within)
+
 pub loop-left-preserved : goal.loop-left-preserved
 loop-left-preserved g c =
     let T = g.W.Weights.table c.args.table.now in
