@@ -1,10 +1,11 @@
 -- Matches and minimal matches (UTS #10, section 11).
-use Rattle.std.specs.Prelude.{ℕ, ◌-◌, Bool, ◌==◌, ◌&&◌, not, nat_le, nat_lt, List, map, flat_map, filter, length, take, drop, bytes_eq}
+use Rattle.std.specs.Prelude.{ℕ, Bool, ◌==◌, ◌&&◌, not, nat_le, nat_lt, List, map, flat_map, filter, length, bytes_eq}
 use Rattle.std.specs.List.{list_any}
 use Rattle.collation_table.specs.Table.{TableMap}
 use Rattle.collation_elements.specs.declared.settings.Variable.{Variable}
 use Rattle.collation_elements.specs.declared.settings.Strength.{Strength}
 use Rattle.collation_elements.specs.Boundaries.{boundaries}
+use Rattle.collation_elements.specs.Parts.{part_between}
 use Rattle.collation_pattern.specs.SortKey.{text_sort_key}
 
 -- all pairs (start, end) of these offsets, no start after its end
@@ -13,7 +14,7 @@ ranges_among offsets = flat_map (λ start. map (λ end. (start, end)) (filter (n
 
 -- the part of a text between two byte offsets
 abbrev pub part : List ℕ → ℕ × ℕ → List ℕ
-part text range = take (range.1 - range.0) (drop range.0 text)
+part text range = part_between text range.0 range.1
 
 -- the ranges between boundaries whose text, taken by itself, has this sort key
 abbrev pub ranges_with_sort_key : TableMap → Strength → Variable → List ℕ → List ℕ → List (ℕ × ℕ)
