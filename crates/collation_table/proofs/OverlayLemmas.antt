@@ -36,9 +36,6 @@ pub filter-past : {X : Type 0} (p : X → Bool) (xs : List X) (i : ℕ) (x : X) 
 filter-past p xs i x at off =
     ap (filter p) (take-at xs i x at) ∙ filter-append p (take i xs) (x ∷ []) ∙ ap (λ b. filter p (take i xs) ++ cond b (x ∷ []) []) off ∙ append-nil (filter p (take i xs))
 
-same_string : (string other : List ℕ) → bytes_eq string other ≡ true → string ≡ other
-same_string string other h = (bytes_decides string other).0 h
-
 pub row_with-kept : (p : List ℕ → Bool) (string : List ℕ) (rows : List (List ℕ × List Element)) → p string ≡ true → row_with string (filter (λ row. p row.0) rows) ≡ row_with string rows
 row_with-kept p string [] is = refl
 row_with-kept p string (r ∷ rows) is = by (p r.0) refl (bytes_eq string r.0) refl (row_with-kept p string rows is)
@@ -46,7 +43,7 @@ row_with-kept p string (r ∷ rows) is = by (p r.0) refl (bytes_eq string r.0) r
     by : (a : Bool) → p r.0 ≡ a → (b : Bool) → bytes_eq string r.0 ≡ b → row_with string (filter (λ row. p row.0) rows) ≡ row_with string rows
         → row_with string (cond a (r ∷ filter (λ row. p row.0) rows) (filter (λ row. p row.0) rows)) ≡ cond b (Some r.1) (row_with string rows)
     by true e b f rest = λ i. cond (f i) (Some r.1) (rest i)
-    by false e true f rest = let clash : true ≡ false = sym is ∙ ap p (same_string string r.0 f) ∙ e in cc
+    by false e true f rest = let clash : true ≡ false = sym is ∙ ap p ((bytes_decides string r.0).0 f) ∙ e in cc
     by false e false f rest = rest
 
 pub row_with-left_out : (p : List ℕ → Bool) (string : List ℕ) (rows : List (List ℕ × List Element)) → p string ≡ false → row_with string (filter (λ row. p row.0) rows) ≡ None
@@ -55,7 +52,7 @@ row_with-left_out p string (r ∷ rows) is = by (p r.0) refl (bytes_eq string r.
   where
     by : (a : Bool) → p r.0 ≡ a → (b : Bool) → bytes_eq string r.0 ≡ b → row_with string (filter (λ row. p row.0) rows) ≡ None
         → row_with string (cond a (r ∷ filter (λ row. p row.0) rows) (filter (λ row. p row.0) rows)) ≡ None
-    by true e true f rest = let clash : true ≡ false = sym e ∙ sym (ap p (same_string string r.0 f)) ∙ is in cc
+    by true e true f rest = let clash : true ≡ false = sym e ∙ sym (ap p ((bytes_decides string r.0).0 f)) ∙ is in cc
     by true e false f rest = ap (λ b. cond b (Some r.1) (row_with string (filter (λ row. p row.0) rows))) f ∙ rest
     by false e b f rest = rest
 

@@ -23,9 +23,6 @@ string_cmp x y = slice_cmp nat_cmp x.items y.items
 abbrev pub has_string : {A : Type 0} → List ℕ → Vec ℕ A → Bool
 has_string string key = is_eq (slice_cmp nat_cmp string key.items)
 
-same : (x y : List ℕ) → bytes_eq x y ≡ true → x ≡ y
-same x y h = (bytes_decides x y).0 h
-
 pub lookup-insert_entry : {A X : Type 0} (string : List ℕ) (key : Vec ℕ A) (value : X) (es : List (Vec ℕ A × X))
     → lookup (has_string string) (insert_entry string_cmp es key value) ≡ cond (bytes_eq string key.items) (Some value) (lookup (has_string string) es)
 lookup-insert_entry string key value [] = ap (λ b. cond b (Some value) None) (is_eq-slice_cmp string key.items)
@@ -36,7 +33,7 @@ lookup-insert_entry {A} {X} string key value (e ∷ es) = by (slice_cmp nat_cmp 
 
     apart : bytes_eq key.items e.0.items ≡ false → (b c : Bool) → bytes_eq string key.items ≡ b → bytes_eq string e.0.items ≡ c → (rest : Option X) → cond c (Some e.1) (cond b (Some value) rest) ≡ cond b (Some value) (cond c (Some e.1) rest)
     apart off true true k l rest =
-        let clash : true ≡ false = sym ((bytes_decides key.items e.0.items).1 (sym (same string key.items k) ∙ same string e.0.items l)) ∙ off in
+        let clash : true ≡ false = sym ((bytes_decides key.items e.0.items).1 (sym ((bytes_decides string key.items).0 k) ∙ (bytes_decides string e.0.items).0 l)) ∙ off in
         cc
     apart off true false k l rest = refl
     apart off false c k l rest = refl
@@ -45,7 +42,7 @@ lookup-insert_entry {A} {X} string key value (e ∷ es) = by (slice_cmp nat_cmp 
         → lookup (has_string string) (match_ordering o ((key, value) ∷ e ∷ es) ((e.0, value) ∷ es) (e ∷ insert_entry string_cmp es key value)) ≡ cond (bytes_eq string key.items) (Some value) (lookup (has_string string) (e ∷ es))
     by Less is rest = here (bytes_eq string key.items) (is_eq-slice_cmp string key.items)
     by Equal is rest =
-        let one : key.items ≡ e.0.items = same key.items e.0.items (sym is) in
+        let one : key.items ≡ e.0.items = (bytes_decides key.items e.0.items).0 (sym is) in
         let test : has_string string e.0 ≡ bytes_eq string key.items = is_eq-slice_cmp string e.0.items ∙ ap (bytes_eq string) (sym one) in
         swap (has_string string e.0) (bytes_eq string key.items) test (lookup (has_string string) es)
       where
@@ -114,7 +111,7 @@ IsNumbered-push {A} rows r numbers new key n was absent key_is count entries = r
 
     found : (q : List ℕ) (b : Bool) → bytes_eq q key.items ≡ b → (cond b (Some n) (number_of numbers q) >>= elements_of_row (rows ++ r ∷ [])) ≡ row_with q (plain_rows rows ++ (r.string.items, r.elements.items) ∷ [])
     found q true is =
-        let one : q ≡ r.string.items = same q key.items is ∙ key_is in
+        let one : q ≡ r.string.items = (bytes_decides q key.items).0 is ∙ key_is in
         ap (elements_of_row (rows ++ r ∷ [])) count ∙ ap (option_map (λ (p : PlainRow). p.elements.items)) (get-push_here rows r)
         ∙ sym (row_with-push_here r.string.items r.elements.items (plain_rows rows) (none_of (row_with r.string.items (plain_rows rows)) absent))
         ∙ ap (λ l. row_with l (plain_rows rows ++ (r.string.items, r.elements.items) ∷ [])) (sym one)

@@ -41,15 +41,12 @@ any_append p (x ∷ xs) ys h =
 
 -- ---- mapped strings
 
-same_string : (string other : List ℕ) → bytes_eq string other ≡ true → string ≡ other
-same_string string other h = (bytes_decides string other).0 h
-
 mapped_length : (string : List ℕ) (rows : List (List ℕ × List Element)) → is_some (row_with string rows) ≡ true → length string ≤ greatest (map (λ row. length row.0) rows)
 mapped_length string [] h = cc
 mapped_length string (row ∷ rows) h = by (bytes_eq string row.0) refl h (mapped_length string rows)
   where
     by : (b : Bool) → bytes_eq string row.0 ≡ b → is_some (cond b (Some row.1) (row_with string rows)) ≡ true → (is_some (row_with string rows) ≡ true → length string ≤ greatest (map (λ r. length r.0) rows)) → length string ≤ max (length row.0) (greatest (map (λ r. length r.0) rows))
-    by true e found rest = omega (arith, ap length (same_string string row.0 e))
+    by true e found rest = omega (arith, ap length ((bytes_decides string row.0).0 e))
     by false e found rest = omega (arith, rest found)
 
 -- a list longer than each mapped string is not mapped
@@ -110,7 +107,7 @@ row_sound string row (r ∷ rows) all at = by (bytes_eq string r.0) refl at (row
     by : (b : Bool) → bytes_eq string r.0 ≡ b → cond b (Some r.1) (row_with string rows) ≡ Some row → (row_with string rows ≡ Some row → IsRowSound string row) → IsRowSound string row
     by true e found rest =
         let same_row : r.1 ≡ row = cc in
-        subst (λ l. IsRowSound string l) same_row (subst (λ k. IsRowSound k r.1) (sym (same_string string r.0 e)) all.0)
+        subst (λ l. IsRowSound string l) same_row (subst (λ k. IsRowSound k r.1) (sym ((bytes_decides string r.0).0 e)) all.0)
     by false e found rest = rest found
 
 element_passes : (p : Element → Bool) (string : List ℕ) (row : List Element) (rows : List (List ℕ × List Element)) (e : Element)
@@ -133,7 +130,7 @@ no_such_string q string [] none at = cc
 no_such_string q string (r ∷ rows) none at = by (bytes_eq string r.0) refl at (or_parts (q r.0) (list_any (λ row. q row.0) rows) none) (no_such_string q string rows)
   where
     by : (b : Bool) → bytes_eq string r.0 ≡ b → is_some (cond b (Some r.1) (row_with string rows)) ≡ true → (q r.0 ≡ false) × (list_any (λ row. q row.0) rows ≡ false) → (list_any (λ row. q row.0) rows ≡ false → is_some (row_with string rows) ≡ true → q string ≡ false) → q string ≡ false
-    by true e found parts rest = ap q (same_string string r.0 e) ∙ parts.0
+    by true e found parts rest = ap q ((bytes_decides string r.0).0 e) ∙ parts.0
     by false e found parts rest = rest parts.1 found
 
 -- ---- the conditions on the whole table
