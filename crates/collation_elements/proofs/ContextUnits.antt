@@ -9,6 +9,7 @@ use Rattle.nfd_points.specs.Points.{is_starter}
 use Rattle.nfd_points.specs.Reordering.{is_non_starter}
 use Rattle.collation_table.specs.Table.{TableMap, is_mapped, longest_prefix, longest_prefix_within}
 use Rattle.collation_elements.specs.Units.{code_points, joins, Cut, extended, first_unit, units_within, units, prefix_length}
+use Rattle.collation_elements.proofs.Longest.{prefix_length-le}
 
 -- ---- the steps of the look at non-starters
 
@@ -22,28 +23,28 @@ pub extended-left : (table : TableMap) (unit between : List Point) (c : Point) (
 extended-left table unit between c cs h j = cond-false _ _ _ h ∙ cond-false _ _ _ j
 
 -- what follows is put after what a cut leaves
-abbrev pub following : List Point → Cut → Cut
-following later cut = record { unit = cut.unit; rest = cut.rest ++ later }
+abbrev pub with_more : List Point → Cut → Cut
+with_more later cut = record { unit = cut.unit; rest = cut.rest ++ later }
 
 -- the look stops at a starter
-pub extended-at_starter : (table : TableMap) (unit between cs : List Point) (s : Point) (later : List Point) → is_starter s ≡ true → extended table unit between (cs ++ s ∷ later) ≡ following (s ∷ later) (extended table unit between cs)
+pub extended-at_starter : (table : TableMap) (unit between cs : List Point) (s : Point) (later : List Point) → is_starter s ≡ true → extended table unit between (cs ++ s ∷ later) ≡ with_more (s ∷ later) (extended table unit between cs)
 extended-at_starter table unit between [] s later h = extended-stop table unit between s later h
 extended-at_starter table unit between (c ∷ cs) s later h =
     elim (cases_Bool (is_starter c)) [
       | inl starter ↦
           extended-stop table unit between c (cs ++ s ∷ later) starter
           ∙ ap (λ l. record { unit = unit; rest = l }) (sym (append_assoc between (c ∷ cs) (s ∷ later)))
-          ∙ ap (following (s ∷ later)) (sym (extended-stop table unit between c cs starter))
+          ∙ ap (with_more (s ∷ later)) (sym (extended-stop table unit between c cs starter))
       | inr mark ↦
           elim (cases_Bool (joins table unit between c)) [
             | inl joined ↦
                 extended-taken table unit between c (cs ++ s ∷ later) mark joined
                 ∙ extended-at_starter table (unit ++ c ∷ []) between cs s later h
-                ∙ ap (following (s ∷ later)) (sym (extended-taken table unit between c cs mark joined))
+                ∙ ap (with_more (s ∷ later)) (sym (extended-taken table unit between c cs mark joined))
             | inr stays ↦
                 extended-left table unit between c (cs ++ s ∷ later) mark stays
                 ∙ extended-at_starter table unit (between ++ c ∷ []) cs s later h
-                ∙ ap (following (s ∷ later)) (sym (extended-left table unit between c cs mark stays))
+                ∙ ap (with_more (s ∷ later)) (sym (extended-left table unit between c cs mark stays))
           ]
     ]
 
@@ -89,16 +90,6 @@ extended-leaves table unit between (c ∷ cs) h =
 
 -- ---- the longest prefix
 
-within-le : (table : TableMap) (points : List ℕ) (n : ℕ) → longest_prefix_within table points n ≤ n
-within-le table points zero = omega arith
-within-le table points (suc n) =
-    elim (cases_Bool (is_mapped table (take (suc n) points))) [
-      | inl found ↦ let e : longest_prefix_within table points (suc n) ≡ suc n = cond-true _ _ _ found in omega arith
-      | inr none ↦
-          let e : longest_prefix_within table points (suc n) ≡ longest_prefix_within table points n = cond-false _ _ _ none in
-          omega (arith, within-le table points n)
-    ]
-
 -- the search up to n looks at no more than n points
 within-prefix : (table : TableMap) (xs ys : List ℕ) (n : ℕ) → n ≤ length xs → longest_prefix_within table (xs ++ ys) n ≡ longest_prefix_within table xs n
 within-prefix table xs ys zero h = refl
@@ -126,16 +117,10 @@ longest_prefix-prefix table xs ys h =
     within-higher table (xs ++ ys) (length xs) (length (xs ++ ys)) (omega (arith, length-append xs ys)) h
     ∙ within-prefix table xs ys (length xs) (omega arith)
 
-pub longest_prefix-le : (table : TableMap) (points : List ℕ) → longest_prefix table points ≤ length points
-longest_prefix-le table points = within-le table points (length points)
-
 -- ---- one unit
 
 length-code_points : (ps : List Point) → length (code_points ps) ≡ length ps
 length-code_points ps = length-map ps (λ (p : Point). p.cp)
-
-prefix_length-le : (table : TableMap) (p : Point) (ps : List Point) → prefix_length table (p ∷ ps) ≤ length (p ∷ ps)
-prefix_length-le table p ps = omega (arith, longest_prefix-le table (code_points (p ∷ ps)), length-code_points (p ∷ ps))
 
 -- a unit whose first n points are cut off together
 abbrev pub cut_at : TableMap → ℕ → List Point → Cut
@@ -155,7 +140,7 @@ cut_at-head table zero p ps h = absurd (omega arith)
 cut_at-head table (suc n) p ps h =
     let l = extended-leaves table (take (suc n) (p ∷ ps)) [] (drop (suc n) (p ∷ ps)) refl in (take n ps ++ l.taken, l.unit_is)
 
-cut_at-prefix : (table : TableMap) (n : ℕ) (ps : List Point) (s : Point) (later : List Point) → is_starter s ≡ true → n ≤ length ps → cut_at table n (ps ++ s ∷ later) ≡ following (s ∷ later) (cut_at table n ps)
+cut_at-prefix : (table : TableMap) (n : ℕ) (ps : List Point) (s : Point) (later : List Point) → is_starter s ≡ true → n ≤ length ps → cut_at table n (ps ++ s ∷ later) ≡ with_more (s ∷ later) (cut_at table n ps)
 cut_at-prefix table n ps s later h le =
     ap₂ (λ prefix rest. extended table prefix [] rest) (take-append-le n ps (s ∷ later) le) (drop-append-le n ps (s ∷ later) le)
     ∙ extended-at_starter table (take n ps) [] (drop n ps) s later h
@@ -165,7 +150,7 @@ first_unit-leaves table p ps = extended-leaves table (take (prefix_length table 
 
 -- no point is lost
 pub first_unit-length : (table : TableMap) (p : Point) (ps : List Point) → (length (first_unit table p ps).unit + length (first_unit table p ps).rest ≡ length (p ∷ ps)) × (prefix_length table (p ∷ ps) ≤ length (first_unit table p ps).unit)
-first_unit-length table p ps = cut_at-length table (prefix_length table (p ∷ ps)) (p ∷ ps) (prefix_length-le table p ps)
+first_unit-length table p ps = cut_at-length table (prefix_length table (p ∷ ps)) (p ∷ ps) (prefix_length-le table (p ∷ ps) (omega arith))
 
 one_at_least : (n : ℕ) → 1 ≤ max 1 n
 one_at_least n = omega arith
@@ -178,7 +163,7 @@ pub first_unit-head : (table : TableMap) (p : Point) (ps : List Point) → (take
 first_unit-head table p ps = cut_at-head table (prefix_length table (p ∷ ps)) p ps (one_at_least (longest_prefix table (code_points (p ∷ ps))))
 
 -- Where the first cut stays within a prefix, what follows it from a starter on is left over.
-pub first_unit-prefix : (table : TableMap) (p : Point) (ps : List Point) (s : Point) (later : List Point) → is_starter s ≡ true → prefix_length table (p ∷ (ps ++ s ∷ later)) ≤ length (p ∷ ps) → first_unit table p (ps ++ s ∷ later) ≡ following (s ∷ later) (first_unit table p ps)
+pub first_unit-prefix : (table : TableMap) (p : Point) (ps : List Point) (s : Point) (later : List Point) → is_starter s ≡ true → prefix_length table (p ∷ (ps ++ s ∷ later)) ≤ length (p ∷ ps) → first_unit table p (ps ++ s ∷ later) ≡ with_more (s ∷ later) (first_unit table p ps)
 first_unit-prefix table p ps s later h le =
     let parts : code_points (p ∷ (ps ++ s ∷ later)) ≡ code_points (p ∷ ps) ++ code_points (s ∷ later) = map-append (λ (q : Point). q.cp) (p ∷ ps) (s ∷ later) in
     let low : longest_prefix table (code_points (p ∷ ps) ++ code_points (s ∷ later)) ≤ length (code_points (p ∷ ps)) =
@@ -186,7 +171,7 @@ first_unit-prefix table p ps s later h le =
     let same : prefix_length table (p ∷ (ps ++ s ∷ later)) ≡ prefix_length table (p ∷ ps) =
     ap (λ l. max 1 (longest_prefix table l)) parts ∙ ap (max 1) (longest_prefix-prefix table (code_points (p ∷ ps)) (code_points (s ∷ later)) low) in
     ap (λ n. cut_at table n ((p ∷ ps) ++ s ∷ later)) same
-    ∙ cut_at-prefix table (prefix_length table (p ∷ ps)) (p ∷ ps) s later h (prefix_length-le table p ps)
+    ∙ cut_at-prefix table (prefix_length table (p ∷ ps)) (p ∷ ps) s later h (prefix_length-le table (p ∷ ps) (omega arith))
 
 -- ---- all units
 
@@ -282,7 +267,7 @@ CutsOff-prefix table (p ∷ ps) (u ∷ us) s later h e =
     let long : length whole.rest ≡ length more.0 + length (s ∷ later) = ap length more.1 ∙ length-append more.0 (s ∷ later) in
     let counts = first_unit-length table p (ps ++ s ∷ later) in
     let fits : prefix_length table (p ∷ (ps ++ s ∷ later)) ≤ length (p ∷ ps) = omega (arith, length-append ps (s ∷ later)) in
-    let same : whole ≡ following (s ∷ later) prefix = first_unit-prefix table p ps s later h fits in
+    let same : whole ≡ with_more (s ∷ later) prefix = first_unit-prefix table p ps s later h fits in
     let rest : whole.rest ≡ prefix.rest ++ s ∷ later = ap (λ (c : Cut). c.rest) same in
     let unit : prefix.unit ≡ u = sym (ap (λ (c : Cut). c.unit) same) ∙ e.0 in
     let others : units table prefix.rest ≡ us = CutsOff-prefix table prefix.rest us s later h (subst (λ l. CutsOff table l us (s ∷ later)) rest e.1) in

@@ -8,7 +8,8 @@ use Rattle.collation_elements.specs.Units.{code_points, Cut, joins, extended, un
 use Rattle.collation_elements.specs.Elements.{unit_row}
 use Rattle.collation_elements.specs.UnitValues.{UnitValue, IsUnitOf}
 use Rattle.collation_elements.specs.Windows.{Held, is_decided, next_cut, WindowStandsFor}
-use Rattle.collation_elements.proofs.Cutting.{next_cut-of, prefix_length-le, units-decided}
+use Rattle.collation_elements.proofs.Cutting.{next_cut-of, units-decided}
+use Rattle.collation_elements.proofs.Longest.{prefix_length-le}
 
 -- ---- the first point of a unit
 

@@ -1,6 +1,6 @@
 -- The first unit of a list of points: what follows a starter after it changes nothing, and the other units are those of the
 -- points that it leaves.
-use Rattle.std.proofs.Common.{◌≡◌, ℕ, zero, suc, ◌+◌, ◌<◌, ◌≤◌, max, nat_lt, nat_le, Bool, true, false, cond, ◌||◌, ◌&&◌, List, [], ◌∷◌, ◌++◌, length, take, drop, refl, sym, ◌∙◌, ap, ⊎_elim, arith, append_assoc, length-append, length-drop}
+use Rattle.std.proofs.Common.{◌≡◌, ℕ, zero, suc, ◌<◌, ◌≤◌, max, nat_lt, nat_le, Bool, true, false, cond, ◌||◌, ◌&&◌, List, [], ◌∷◌, ◌++◌, length, take, drop, refl, sym, ◌∙◌, ap, ⊎_elim, arith, append_assoc, length-append, length-drop}
 use Rattle.std.specs.List.{list_any}
 use Rattle.std.proofs.lemmas.List.{append-nil, map-append, length-map, take-append-le, drop-append-le}
 use Rattle.std.proofs.lemmas.Bool.{false≢true, cases_lt, or_cases, or_parts, and_parts, and_from, leb-true, le-leb, ltb-true, or_right}
@@ -8,14 +8,12 @@ use Rattle.nfd_points.specs.declared.points.Point.{Point}
 use Rattle.nfd_points.specs.Points.{is_starter}
 use Rattle.nfd_points.specs.Reordering.{is_closed}
 use Rattle.collation_table.specs.Table.{TableMap, longest_prefix, longest_mapped}
-use Rattle.collation_elements.specs.Units.{code_points, Cut, joins, extended, first_unit, units_within, units, prefix_length}
+use Rattle.collation_elements.specs.Units.{code_points, Cut, joins, extended, units, prefix_length}
 use Rattle.collation_elements.specs.Windows.{Held, is_decided, next_cut}
-use Rattle.collation_elements.proofs.Longest.{longest_prefix-append, longest_prefix-le_length, longest_prefix-le_longest}
+use Rattle.collation_elements.proofs.Longest.{longest_prefix-append, longest_prefix-le_longest, prefix_length-le}
+use Rattle.collation_elements.proofs.ContextUnits.{with_more, first_unit-shorter, units-cons}
 
 -- ---- a unit with what joins it
-
-abbrev with_more : List Point → Cut → Cut
-with_more more cut = record { unit = cut.unit; rest = cut.rest ++ more }
 
 with_more-cond : (more : List Point) (s j : Bool) (stop taken left stop' taken' left' : Cut) → stop' ≡ with_more more stop → (s ≡ false → taken' ≡ with_more more taken) → (s ≡ false → left' ≡ with_more more left) → cond s stop' (cond j taken' left') ≡ with_more more (cond s stop (cond j taken left))
 with_more-cond more true j stop taken left stop' taken' left' a b c = a
@@ -36,20 +34,6 @@ extended-append T unit between (c ∷ following) more h =
     with_more-cond more (is_starter c) (joins T unit between c) stop (extended T (unit ++ c ∷ []) between following) (extended T unit (between ++ c ∷ []) following) stop' (extended T (unit ++ c ∷ []) between (following ++ more)) (extended T unit (between ++ c ∷ []) (following ++ more)) stops
     (λ e. extended-append T (unit ++ c ∷ []) between following more (starter_later (is_starter c) (list_any is_starter following) h e))
     (λ e. extended-append T unit (between ++ c ∷ []) following more (starter_later (is_starter c) (list_any is_starter following) h e))
-
-rest-cond-le : (n : ℕ) (s j : Bool) (stop taken left : Cut) → length stop.rest ≤ n → length taken.rest ≤ n → length left.rest ≤ n → length (cond s stop (cond j taken left)).rest ≤ n
-rest-cond-le n true j stop taken left a b c = a
-rest-cond-le n false true stop taken left a b c = b
-rest-cond-le n false false stop taken left a b c = c
-
-pub length-extended : (T : TableMap) (unit between following : List Point) → length (extended T unit between following).rest ≤ length between + length following
-length-extended T unit between [] = omega arith
-length-extended T unit between (c ∷ following) =
-    let stop : Cut = record { unit = unit; rest = between ++ c ∷ following } in
-    let a : length stop.rest ≤ length between + suc (length following) = omega (arith, length-append between (c ∷ following)) in
-    let b : length (extended T (unit ++ c ∷ []) between following).rest ≤ length between + length following = length-extended T (unit ++ c ∷ []) between following in
-    let d : length (extended T unit (between ++ c ∷ []) following).rest ≤ length (between ++ c ∷ []) + length following = length-extended T unit (between ++ c ∷ []) following in
-    rest-cond-le (length between + suc (length following)) (is_starter c) (joins T unit between c) stop (extended T (unit ++ c ∷ []) between following) (extended T unit (between ++ c ∷ []) following) a (omega arith) (omega (arith, length-append between (c ∷ [])))
 
 -- ---- where the last starter stands
 
@@ -110,34 +94,13 @@ pub next_cut-of : (T : TableMap) (ps : List Point) → 0 < length ps → next_cu
 next_cut-of T [] h = absurd (omega arith)
 next_cut-of T (p ∷ ps) h = refl
 
-pub prefix_length-le : (T : TableMap) (ps : List Point) → 0 < length ps → prefix_length T ps ≤ length ps
-prefix_length-le T ps h = omega (arith, longest_prefix-le_length T (code_points ps), length-map ps (λ p. p.cp))
-
 pub length-next_cut : (T : TableMap) (ps : List Point) → 0 < length ps → length (next_cut T ps).rest < length ps
-length-next_cut T ps h =
-    let n : ℕ = prefix_length T ps in
-    let few : length (extended T (take n ps) [] (drop n ps)).rest ≤ 0 + length (drop n ps) = length-extended T (take n ps) [] (drop n ps) in
-    let same : length (next_cut T ps).rest ≡ length (extended T (take n ps) [] (drop n ps)).rest = ap (λ (cut : Cut). length cut.rest) (next_cut-of T ps h) in
-    omega (arith, length-drop n ps)
-
-units_within-fuel : (f g : List Point) (T : TableMap) (ps : List Point) → length ps ≤ length f → length ps ≤ length g → units_within f T ps ≡ units_within g T ps
-units_within-fuel [] [] T ps a b = refl
-units_within-fuel [] (y ∷ g) T [] a b = refl
-units_within-fuel [] (y ∷ g) T (p ∷ ps) a b = absurd (omega arith)
-units_within-fuel (x ∷ f) [] T [] a b = refl
-units_within-fuel (x ∷ f) [] T (p ∷ ps) a b = absurd (omega arith)
-units_within-fuel (x ∷ f) (y ∷ g) T [] a b = refl
-units_within-fuel (x ∷ f) (y ∷ g) T (p ∷ ps) a b =
-    let cut : Cut = first_unit T p ps in
-    let few : length (next_cut T (p ∷ ps)).rest < length (p ∷ ps) = length-next_cut T (p ∷ ps) (omega arith) in
-    ap (λ rest. cut.unit ∷ rest) (units_within-fuel f g T cut.rest (omega arith) (omega arith))
+length-next_cut T [] h = absurd (omega arith)
+length-next_cut T (p ∷ ps) h = omega (arith, first_unit-shorter T p ps)
 
 pub units-next_cut : (T : TableMap) (ps : List Point) → 0 < length ps → units T ps ≡ (next_cut T ps).unit ∷ units T (next_cut T ps).rest
 units-next_cut T [] h = absurd (omega arith)
-units-next_cut T (p ∷ ps) h =
-    let cut : Cut = first_unit T p ps in
-    let few : length (next_cut T (p ∷ ps)).rest < length (p ∷ ps) = length-next_cut T (p ∷ ps) h in
-    ap (λ rest. cut.unit ∷ rest) (units_within-fuel ps cut.rest T cut.rest (omega arith) (omega arith))
+units-next_cut T (p ∷ ps) h = units-cons T p ps
 
 -- ---- what follows changes nothing
 

@@ -1,11 +1,13 @@
 -- No mapped string has more points than the longest one. So the longest prefix of a list
 -- of points that is mapped is found among its first points.
 use Rattle.std.proofs.Common.{◌≡◌, ℕ, zero, suc, ◌+◌, ◌-◌, ◌<◌, ◌≤◌, max, Bool, true, false, cond, List, [], ◌∷◌, ◌++◌, map, length, take, Some, bytes_eq, is_some, refl, sym, ◌∙◌, ap, ⊎_elim, arith, length-take}
-use Rattle.std.proofs.lemmas.List.{take-take, take_all, take_at}
+use Rattle.std.proofs.lemmas.List.{take-take, take_all, take_at, length-map}
 use Rattle.std.proofs.lemmas.Bool.{false≢true, cases_lt, false_from_ne_true}
 use Rattle.std.proofs.lemmas.Slice.Eq.{bytes_eq-Decides}
+use Rattle.nfd_points.specs.declared.points.Point.{Point}
 use Rattle.collation_table.specs.declared.elements.Element.{Element}
 use Rattle.collation_table.specs.Table.{TableMap, row_with, is_mapped, longest_prefix_within, longest_prefix, greatest, longest_mapped}
+use Rattle.collation_elements.specs.Units.{code_points, prefix_length}
 
 mapped_length_step : (string : List ℕ) (row : List ℕ × List Element) (rows : List (List ℕ × List Element)) (b : Bool) → bytes_eq string row.0 ≡ b → is_some (cond b (Some row.1) (row_with string rows)) ≡ true → (is_some (row_with string rows) ≡ true → length string ≤ greatest (map (λ r. length r.0) rows)) → length string ≤ max (length row.0) (greatest (map (λ r. length r.0) rows))
 mapped_length_step string row rows true same found rest = let e : length string ≡ length row.0 = ap length ((bytes_eq-Decides string row.0).0 same) in omega arith
@@ -32,6 +34,9 @@ longest_prefix_within-le T ps (suc n) = le_step (is_mapped T (take (suc n) ps)) 
 
 pub longest_prefix-le_length : (T : TableMap) (ps : List ℕ) → longest_prefix T ps ≤ length ps
 longest_prefix-le_length T ps = longest_prefix_within-le T ps (length ps)
+
+pub prefix_length-le : (T : TableMap) (ps : List Point) → 0 < length ps → prefix_length T ps ≤ length ps
+prefix_length-le T ps h = omega (arith, longest_prefix-le_length T (code_points ps), length-map ps (λ p. p.cp))
 
 cond_at_false : (b : Bool) (x y : ℕ) → b ≡ false → cond b x y ≡ y
 cond_at_false true x y h = absurd (false≢true (sym h))

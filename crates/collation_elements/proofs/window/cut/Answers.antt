@@ -5,9 +5,9 @@ use Rattle.circular_buffer.specs.Buffer.{Buffer, buffer}
 use Rattle.collation_elements.specs.Units.{code_points, Cut, extended}
 use Rattle.collation_elements.specs.Windows.{next_cut}
 use Rattle.collation_elements.proofs.Alone.{next_cut-alone}
-use Rattle.collation_elements.proofs.Cutting.{next_cut-of, prefix_length-le}
+use Rattle.collation_elements.proofs.Cutting.{next_cut-of}
 use Rattle.collation_elements.proofs.Cuts.{IsUnitOf-cut}
-use Rattle.collation_elements.proofs.Longest.{longest_prefix-le_longest}
+use Rattle.collation_elements.proofs.Longest.{longest_prefix-le_longest, prefix_length-le}
 use Rattle.collation_elements.proofs.window.cut.Goals as goal
 
 pub prefix-string-requires : goal.prefix-string-requires
