@@ -1,5 +1,5 @@
 //! What the rest of the library asks a collation element table.
-ghost use Rattle.std.specs.Prelude.{◌≡◌, false, ◌<◌, ◌≤◌, length, option_copied};
+ghost use Rattle.std.specs.Prelude.{◌≡◌, [], ◌∷◌, false, ◌<◌, ◌≤◌, length, option_copied, IfSome, OnSome};
 ghost use Rattle.collation_table.specs.Table.{TableMap, BeginsNoLongerString, ContinuesNoString, HasSizes, row_of, longest_prefix, implicit_pair, longest_mapped, most_elements};
 ghost use Rattle.collation_table.specs.WellFormed.{IsWellFormed};
 
@@ -26,6 +26,18 @@ pub trait Weights {
     {
         let _ = cp;
         true
+    }
+
+    /// The collation elements to which the table maps `cp` alone, if it does, where no mapped string of two or more code points
+    /// begins with it: [`begins_longer_string`](Weights::begins_longer_string) and [`row`](Weights::row) at once. `None` where one may.
+    fn lone_row(&self, cp: u32) -> Option<Option<&[Element]>>
+        ensures alone { OnSome result (BeginsNoLongerString (table self.now) cp) }
+        ensures row { IfSome result (λ row. option_copied row ≡ row_of (table self.now) (cp ∷ [])) }
+    {
+        if self.begins_longer_string(cp) {
+            return None;
+        }
+        Some(self.row(&[cp]))
     }
 
     /// Whether `cp` stands after the first place in some mapped string. `false` only where it does not; a table that does not

@@ -62,6 +62,7 @@ impl Pages {
     }
 
     /// What stands there for a code point.
+    #[inline(always)]
     pub fn get(&self, cp: u32) -> PageEntry
         ensures { result ≡ page_entry self.now.pages.items cp }
     {

@@ -1,5 +1,5 @@
 //! The rows and the implicit ranges of a table, as the lines of its file give them one by one.
-ghost use Rattle.std.specs.Prelude.{◌≡◌, [], ◌∷◌, ◌++◌, false, length, take, slice_get, None, Some, IfOk, option_copied, ◌<◌, ◌≤◌};
+ghost use Rattle.std.specs.Prelude.{◌≡◌, [], ◌∷◌, ◌++◌, false, length, take, slice_get, None, Some, IfOk, IfSome, OnSome, option_copied, ◌<◌, ◌≤◌};
 ghost use Rattle.collation_table.specs.Table.{TableMap, BeginsNoLongerString, ContinuesNoString, row_of, row_with, is_mapped, longest_prefix, longest_mapped, most_elements};
 ghost use Rattle.collation_table.specs.Entries.{part};
 ghost use Rattle.collation_table.specs.WellFormed.{IsRowSound, breaks_ranges};
@@ -111,6 +111,20 @@ impl Rows {
         ensures { result ≡ false → BeginsNoLongerString self.now cp }
     {
         self.trie.begins_longer_string(cp)
+    }
+
+    /// The elements of the row of `cp` alone, if it has one, where no mapped string of two or more code points begins with it; `None`
+    /// where one may.
+    #[inline(always)]
+    pub fn lone_row(&self, cp: u32) -> Option<Option<&[Element]>>
+        ensures alone { OnSome result (BeginsNoLongerString self.now cp) }
+        ensures row { IfSome result (λ row. option_copied row ≡ row_of self.now (cp ∷ [])) }
+    {
+        match self.trie.lone_place(cp) {
+            Some(Some(place)) => Some(Some(elements_at(self.elements.as_slice(), place))),
+            Some(None) => Some(None),
+            None => None,
+        }
     }
 
     /// Whether `cp` stands after the first place in a mapped string.

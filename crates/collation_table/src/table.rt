@@ -61,6 +61,11 @@ impl Weights for Table {
         self.rows.begins_longer_string(cp)
     }
 
+    #[inline(always)]
+    fn lone_row(&self, cp: u32) -> Option<Option<&[Element]>> {
+        self.rows.lone_row(cp)
+    }
+
     fn continues_string(&self, cp: u32) -> bool {
         self.rows.continues_string(cp)
     }

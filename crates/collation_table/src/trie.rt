@@ -2,7 +2,7 @@
 //!
 //! The first code point is looked up in pages, each further one as a step from a node. A step is found in an ordered map by its
 //! node and its code point, so no mapped string is compared with another as a whole, and no file can make a look-up slow.
-ghost use Rattle.std.specs.Prelude.{◌≡◌, ℕ, ◌<◌, ◌≤◌, List, [], ◌∷◌, ◌++◌, false, length, is_some, None, Some, OnOk, IfOk};
+ghost use Rattle.std.specs.Prelude.{◌≡◌, ℕ, ◌<◌, ◌≤◌, List, [], ◌∷◌, ◌++◌, false, length, is_some, None, Some, OnOk, IfOk, OnSome, IfSome};
 ghost use Rattle.collation_table.specs.Table.{TableMap, is_mapped, longest_prefix};
 ghost use Rattle.collation_table.specs.Trie.{at, place_of, seek, continues, Leads, IsTrie, IsMarked, IsSet};
 
@@ -226,6 +226,21 @@ impl Trie {
         ensures { result ≡ false → (d : ℕ) (rest : List ℕ) → place_of self.now (cp ∷ d ∷ rest) ≡ None }
     {
         self.pages.get(cp).entry.node.is_some()
+    }
+
+    /// The place of the mapped string that `cp` is alone, where no mapped string of two or more code points begins with it; `None`
+    /// where one may. It asks the pages once.
+    #[inline(always)]
+    pub fn lone_place(&self, cp: u32) -> Option<Option<Place>>
+        requires { IsTrie self.now }
+        ensures alone { OnSome result ((d : ℕ) (rest : List ℕ) → place_of self.now (cp ∷ d ∷ rest) ≡ None) }
+        ensures place { IfSome result (λ place. place ≡ place_of self.now (cp ∷ [])) }
+    {
+        let entry = self.pages.get(cp).entry;
+        if entry.node.is_some() {
+            return None;
+        }
+        Some(entry.place)
     }
 
     /// Whether `cp` stands after the first place in a mapped string.
