@@ -1,7 +1,7 @@
 //! Searches that are saved, dropped and resumed: which states have which answer, how many records a state has, and that a refused
 //! allocation changes nothing.
 
-ghost use Rattle.std.specs.Prelude.{◌<◌};
+ghost use Rattle.std.specs.Prelude.{◌<◌, ◌≤◌};
 
 use super::searches::{Answered, KEPT, SHIFTED, TABLE, THREE, resumed};
 use crate::{Found, PiecesSearched, Search, StateFault, TextFault, search_in_pieces};
@@ -200,17 +200,105 @@ fn hostile(
     Ok((answered, most_words / RECORD))
 }
 
-#[test]
-fn letters_resumed_after_each(rt: HostRuntime) -> Result<(), Fail> {
-    let alloc = rt.alloc();
-    let text = "a".repeat(alloc, 100_000)?;
-    let (answered, most_records) = hostile(&rt, alloc, KEPT, "aa", &text, 1)?;
-    assert_eq!(rt; answered.0.len(), 99_999);
-    assert_eq!(rt; answered.0.get(0).copied(), Some((0, 2)));
-    assert_eq!(rt; answered.0.get(99_998).copied(), Some((99_998, 100_000)));
-    assert_eq!(rt; answered.1, None);
-    assert_eq!(rt; most_records, 8);
+/// How many letters `a` a part of a million has.
+const PART: u64 = 250_000;
+
+/// The words of the state of a search for `aa` after so many letters `a`: the places of the last two keys, and the point of the
+/// last letter in the window.
+fn state_of_letters(letters: u64) -> [u64; 32]
+    requires { 3 ≤ letters }
+{
+    let last = letters - 1;
+    let taken = [1, 2, 2, 2, 3, 0, letters, 0, 0, 0, 0, 0];
+    let walk = [
+        last - 1,
+        1,
+        1,
+        2,
+        1,
+        0,
+        0,
+        0,
+        last - 2,
+        1,
+        0,
+        0,
+        last - 1,
+        1,
+        0,
+        0,
+    ];
+    let mut words = [0; 32];
+    words[..12].copy_from_slice(&taken);
+    words[12..28].copy_from_slice(&walk);
+    words[28..].copy_from_slice(&[97, last, 1, 0]);
+    words
+}
+
+/// A part of a million letters `a` with a search for `aa` that is saved, dropped and resumed after each letter: the state at its
+/// end is the one that the next part begins with, so that the parts together are one search.
+fn part_of_a_million_letters(rt: &impl Abort, alloc: Global, part: u64) -> Result<(), Fail>
+    requires { part < 4 }
+{
+    let table = Table::read(alloc, TABLE.as_bytes())?;
+    let pattern = Pattern::compile(alloc, &table, "aa", THREE, KEPT)?;
+    let from = part * PART;
+    let to = from + PART;
+    let mut search = if part == 0 {
+        Search::new(alloc, &table, &pattern)?
+    } else {
+        Search::resume(alloc, &table, &pattern, &state_of_letters(from))?
+    };
+    let mut next = from.saturating_sub(3);
+    let mut are_all = true;
+    let mut words = Vec::new(alloc);
+    let mut most_words = 0;
+    for _ in from..to {
+        let fed = search.feed(
+            b"a",
+            &mut |start, end| {
+                are_all = are_all && start == next;
+                next = next.wrapping_add(1);
+                are_all = are_all && end == next.wrapping_add(1);
+            },
+        );
+        assert_eq!(rt; fed, Ok(()));
+        words.clear();
+        search.save(&mut words)?;
+        most_words = most_words.max(words.len());
+        search = Search::resume(alloc, &table, &pattern, &words)?;
+    }
+    assert!(rt; are_all);
+    assert_eq!(rt; next, to - 3);
+    assert_eq!(rt; most_words, 8 * RECORD);
+    assert_eq!(rt; words.as_slice(), state_of_letters(to).as_slice());
+    let mut found = Found::new();
+    assert_eq!(rt; search.finish(&mut found), Ok(()));
+    assert_eq!(rt;
+        found.as_slice(),
+        [(to - 3, to - 1), (to - 2, to)].as_slice()
+    );
     Ok(())
+}
+
+#[test]
+fn first_part_of_a_million_letters(rt: HostRuntime) -> Result<(), Fail> {
+    part_of_a_million_letters(&rt, rt.alloc(), 0)
+}
+
+#[test]
+fn second_part_of_a_million_letters(rt: HostRuntime) -> Result<(), Fail> {
+    part_of_a_million_letters(&rt, rt.alloc(), 1)
+}
+
+#[test]
+fn third_part_of_a_million_letters(rt: HostRuntime) -> Result<(), Fail> {
+    part_of_a_million_letters(&rt, rt.alloc(), 2)
+}
+
+#[test]
+fn last_part_of_a_million_letters(rt: HostRuntime) -> Result<(), Fail> {
+    part_of_a_million_letters(&rt, rt.alloc(), 3)
 }
 
 #[test]
