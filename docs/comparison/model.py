@@ -1,6 +1,8 @@
-"""The definitions of colfind once more, in Python and by brute force: from a table, a pattern and the bytes of a text to
-what the program prints. It was written from the definitions in words, not from the code. See random_searches.py."""
+"""The definitions of colfind once more, in Python and by brute force: from the lines of a table and of its tailor, a pattern and
+the bytes of a text to what the program prints. It was written from the definitions in words, not from the code. See
+random_searches.py."""
 
+import functools
 import unicodedata
 
 MOST_PATTERN_BYTES = 65536
@@ -17,12 +19,14 @@ def is_surrogate(code_point):
     return 0xD800 <= code_point <= 0xDFFF
 
 
+@functools.cache
 def decomposition(code_point):
     if is_surrogate(code_point):
         return [code_point]
     return [ord(c) for c in unicodedata.normalize("NFD", chr(code_point))]
 
 
+@functools.cache
 def combining_class(code_point):
     return 0 if is_surrogate(code_point) else unicodedata.combining(chr(code_point))
 
@@ -88,8 +92,9 @@ def code_points(points):
 
 def units(rows, points):
     rest, found = list(points), []
+    most = max(map(len, rows))
     while rest:
-        lengths = [n for n in range(1, len(rest) + 1) if code_points(rest[:n]) in rows]
+        lengths = [n for n in range(1, min(most, len(rest)) + 1) if code_points(rest[:n]) in rows]
         longest = max(lengths, default=1)
         unit, rest = rest[:longest], rest[longest:]
         place = 0
@@ -172,13 +177,27 @@ def part(characters, start, end):
 
 def matches(table, strength, is_shifted, key, characters, length):
     places = boundaries(table, characters, length)
-    ranges = [
-        (start, end)
-        for start in places
-        for end in places
-        if start <= end and sort_key(table, strength, is_shifted, part(characters, start, end)) == key
-    ]
+    keys = {}
+
+    def key_between(start, end):
+        """The sort key of a part, made once for all parts of the same code points."""
+        text = part(characters, start, end)
+        alone = tuple(c for c, _ in text)
+        if alone not in keys:
+            keys[alone] = sort_key(table, strength, is_shifted, text)
+        return keys[alone]
+
+    ranges = [(start, end) for start in places for end in places if start <= end and key_between(start, end) == key]
     return [r for r in ranges if not any(o != r and r[0] <= o[0] and o[1] <= r[1] for o in ranges)]
+
+
+def chain(ranges):
+    """The first range, and then each that begins at or after the end of the last one taken."""
+    taken = []
+    for start, end in ranges:
+        if not taken or taken[-1][1] <= start:
+            taken.append((start, end))
+    return taken
 
 
 def pattern_fault(table, strength, is_shifted, pattern):
@@ -192,20 +211,31 @@ def pattern_fault(table, strength, is_shifted, pattern):
     return None
 
 
-def printed(table, strength, is_shifted, pattern, data):
+def lines_of(ranges, output):
+    if output == "count":
+        return f"{len(ranges)}\n"
+    if output == "marks":
+        return "".join(f"[{start}\n]{end}\n" for start, end in ranges)
+    return "".join(f"{start}:{end}\n" for start, end in ranges)
+
+
+def fault_line(kind, place):
+    return 2, "", f"colfind: fault {kind} at {place}\n"
+
+
+def printed(table, strength, is_shifted, output, is_chain, pattern, data):
     """The status, and what goes to standard output and standard error."""
-    kind = pattern_fault(table, strength, is_shifted, pattern)
-    if kind:
-        return 2, "", f"colfind: fault {kind} at 0\n"
     key = sort_key(table, strength, is_shifted, good_front(pattern)[0])
     characters, fault = good_front(data)
     length = sum(len(chr(c).encode()) for c, _ in characters)
     found = matches(table, strength, is_shifted, key, characters, length)
     if fault:
         found = [r for r in found if r[1] < length]
-    lines = "".join(f"{start}:{end}\n" for start, end in found)
+    if is_chain:
+        found = chain(found)
+    lines = lines_of(found, output)
     if fault:
-        return 2, lines, "colfind: fault %d at %d\n" % fault
+        return 2, lines, fault_line(*fault)[2]
     return (0 if found else 1), lines, ""
 
 
@@ -282,19 +312,32 @@ def whole_table_kind(rows):
     return None
 
 
-def table_of(lines):
-    """The rows and ranges, and the first fault as its kind and line."""
-    rows, ranges = {}, []
+def take_lines(lines, ranges):
+    """The rows of a file, and its first fault as its kind and line; its ranges are put behind those of an earlier file."""
+    rows = {}
     for number, line in enumerate(lines, 1):
         if line is None:
-            return (rows, ranges), (1, number)
+            return rows, (1, number)
         kinds = range_kinds(ranges, *line[1:]) if line[0] == "range" else entry_kinds(rows, *line[1:])
         kind = min(kinds, default=None)
         if kind:
-            return (rows, ranges), (kind, number)
+            return rows, (kind, number)
         if line[0] == "range":
             ranges.append(line[1:])
         else:
             rows[line[1]] = line[2]
+    return rows, None
+
+
+def table_of(lines, tailor=()):
+    """The rows and ranges of a file and its tailor, and the first fault as its kind and line."""
+    ranges = []
+    rows, fault = take_lines(lines, ranges)
+    if fault:
+        return (rows, ranges), fault
+    others, fault = take_lines(tailor, ranges)
+    rows = {**rows, **others}
+    if fault:
+        return (rows, ranges), (fault[0] + 60, fault[1])
     kind = whole_table_kind(rows)
     return (rows, ranges), (kind, 0) if kind else None

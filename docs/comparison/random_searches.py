@@ -1,8 +1,12 @@
-"""Compares what colfind prints with what model.py gives, on random small tables, patterns and texts.
+"""Compares what colfind prints with what model.py gives, on random small tables, tailors, patterns and texts, for the whole
+command: strengths, weightings, forms of output, texts in files and from standard input, there in pieces of all sizes.
 
-    python3 random_searches.py COLFIND SEED TABLES
+    python3 random_searches.py COLFIND SEED TABLES [--select]
+
+With --select the option `--select all|chain` is tried too.
 """
 
+import os
 import random
 import subprocess
 import sys
@@ -23,6 +27,8 @@ MALFORMED = ["61 ; [.1C00.0020.0002]", "0061 ; [.1c00.0020.0002]", "0061 ;", "00
 
 def random_key(choice):
     kind = choice.random()
+    if kind < 0.08:
+        return tuple(choice.choice(LETTERS) for _ in range(choice.choice([2, 3, 3, 4, 6])))
     if kind < 0.5:
         return (choice.choice(BASES + MARKS),)
     if kind < 0.7:
@@ -62,10 +68,10 @@ def random_row(choice, is_sane):
     return row
 
 
-def random_lines(choice):
+def random_lines(choice, most):
     is_sane = choice.random() < 0.85
     lines, keys = [], set()
-    for _ in range(choice.randrange(1, 16)):
+    for _ in range(choice.randrange(1, most)):
         kind = choice.random()
         if kind < 0.04:
             last = 0x17000 + choice.choice([5, 0x10, 0x7FFF, 0x8000])
@@ -99,12 +105,39 @@ def spelled(choice, line):
     return blanks() + key + blanks() + ";" + blanks() + blanks().join(elements) + choice.choice(["", "# x", "  "])
 
 
+def random_tailor(choice, lines):
+    """Some lines, and rows for strings that the table maps."""
+    keys = [line[1] for line in lines if line and line[0] == "entry"]
+    tailor = random_lines(choice, 6)
+    taken = {line[1] for line in tailor if line and line[0] == "entry"}
+    for key in choice.sample(keys, min(len(keys), choice.randrange(3))):
+        if key not in taken:
+            taken.add(key)
+            tailor.append(("entry", key, random_row(choice, True)))
+    return tailor
+
+
+def spelled_file(choice, lines):
+    end = choice.choice(["\n", "\r\n"])
+    return end.join(spelled(choice, line) for line in lines) + choice.choice(["", end])
+
+
 # ---- patterns and texts
 
 
 def random_text(choice, most):
     kinds = [MARKS, LETTERS, LETTERS + MARKS + OTHERS]
     return "".join(chr(choice.choice(choice.choice(kinds))) for _ in range(choice.randrange(most)))
+
+
+def random_runs(choice):
+    """Runs of ASCII, with a few other characters between them."""
+    parts = []
+    for _ in range(choice.randrange(1, 5)):
+        letters = choice.sample(LETTERS + [0x20, 0x2D], choice.choice([1, 2, 3, 8]))
+        parts.append("".join(chr(choice.choice(letters)) for _ in range(choice.choice([0, 1, 2, 3, 5, 9]))))
+        parts.append(random_text(choice, 4))
+    return "".join(parts)
 
 
 def random_pattern(choice, text):
@@ -118,6 +151,8 @@ def random_pattern(choice, text):
 def random_bytes(choice, text):
     if choice.random() < 0.03:
         text += chr(0x301) * choice.randrange(26, 34) + "a"
+    if choice.random() < 0.02:
+        text += choice.choice(["a", "ab", "cha "]) * choice.randrange(8, 14)
     data, kind = text.encode(), choice.random()
     place = choice.randrange(len(data) + 1)
     if kind < 0.08:
@@ -125,46 +160,141 @@ def random_bytes(choice, text):
     return data[:place] if kind < 0.12 else data
 
 
+# ---- commands
+
+
+class Search:
+    """The settings of one search, and where its text stands."""
+
+    def __init__(self, choice, knows_select):
+        self.strength, self.is_shifted = choice.choice([1, 2, 3]), choice.random() < 0.5
+        self.output = choice.choice(["ranges", "ranges", "count", "marks"])
+        self.is_chain = knows_select and choice.random() < 0.5
+        self.is_in_file = choice.random() < 0.3
+        text = random_runs(choice) if choice.random() < 0.4 else random_text(choice, 14)
+        self.pattern, self.data = random_pattern(choice, text), random_bytes(choice, text)
+        kind = choice.random()
+        self.lacks = None if kind > 0.02 else choice.choice(["words", "table", "tailor", "text"])
+
+    def options(self, choice, paths, has_tailor, knows_select):
+        """The options, in random order and spelling; those that are the default may be left out."""
+        named = [("table", paths["none"] if self.lacks == "table" else paths["table"])]
+        if has_tailor or self.lacks == "tailor":
+            named.append(("tailor", paths["none"] if self.lacks == "tailor" else paths["tailor"]))
+        settings = [
+            ("strength", str(self.strength), "3"),
+            ("variable", "shifted" if self.is_shifted else "non-ignorable", "non-ignorable"),
+            ("output", self.output, "ranges"),
+        ]
+        if knows_select:
+            settings.append(("select", "chain" if self.is_chain else "all", "all"))
+        if self.lacks == "words":
+            name, _, default = settings.pop(choice.randrange(len(settings)))
+            settings.append((name, choice.choice(["", "0", "none", default + " "]), None))
+        named += [(name, value) for name, value, default in settings if value != default or choice.random() < 0.5]
+        choice.shuffle(named)
+        words = []
+        for name, value in named:
+            words += [f"--{name}={value}"] if choice.random() < 0.3 else [f"--{name}", value]
+        return words
+
+    def words(self, choice, paths, has_tailor, knows_select):
+        words = self.options(choice, paths, has_tailor, knows_select)
+        names_file = self.is_in_file or self.lacks == "text"
+        if self.pattern.startswith("-") or choice.random() < 0.7:
+            words.append("--")
+        words.append(self.pattern)
+        return words + ([paths["none"] if self.lacks == "text" else paths["text"]] if names_file else [])
+
+    def wanted(self, table, fault):
+        """What the program must answer, in the order of its work."""
+        if self.lacks == "words":
+            return 2, "", "colfind: usage\n"
+        if self.lacks in ("table", "tailor"):
+            return model.fault_line({"table": 43, "tailor": 44}[self.lacks], 0)
+        if fault:
+            return model.fault_line(*fault)
+        kind = model.pattern_fault(table, self.strength, self.is_shifted, self.pattern.encode())
+        if kind or self.lacks == "text":
+            return model.fault_line(kind or 41, 0)
+        return model.printed(
+            table, self.strength, self.is_shifted, self.output, self.is_chain, self.pattern.encode(), self.data
+        )
+
+
+def pieces(choice, data):
+    """The data cut at random."""
+    most = choice.choice([1, 2, 5, 40, 1000])
+    place = 0
+    while place < len(data):
+        size = choice.randrange(1, most + 1)
+        yield data[place : place + size]
+        place += size
+
+
+def given(choice, words, data):
+    """What the program answers; the data come to its standard input one piece after another."""
+    pipe = subprocess.PIPE
+    ran = subprocess.Popen(words, stdin=pipe, stdout=pipe, stderr=pipe, bufsize=0, close_fds=False)
+    try:
+        for piece in pieces(choice, data):
+            ran.stdin.write(piece)
+    except BrokenPipeError:
+        pass
+    printed, reported = ran.communicate()
+    return ran.returncode, printed.decode(), reported.decode()
+
+
 # ---- comparison
 
 
-def given(colfind, table_file, strength, is_shifted, pattern, data):
-    words = [colfind, "--table", table_file, "--strength", str(strength)]
-    words += ["--variable", "shifted" if is_shifted else "non-ignorable", "--", pattern]
-    ran = subprocess.run(words, input=data, capture_output=True, check=False)
-    return ran.returncode, ran.stdout.decode(), ran.stderr.decode()
+class Comparison:
+    def __init__(self, colfind, choice, folder, knows_select):
+        self.colfind, self.choice, self.knows_select = colfind, choice, knows_select
+        self.paths = {name: os.path.join(folder, name) for name in ("table", "tailor", "text", "none")}
+        self.searches = self.with_matches = self.with_faults = self.different = 0
+
+    def write(self, name, data):
+        with open(self.paths[name], "wb") as file:
+            file.write(data)
+
+    def try_table(self):
+        choice = self.choice
+        lines = random_lines(choice, 16)
+        tailor = random_tailor(choice, lines) if choice.random() < 0.3 else None
+        self.write("table", spelled_file(choice, lines).encode())
+        self.write("tailor", spelled_file(choice, tailor or []).encode())
+        table, fault = model.table_of(lines, tailor or [])
+        for _ in range(1 if fault else 6):
+            search = Search(choice, self.knows_select)
+            self.compare(search, lines, tailor, search.wanted(table, fault))
+
+    def compare(self, search, lines, tailor, wanted):
+        words = search.words(self.choice, self.paths, tailor is not None, self.knows_select)
+        self.write("text", search.data)
+        # what comes to standard input beside a text file is not read
+        data = self.choice.choice([b"", b"aba\xff"]) if search.is_in_file else search.data
+        got = given(self.choice, [self.colfind] + words, data)
+        self.searches += 1
+        self.with_matches += wanted[1] not in ("", "0\n")
+        self.with_faults += wanted[2] != ""
+        if got != wanted:
+            self.different += 1
+            print("different:", lines, tailor, words, search.data, wanted, got, sep="\n  ")
 
 
 def main():
-    colfind, seed, tables = sys.argv[1], int(sys.argv[2]), int(sys.argv[3])
-    choice = random.Random(seed)
-    searches = with_matches = with_faults = different = 0
-    with tempfile.NamedTemporaryFile("w", newline="") as file:
+    words = [word for word in sys.argv[1:] if word != "--select"]
+    colfind, seed, tables = os.path.abspath(words[0]), int(words[1]), int(words[2])
+    with tempfile.TemporaryDirectory() as folder:
+        compared = Comparison(colfind, random.Random(seed), folder, "--select" in sys.argv)
         for _ in range(tables):
-            lines = random_lines(choice)
-            end = choice.choice(["\n", "\r\n"])
-            file.seek(0)
-            file.truncate()
-            file.write(end.join(spelled(choice, line) for line in lines) + choice.choice(["", end]))
-            file.flush()
-            table, fault = model.table_of(lines)
-            for _ in range(1 if fault else 4):
-                strength, is_shifted = choice.choice([1, 2, 3]), choice.random() < 0.5
-                text = random_text(choice, 14)
-                pattern, data = random_pattern(choice, text), random_bytes(choice, text)
-                if fault:
-                    wanted = 2, "", "colfind: fault %d at %d\n" % fault
-                else:
-                    wanted = model.printed(table, strength, is_shifted, pattern.encode(), data)
-                got = given(colfind, file.name, strength, is_shifted, pattern, data)
-                searches += 1
-                with_matches += wanted[1] != ""
-                with_faults += wanted[2] != ""
-                if got != wanted:
-                    different += 1
-                    print("different:", lines, strength, is_shifted, ascii(pattern), data, wanted, got, sep="\n  ")
-    print(f"seed {seed}: {searches} searches, {with_matches} with matches, {with_faults} with faults, {different} different")
-    sys.exit(1 if different else 0)
+            compared.try_table()
+    print(
+        f"seed {seed}: {compared.searches} searches, {compared.with_matches} with matches,"
+        f" {compared.with_faults} with faults, {compared.different} different"
+    )
+    sys.exit(1 if compared.different else 0)
 
 
 main()
