@@ -8,6 +8,8 @@ pub mod Cuts
 pub mod LeftPoints
 pub mod Queues
 pub mod ItemLaws
+pub mod ShortItemLaws
+pub mod RowSizes
 pub mod ContextBoundaries
 pub mod ContextClusters
 pub mod ContextJoined

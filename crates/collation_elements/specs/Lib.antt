@@ -15,3 +15,4 @@ pub mod Texts
 pub mod WorkedTable
 pub mod WorkedClusters
 pub mod Lone
+pub mod ShortItems

@@ -1,9 +1,10 @@
 -- What a window of points holds, and what it stands for.
-use Rattle.std.specs.Prelude.{◌≡◌, ℕ, Bool, true, ◌||◌, ◌&&◌, nat_lt, nat_le, List, [], ◌∷◌, ◌++◌, drop, length}
+use Rattle.std.specs.Prelude.{◌≡◌, ℕ, Bool, true, ◌||◌, ◌&&◌, nat_lt, nat_le, List, [], ◌∷◌, ◌++◌, drop, length, Option, Some, slice_get}
 use Rattle.std.specs.List.{list_any}
 use Rattle.nfd_points.specs.declared.points.Point.{Point}
 use Rattle.nfd_points.specs.Points.{is_starter}
-use Rattle.collation_table.specs.Table.{TableMap, longest_mapped}
+use Rattle.collation_table.specs.declared.elements.Element.{Element}
+use Rattle.collation_table.specs.Table.{TableMap, BeginsNoLongerString, row_of, longest_mapped}
 use Rattle.collation_elements.specs.Units.{Cut, prefix_length, first_unit, units}
 
 -- the points of a window, how many it may hold, and whether it was told that none follows
@@ -26,6 +27,14 @@ is_decided table held =
 abbrev pub next_cut : TableMap → List Point → Cut
 next_cut table [] = record { unit = []; rest = [] }
 next_cut table (p ∷ ps) = first_unit table p ps
+
+-- no mapped string of two or more code points begins with that of the first point
+abbrev pub BeginsAlone : TableMap → List Point → Type 0
+BeginsAlone table points = (p : Point) → slice_get points 0 ≡ Some p → BeginsNoLongerString table p.cp
+
+-- what the table has for the code point of the first point alone
+abbrev pub HasFirstRow : TableMap → List Point → Option (List Element) → Type 0
+HasFirstRow table points row = (p : Point) → slice_get points 0 ≡ Some p → row ≡ row_of table (p.cp ∷ [])
 
 -- What a window stands for: `taken` are the points that it was given, and `given` the units that were cut from it, where
 -- with each list of points that may follow (none, once the end was told) the units of all are those given and then those

@@ -1,5 +1,5 @@
 //! A unit of a text, with its collation elements.
-ghost use Rattle.std.specs.Prelude.{◌≡◌, ◌<◌, ◌≤◌, length, unwrap_or};
+ghost use Rattle.std.specs.Prelude.{◌≡◌, ◌<◌, ◌≤◌, [], ◌∷◌, length, option_copied, unwrap_or, IfSome};
 ghost use Rattle.collation_table.specs.Table.{row_of, implicit_pair};
 
 use collation_table::{Element, MOST_ROW_ELEMENTS, Weights};
@@ -55,12 +55,57 @@ impl<'t> Unit<'t> {
         }
     }
 
+    /// The unit of one point, of which the table has this row, or none.
+    #[inline(always)]
+    pub(crate) fn of_one<W: Weights>(
+        table: &'t W,
+        point: Point,
+        row: Option<&'t [Element]>,
+    ) -> Self
+        requires code_point { point.cp < 0x110000 }
+        requires row { option_copied row ≡ row_of (W.table table.now) (point.cp ∷ []) }
+        ensures first_point { result.first_point ≡ point }
+        ensures elements { let pair = implicit_pair (W.table table.now) point.cp in
+            result.elements ≡ unwrap_or (row_of (W.table table.now) (point.cp ∷ [])) pair }
+    {
+        let elements = match row {
+            Some(row) => Elements::Row(row),
+            None => Elements::Implicit(table.implicit(point.cp)),
+        };
+        Unit {
+            first_point: point,
+            elements,
+        }
+    }
+
     /// The unit's first point.
     #[inline(always)]
     pub fn first_point(&self) -> Point
         ensures { result ≡ self.now.first_point }
     {
         self.first_point
+    }
+
+    /// The unit's only element, where it has a row of one.
+    #[inline(always)]
+    pub(crate) fn only_element(&self) -> Option<Element>
+        ensures { IfSome result (λ e. self.now.elements ≡ e ∷ []) }
+    {
+        match &self.elements {
+            Elements::Row([e]) => Some(*e),
+            _ => None,
+        }
+    }
+
+    /// The implicit pair that the unit has in place of a row.
+    #[inline(always)]
+    pub(crate) fn pair(&self) -> Option<[Element; 2]>
+        ensures { IfSome result (λ pair. self.now.elements ≡ pair) }
+    {
+        match &self.elements {
+            Elements::Row(_) => None,
+            Elements::Implicit(pair) => Some(*pair),
+        }
     }
 
     /// The unit's collation elements before variable weighting (UTS #10, S2.2): the row of the table or, where the unit has

@@ -100,9 +100,16 @@ impl Weigher {
         *self = Weigher::restore(self.strength, self.variable, lone.after_variable);
     }
 
+    #[inline(always)]
+    pub(crate) fn strength(&self) -> Strength
+        ensures { result ≡ self.now.strength }
+    {
+        self.strength
+    }
+
     /// The next element under variable weighting.
     #[inline(always)]
-    fn weigh(&mut self, e: Element) -> Element
+    pub(crate) fn weigh(&mut self, e: Element) -> Element
         ensures element { result ≡ weighted_element self.old.variable self.old.after_variable e }
         ensures after { let after = after_element self.old.variable self.old.after_variable e in
             self.new ≡ weigher self.old.strength self.old.variable after }
@@ -165,18 +172,31 @@ fn add_key(strength: Strength, e: Element, items: &mut ArrayVec<Item, MOST_ITEMS
     ensures keys { items.new.items ≡ items.old.items ++ map (λ key. Item.Element key) (element_keys strength e) }
     ensures few { array_vec_len items.new ≤ array_vec_len items.old + 1 }
 {
-    let second = second_at(strength, e.w2);
-    let third = third_at(strength, e.w3);
-    if e.w1 > 0 {
-        items.push(Item::Element(Key::Primary(e.w1, second, third)));
-    } else if second > 0 {
-        items.push(Item::Element(Key::Secondary(second, third)));
-    } else if third > 0 {
-        items.push(Item::Element(Key::Tertiary(third)));
+    if let Some(key) = key_of(strength, e) {
+        items.push(Item::Element(key));
     }
 }
 
-fn pair_key(strength: Strength, lead: &Element, follower: &Element) -> Key
+/// The key of an element that is not ignorable up to the strength.
+#[inline(always)]
+pub(crate) fn key_of(strength: Strength, e: Element) -> Option<Key>
+    ensures { option_to_list result ≡ element_keys strength e }
+{
+    let second = second_at(strength, e.w2);
+    let third = third_at(strength, e.w3);
+    if e.w1 > 0 {
+        Some(Key::Primary(e.w1, second, third))
+    } else if second > 0 {
+        Some(Key::Secondary(second, third))
+    } else if third > 0 {
+        Some(Key::Tertiary(third))
+    } else {
+        None
+    }
+}
+
+#[inline(always)]
+pub(crate) fn pair_key(strength: Strength, lead: &Element, follower: &Element) -> Key
     ensures { result ≡ pair_key strength lead.now follower.now }
 {
     Key::Pair(

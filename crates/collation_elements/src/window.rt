@@ -1,6 +1,6 @@
 //! A window of points, from whose front units are cut once they are decided, so that what follows cannot change them (UTS #10,
 //! S2.1).
-ghost use Rattle.std.specs.Prelude.{◌≡◌, ◌+◌, ◌<◌, ◌≤◌, ◌↔◌, ◌==◌, ℕ, List, [], ◌∷◌, ◌++◌, Bool, true, false, length, take, drop, slice_get, is_some, Some, if◌then◌else◌, IsTrue, IsSome, IfSome, OnSome, IfNone, IfOk};
+ghost use Rattle.std.specs.Prelude.{◌≡◌, ◌+◌, ◌<◌, ◌≤◌, ◌↔◌, ◌==◌, ℕ, List, [], ◌∷◌, ◌++◌, Bool, true, false, length, take, drop, slice_get, is_some, Some, if◌then◌else◌, IsTrue, IsSome, IfSome, OnSome, IfNone, IfOk, option_copied};
 ghost use Rattle.std.specs.List.{list_any, All, Contains};
 ghost use Rattle.unicode_normalization.specs.StreamSafe.{has_short_runs};
 ghost use Rattle.nfd_points.specs.declared.points.Point.{Point};
@@ -11,12 +11,12 @@ ghost use Rattle.circular_buffer.specs.Buffer.{buffer};
 ghost use Rattle.collation_table.specs.Table.{TableMap, longest_mapped, is_mapped};
 ghost use Rattle.collation_elements.specs.Units.{code_points, extended, prefix_length};
 ghost use Rattle.collation_elements.specs.UnitValues.{IsUnitOf};
-ghost use Rattle.collation_elements.specs.Windows.{Held, is_decided, next_cut, WindowStandsFor};
+ghost use Rattle.collation_elements.specs.Windows.{Held, is_decided, next_cut, BeginsAlone, HasFirstRow, WindowStandsFor};
 
 use crate::queue::Queue;
 use crate::unit::Unit;
 use arrayvec::ArrayVec;
-use collation_table::{MOST_STRING_POINTS, Weights};
+use collation_table::{Element, MOST_STRING_POINTS, Weights};
 use nfd_points::{MOST_GIVEN, Point};
 use std::alloc::{AllocError, Global};
 use std::marker::Model;
@@ -135,41 +135,59 @@ impl Window {
         ensures last { OnSome result (self.old.has_ended ≡ false → is_closed self.old.points ≡ true
             → is_closed self.new.points ≡ true) }
     {
-        let taken = decided_prefix(&self.queue, self.has_ended, table)?;
-        Some(cut(&mut self.queue, table, taken))
+        let front = decided_front(&self.queue, self.has_ended, table)?;
+        Some(cut(&mut self.queue, table, front))
     }
 }
 
-/// How many points the longest mapped string at the front has, or 1 where none is one, if the unit there is decided.
+/// What is at the front of a window whose first unit is decided.
+#[derive(Clone, Copy)]
+struct Front<'t> {
+    /// How many points the longest mapped string there has, or 1 where none is one.
+    taken: usize,
+    /// The row of the first point's code point, if it has one, where that is known to begin no mapped string of two or more.
+    lone: Option<Option<&'t [Element]>>,
+}
+
+/// What is at the front, if the unit there is decided.
 #[inline(always)]
-fn decided_prefix<W: Weights>(points: &Queue, has_ended: bool, table: &W) -> Option<usize>
+fn decided_front<'t, W: Weights>(
+    points: &Queue,
+    has_ended: bool,
+    table: &'t W,
+) -> Option<Front<'t>>
     ensures decided { let held : Held = record {
       points = points.now.items;
       capacity = points.now.capacity;
       has_ended = has_ended;
     } in
         is_some result ≡ is_decided (W.table table.now) held }
-    ensures length { IfSome result (λ taken. taken ≡ prefix_length (W.table table.now) points.now.items) }
+    ensures length { IfSome result (λ front. front.taken ≡ prefix_length (W.table table.now) points.now.items) }
+    ensures alone { IfSome result (λ front. OnSome front.lone (BeginsAlone (W.table table.now) points.now.items)) }
+    ensures row { IfSome result (λ front. IfSome front.lone (λ row. HasFirstRow (W.table table.now) points.now.items (option_copied row))) }
 {
     if points.len() == 0 || (!has_ended && points.len() < table.longest_key()) {
         return None;
     }
-    let taken = prefix_length(points, table);
+    let first = points.point(0);
+    let lone = table.lone_row(first.cp);
+    let taken = prefix_length(points, table, lone.is_some());
     if has_ended || has_starter_from(points, taken) {
-        Some(taken)
+        Some(Front { taken, lone })
     } else {
         None
     }
 }
 
 /// How many points the longest mapped string at the front has, or 1 where none is one. No mapped string is looked for where
-/// none of two or more code points begins with the first point's.
+/// none of two or more code points is known to begin with the first point's.
 #[inline(always)]
-fn prefix_length<W: Weights>(points: &Queue, table: &W) -> usize
-    requires { 0 < length points.now.items }
+fn prefix_length<W: Weights>(points: &Queue, table: &W, is_alone: bool) -> usize
+    requires some { 0 < length points.now.items }
+    requires alone { is_alone ≡ true → BeginsAlone (W.table table.now) points.now.items }
     ensures { result ≡ prefix_length (W.table table.now) points.now.items }
 {
-    if !table.begins_longer_string(points.point(0).cp) {
+    if is_alone {
         return 1;
     }
     let prefix = points.prefix(table.longest_key());
@@ -189,23 +207,25 @@ fn has_starter_from(points: &Queue, index: usize) -> bool
     false
 }
 
-/// Takes the unit that begins with the first `taken` points, which are the longest mapped string at the front, or one point.
-/// Nothing joins a point with whose code point no mapped string of two or more begins.
+/// Takes the first unit, of which this is the front. Nothing joins a point with whose code point no mapped string of two or more
+/// begins.
 #[inline(always)]
-fn cut<'t, W: Weights>(points: &mut Queue, table: &'t W, taken: usize) -> Unit<'t>
+fn cut<'t, W: Weights>(points: &mut Queue, table: &'t W, front: Front<'t>) -> Unit<'t>
     requires some { 0 < length points.old.items }
-    requires beginning { taken ≡ prefix_length (W.table table.now) points.old.items }
+    requires beginning { front.taken ≡ prefix_length (W.table table.now) points.old.items }
+    requires alone { OnSome front.lone (BeginsAlone (W.table table.now) points.old.items) }
+    requires row { IfSome front.lone (λ row. HasFirstRow (W.table table.now) points.old.items (option_copied row)) }
     ensures rest { let cut = next_cut (W.table table.now) points.old.items in
         points.new ≡ buffer cut.rest points.old.capacity }
     ensures unit { IsUnitOf (W.table table.now) (next_cut (W.table table.now) points.old.items).unit result }
 {
     let first_point = points.point(0);
-    if !table.begins_longer_string(first_point.cp) {
+    if let Some(row) = front.lone {
         points.skip(1);
-        return Unit::new(table, first_point, &[first_point.cp]);
+        return Unit::of_one(table, first_point, row);
     }
-    let mut string = points.prefix(taken);
-    points.skip(taken);
+    let mut string = points.prefix(front.taken);
+    points.skip(front.taken);
     take_joining(points, table, &mut string);
     Unit::new(table, first_point, string.as_slice())
 }

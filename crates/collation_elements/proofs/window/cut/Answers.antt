@@ -1,9 +1,9 @@
-use Rattle.std.proofs.Common.{◌≡◌, ℕ, List, [], ◌∷◌, take, drop, sym, ◌∙◌, ap, arith}
+use Rattle.std.proofs.Common.{◌≡◌, ℕ, List, [], ◌∷◌, take, drop, option_copied, IfSome, OnSome, sym, ◌∙◌, ap, subst, arith}
 use Rattle.std.proofs.lemmas.List.{take-map}
 use Rattle.nfd_points.specs.declared.points.Point.{Point}
 use Rattle.circular_buffer.specs.Buffer.{Buffer, buffer}
 use Rattle.collation_elements.specs.Units.{code_points, Cut, extended}
-use Rattle.collation_elements.specs.Windows.{next_cut}
+use Rattle.collation_elements.specs.Windows.{next_cut, BeginsAlone, HasFirstRow}
 use Rattle.collation_elements.proofs.Alone.{next_cut-alone}
 use Rattle.collation_elements.proofs.Cutting.{next_cut-of}
 use Rattle.collation_elements.proofs.Cuts.{IsUnitOf-cut}
@@ -19,25 +19,35 @@ pub skip-requires-2 : goal.skip-requires-2
 skip-requires-2 g c =
     omega (arith, c.requires.beginning, prefix_length-le (g.W.Weights.table c.args.table.now) c.args.points.now.items c.requires.some)
 
-pub returns-then-not-begins_longer_string-clause-rest : goal.returns-then-not-begins_longer_string-clause-rest
-returns-then-not-begins_longer_string-clause-rest g c =
+pub of_one-requires-clause-row : goal.of_one-requires-clause-row
+of_one-requires-clause-row g c =
     let T = g.W.Weights.table c.args.table.now in
     let ps : List Point = c.args.points.now.items in
-    c.skip.ensures ∙ ap (λ (cut : Cut). buffer cut.rest c.args.points.now.capacity) (sym (next_cut-alone T ps c.point-first_point.result c.point-first_point.ensures.point (c.begins_longer_string.ensures c.if-not-begins_longer_string.true)))
+    let has : HasFirstRow T ps (option_copied c.in-Some.row) = subst (λ o. IfSome o (λ row. HasFirstRow T ps (option_copied row))) c.in-Some.is c.requires.row in
+    has c.point-first_point.result c.point-first_point.ensures.point
 
-pub returns-then-not-begins_longer_string-clause-unit : goal.returns-then-not-begins_longer_string-clause-unit
-returns-then-not-begins_longer_string-clause-unit g c =
+pub returns-in-Some-clause-rest : goal.returns-in-Some-clause-rest
+returns-in-Some-clause-rest g c =
     let T = g.W.Weights.table c.args.table.now in
     let ps : List Point = c.args.points.now.items in
+    let alone : BeginsAlone T ps = subst (λ o. OnSome o (BeginsAlone T ps)) c.in-Some.is c.requires.alone in
     let first : Point = c.point-first_point.result in
-    let string_is : first.cp ∷ [] ≡ code_points (next_cut T ps).unit = ap (λ (cut : Cut). code_points cut.unit) (sym (next_cut-alone T ps first c.point-first_point.ensures.point (c.begins_longer_string.ensures c.if-not-begins_longer_string.true))) in
-    IsUnitOf-cut T ps (first.cp ∷ []) first c.new.result c.requires.some c.point-first_point.ensures.point string_is c.new.ensures.first_point c.new.ensures.elements
+    c.skip.ensures ∙ ap (λ (cut : Cut). buffer cut.rest c.args.points.now.capacity) (sym (next_cut-alone T ps first c.point-first_point.ensures.point (alone first c.point-first_point.ensures.point)))
+
+pub returns-in-Some-clause-unit : goal.returns-in-Some-clause-unit
+returns-in-Some-clause-unit g c =
+    let T = g.W.Weights.table c.args.table.now in
+    let ps : List Point = c.args.points.now.items in
+    let alone : BeginsAlone T ps = subst (λ o. OnSome o (BeginsAlone T ps)) c.in-Some.is c.requires.alone in
+    let first : Point = c.point-first_point.result in
+    let string_is : first.cp ∷ [] ≡ code_points (next_cut T ps).unit = ap (λ (cut : Cut). code_points cut.unit) (sym (next_cut-alone T ps first c.point-first_point.ensures.point (alone first c.point-first_point.ensures.point))) in
+    IsUnitOf-cut T ps (first.cp ∷ []) first c.of_one.result c.requires.some c.point-first_point.ensures.point string_is c.of_one.ensures.first_point c.of_one.ensures.elements
 
 pub returns-clause-rest : goal.returns-clause-rest
 returns-clause-rest g c =
     let T = g.W.Weights.table c.args.table.now in
     let ps : List Point = c.args.points.now.items in
-    let n : ℕ = c.args.taken in
+    let n : ℕ = c.args.front.taken in
     let codes_are : code_points (take n ps) ≡ c.prefix-string.result.items = sym (c.prefix-string.ensures ∙ take-map (λ p. p.cp) n ps) in
     c.take_joining.ensures.rest (take n ps) codes_are
     ∙ ap (λ (q : Buffer Point). buffer (extended T (take n ps) [] q.items).rest q.capacity) c.skip-2.ensures
@@ -48,7 +58,7 @@ pub returns-clause-unit : goal.returns-clause-unit
 returns-clause-unit g c =
     let T = g.W.Weights.table c.args.table.now in
     let ps : List Point = c.args.points.now.items in
-    let n : ℕ = c.args.taken in
+    let n : ℕ = c.args.front.taken in
     let codes_are : code_points (take n ps) ≡ c.prefix-string.result.items = sym (c.prefix-string.ensures ∙ take-map (λ p. p.cp) n ps) in
     let string_is : c.as_slice.result.now ≡ code_points (next_cut T ps).unit = c.as_slice.ensures.value ∙ c.take_joining.ensures.string (take n ps) codes_are ∙ ap (λ (q : Buffer Point). code_points (extended T (take n ps) [] q.items).unit) c.skip-2.ensures ∙ ap (λ (k : ℕ). code_points (extended T (take k ps) [] (drop k ps)).unit) c.requires.beginning ∙ ap (λ (cut : Cut). code_points cut.unit) (sym (next_cut-of T ps c.requires.some)) in
-    IsUnitOf-cut T ps c.as_slice.result.now c.point-first_point.result c.new-2.result c.requires.some c.point-first_point.ensures.point string_is c.new-2.ensures.first_point c.new-2.ensures.elements
+    IsUnitOf-cut T ps c.as_slice.result.now c.point-first_point.result c.new.result c.requires.some c.point-first_point.ensures.point string_is c.new.ensures.first_point c.new.ensures.elements

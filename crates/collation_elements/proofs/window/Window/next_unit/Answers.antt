@@ -12,11 +12,11 @@ use Rattle.collation_elements.proofs.Cuts.{IfNone-from, WindowStandsFor-cut}
 use Rattle.collation_elements.proofs.LeftPoints.{all-next_cut, short-next_cut}
 use Rattle.collation_elements.proofs.window.Window.next_unit.Goals as goal
 
-pub returns-in_err-taken-clause-room : goal.returns-in_err-taken-clause-room
-returns-in_err-taken-clause-room g c =
+pub returns-in_err-front-clause-room : goal.returns-in_err-front-clause-room
+returns-in_err-front-clause-room g c =
     let T = g.W.Weights.table c.args.table.now in
     let held : Held = record { points = c.self.inside.queue.items; capacity = c.self.inside.queue.capacity; has_ended = c.self.inside.has_ended } in
-    let undecided : is_decided T held ≡ false = sym c.decided_prefix.ensures.decided ∙ ap is_some c.in_err-taken.was in
+    let undecided : is_decided T held ≡ false = sym c.decided_front.ensures.decided ∙ ap is_some c.in_err-front.was in
     let few : held.has_ended ≡ false → is_closed held.points ≡ true → length held.points ≤ longest_mapped T = λ unreported ends. length-undecided T held (g.met.W.Weights.sizes c.args.table.now).some_mapped undecided ends in
     IfNone-from c.from_residual.result (subst (λ (h : Held). h.has_ended ≡ false → is_closed h.points ≡ true → length h.points ≤ longest_mapped T) c.self.view_is few)
 
@@ -25,7 +25,7 @@ returns-clause-stands g c =
     let T = g.W.Weights.table c.args.table.now in
     let held : Held = record { points = c.self.inside.queue.items; capacity = c.self.inside.queue.capacity; has_ended = c.self.inside.has_ended } in
     let new : Held = record { points = c.cut.new.points.items; capacity = c.cut.new.points.capacity; has_ended = c.self.inside.has_ended } in
-    let decided : is_decided T held ≡ true = sym c.in_ok-taken.ensures.decided in
+    let decided : is_decided T held ≡ true = sym c.in_ok-front.ensures.decided in
     let rest : c.cut.new.points.items ≡ (next_cut T held.points).rest = ap (λ (q : Buffer Point). q.items) c.cut.ensures.rest in
     subst (λ (h : Held). (taken : List Point) (given : List (List Point)) → WindowStandsFor T h taken given → WindowStandsFor T new taken (given ++ (next_cut T h.points).unit ∷ [])) c.self.view_is
     (λ taken given stands. WindowStandsFor-cut T held new taken given decided rest refl stands)
@@ -34,7 +34,7 @@ pub returns-clause-fewer : goal.returns-clause-fewer
 returns-clause-fewer g c =
     let T = g.W.Weights.table c.args.table.now in
     let held : Held = record { points = c.self.inside.queue.items; capacity = c.self.inside.queue.capacity; has_ended = c.self.inside.has_ended } in
-    let decided : is_decided T held ≡ true = sym c.in_ok-taken.ensures.decided in
+    let decided : is_decided T held ≡ true = sym c.in_ok-front.ensures.decided in
     let rest : length c.cut.new.points.items ≡ length (next_cut T held.points).rest = ap (λ (q : Buffer Point). length q.items) c.cut.ensures.rest in
     let fewer : length c.cut.new.points.items < length held.points = omega (arith, length-next_cut T held.points (decided-some T held decided)) in
     subst (λ (h : Held). length c.cut.new.points.items < length h.points) c.self.view_is fewer
@@ -43,7 +43,7 @@ pub returns-clause-last : goal.returns-clause-last
 returns-clause-last g c =
     let T = g.W.Weights.table c.args.table.now in
     let held : Held = record { points = c.self.inside.queue.items; capacity = c.self.inside.queue.capacity; has_ended = c.self.inside.has_ended } in
-    let decided : is_decided T held ≡ true = sym c.in_ok-taken.ensures.decided in
+    let decided : is_decided T held ≡ true = sym c.in_ok-front.ensures.decided in
     let rest : c.cut.new.points.items ≡ (next_cut T held.points).rest = ap (λ (q : Buffer Point). q.items) c.cut.ensures.rest in
     subst (λ (h : Held). h.has_ended ≡ false → is_closed h.points ≡ true → is_closed c.cut.new.points.items ≡ true) c.self.view_is
     (λ unreported ends. ap is_closed rest ∙ is_closed-decided T held decided unreported ends)

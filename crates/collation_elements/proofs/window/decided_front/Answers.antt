@@ -5,8 +5,8 @@ use Rattle.nfd_points.specs.Points.{is_starter}
 use Rattle.collation_table.specs.Table.{longest_mapped}
 use Rattle.collation_elements.specs.Windows.{Held}
 use Rattle.collation_elements.proofs.Deciding.{decided_by, or_first, or_second}
-use Rattle.collation_elements.proofs.window.decided_prefix.Goals as goal
-use Rattle.collation_elements.proofs.window.decided_prefix.Goals.{then-has_ended, else-has_ended, then-not-has_ended, else-not-has_ended}
+use Rattle.collation_elements.proofs.window.decided_front.Goals as goal
+use Rattle.collation_elements.proofs.window.decided_front.Goals.{then-has_ended, else-has_ended, then-not-has_ended, else-not-has_ended}
 
 pub returns-then-has_starter_from-clause-decided : goal.returns-then-has_starter_from-clause-decided
 returns-then-has_starter_from-clause-decided g c =
