@@ -14,6 +14,7 @@ mod first_ranges;
 mod long_keys;
 mod long_texts;
 mod pieces;
+mod resumed_chains;
 mod resuming;
 mod searches;
 

@@ -4,7 +4,7 @@
 ghost use Rattle.std.specs.Prelude.{◌<◌, ◌≤◌};
 
 use super::searches::{Answered, KEPT, SHIFTED, TABLE, THREE, resumed};
-use crate::{Found, PiecesSearched, Search, StateFault, TextFault, search_in_pieces};
+use crate::{Found, PiecesSearched, Search, Select, StateFault, TextFault, search_in_pieces};
 use collation_elements::Variable;
 use collation_pattern::Pattern;
 use collation_table::Table;
@@ -16,16 +16,17 @@ use std::test::Fail;
 const RECORD: usize = 4;
 
 /// The texts of the worked states: nothing, letters, a byte that begins a character, a letter whose accent waits, and a fault.
-const WORKED: [&[u8]; 7] = [b"", b"a", b"aa", b"aaa", b"\xc3", b"\xc3\xa9", b"\xff"];
+pub(super) const WORKED: [&[u8]; 7] = [b"", b"a", b"aa", b"aaa", b"\xc3", b"\xc3\xa9", b"\xff"];
 
 /// The words of the state of a search after some bytes, whose faults are passed over.
-fn state_after(
+pub(super) fn state_after(
     alloc: Global,
     table: &Table,
     pattern: &Pattern,
+    select: Select,
     bytes: &[u8],
 ) -> Result<Vec<u64>, Fail> {
-    let mut search = Search::new(alloc, table, pattern)?;
+    let mut search = Search::new_with(alloc, table, pattern, select)?;
     let _fault = search.feed(bytes, &mut |_, _| {});
     let mut words = Vec::new(alloc);
     search.save(&mut words)?;
@@ -33,15 +34,16 @@ fn state_after(
 }
 
 /// The ranges that a search has still to hand out after a state and some bytes, and its fault.
-fn rest_after(
+pub(super) fn rest_after(
     rt: &impl Abort,
     alloc: Global,
     table: &Table,
     pattern: &Pattern,
+    select: Select,
     words: &[u64],
     bytes: &[u8],
 ) -> Result<Answered, Fail> {
-    let mut search = Search::resume(alloc, table, pattern, words)?;
+    let mut search = Search::resume_with(alloc, table, pattern, select, words)?;
     let mut ranges = Vec::new(alloc);
     let _fault = search.feed(
         bytes,
@@ -74,12 +76,12 @@ fn worked_states_are_resumed(rt: HostRuntime) -> Result<(), Fail> {
         (b"\xff", b"aa", &[], Some(bad)),
     ];
     for (before, after, ranges, fault) in cases {
-        let words = state_after(alloc, &table, &pattern, before)?;
-        let rest = rest_after(&rt, alloc, &table, &pattern, &words, after)?;
+        let words = state_after(alloc, &table, &pattern, Select::All, before)?;
+        let rest = rest_after(&rt, alloc, &table, &pattern, Select::All, &words, after)?;
         assert_eq!(rt; rest.0.as_slice(), ranges);
         assert_eq!(rt; rest.1, fault);
     }
-    let words = state_after(alloc, &table, &pattern, b"\xff")?;
+    let words = state_after(alloc, &table, &pattern, Select::All, b"\xff")?;
     let mut search = Search::resume(alloc, &table, &pattern, &words)?;
     let mut found = Found::new();
     assert_eq!(rt; search.step(b'a', &mut found), Err(bad));
@@ -95,7 +97,7 @@ fn changed_states_are_refused(rt: HostRuntime) -> Result<(), Fail> {
     let alloc = rt.alloc();
     let table = Table::read(alloc, TABLE.as_bytes())?;
     let pattern = Pattern::compile(alloc, &table, "aa", THREE, KEPT)?;
-    let words = state_after(alloc, &table, &pattern, b"a")?;
+    let words = state_after(alloc, &table, &pattern, Select::All, b"a")?;
     assert_eq!(rt; words.len(), 24);
     let short = words.get(0..23).expect(&rt, "words");
     let refused = Search::resume(alloc, &table, &pattern, short).err();
@@ -131,7 +133,7 @@ fn text_of_the_most_bytes_goes_no_further(rt: HostRuntime) -> Result<(), Fail> {
     let alloc = rt.alloc();
     let table = Table::read(alloc, TABLE.as_bytes())?;
     let pattern = Pattern::compile(alloc, &table, "aa", THREE, KEPT)?;
-    let mut words = state_after(alloc, &table, &pattern, b"a")?;
+    let mut words = state_after(alloc, &table, &pattern, Select::All, b"a")?;
     if let Some(place) = words.get_mut(6) {
         *place = 1 << 62;
     }
@@ -144,16 +146,20 @@ fn text_of_the_most_bytes_goes_no_further(rt: HostRuntime) -> Result<(), Fail> {
     Ok(())
 }
 
-/// Each word of each worked state, changed to small and great numbers: a fault, or a search that takes more bytes and ends.
-#[test]
-fn any_changed_word_is_taken_without_harm(rt: HostRuntime) -> Result<(), Fail> {
-    let alloc = rt.alloc();
+/// Each word of the states after these texts, changed to small and great numbers: a fault, or a search that takes more bytes and
+/// ends. How many are refused, and how many are taken.
+pub(super) fn change_words(
+    rt: &impl Abort,
+    alloc: Global,
+    select: Select,
+    texts: &[&[u8]],
+) -> Result<(u32, u32), Fail> {
     let table = Table::read(alloc, TABLE.as_bytes())?;
     let pattern = Pattern::compile(alloc, &table, "aa", THREE, KEPT)?;
     let mut refused = 0u32;
     let mut taken = 0u32;
-    for bytes in WORKED {
-        let words = state_after(alloc, &table, &pattern, bytes)?;
+    for bytes in texts {
+        let words = state_after(alloc, &table, &pattern, select, bytes)?;
         for at in 0..words.len() {
             let word = words.get(at).copied().unwrap_or(0);
             for change in [0, 1, word.saturating_add(1), u64::MAX] {
@@ -161,7 +167,8 @@ fn any_changed_word_is_taken_without_harm(rt: HostRuntime) -> Result<(), Fail> {
                 if let Some(place) = changed.get_mut(at) {
                     *place = change;
                 }
-                let mut search = match Search::resume(alloc, &table, &pattern, &changed) {
+                let resumed = Search::resume_with(alloc, &table, &pattern, select, &changed);
+                let mut search = match resumed {
                     Ok(search) => search,
                     Err(fault) => {
                         assert!(rt; fault.kind == 51 || fault.kind == 52);
@@ -177,6 +184,12 @@ fn any_changed_word_is_taken_without_harm(rt: HostRuntime) -> Result<(), Fail> {
             }
         }
     }
+    Ok((refused, taken))
+}
+
+#[test]
+fn any_changed_word_is_taken_without_harm(rt: HostRuntime) -> Result<(), Fail> {
+    let (refused, taken) = change_words(&rt, rt.alloc(), Select::All, &WORKED)?;
     assert!(rt; refused > 400);
     assert!(rt; taken > 100);
     Ok(())
@@ -195,7 +208,8 @@ fn hostile(
 {
     let table = Table::read(alloc, TABLE.as_bytes())?;
     let pattern = Pattern::compile(alloc, &table, pattern, THREE, variable)?;
-    let (answered, most_words) = resumed(rt, alloc, &table, &pattern, text.as_bytes(), size)?;
+    let text = text.as_bytes();
+    let (answered, most_words) = resumed(rt, alloc, &table, &pattern, Select::All, text, size)?;
     assert_eq!(rt; most_words % RECORD, 0);
     Ok((answered, most_words / RECORD))
 }
@@ -344,14 +358,12 @@ fn pattern_of_the_most_bytes_resumed(rt: HostRuntime) -> Result<(), Fail> {
     Ok(())
 }
 
-/// To be run with each allocation refused in turn: a refused save leaves the words, a refused resume answers 53, and what is
-/// asked again is answered as with ample memory. A refusal that meets the test itself fails it by an error.
-#[test]
-fn refused_saves_and_resumes_are_asked_again(rt: HostRuntime) -> Result<(), Fail> {
-    let alloc = rt.alloc();
+/// A refused save leaves the words, a refused resume answers 53, and what is asked again is answered as with ample memory. A
+/// refusal that meets the test itself fails it by an error. The state has so many records.
+fn ask_again(rt: &impl Abort, alloc: Global, select: Select, records: usize) -> Result<(), Fail> {
     let table = Table::read(alloc, TABLE.as_bytes())?;
     let pattern = Pattern::compile(alloc, &table, "aa", THREE, KEPT)?;
-    let mut search = Search::new(alloc, &table, &pattern)?;
+    let mut search = Search::new_with(alloc, &table, &pattern, select)?;
     assert_eq!(rt; search.feed(b"aae\xcc\x81", &mut |_, _| {}), Ok(()));
     let mut words = Vec::new(alloc);
     words.push(7)?;
@@ -359,13 +371,13 @@ fn refused_saves_and_resumes_are_asked_again(rt: HostRuntime) -> Result<(), Fail
         assert_eq!(rt; words.as_slice(), [7].as_slice());
         search.save(&mut words)?;
     }
-    let state = words.get(1..).expect(&rt, "words");
-    assert_eq!(rt; state.len(), 4 * (5 + 2 + 1 + 1));
-    let resumed = match Search::resume(alloc, &table, &pattern, state) {
+    let state = words.get(1..).expect(rt, "words");
+    assert_eq!(rt; state.len() / RECORD, records);
+    let resumed = match Search::resume_with(alloc, &table, &pattern, select, state) {
         Ok(resumed) => resumed,
         Err(fault) => {
             assert_eq!(rt; fault.kind, 53);
-            Search::resume(alloc, &table, &pattern, state)?
+            Search::resume_with(alloc, &table, &pattern, select, state)?
         }
     };
     let mut again = Vec::new(alloc);
@@ -375,6 +387,18 @@ fn refused_saves_and_resumes_are_asked_again(rt: HostRuntime) -> Result<(), Fail
     }
     assert_eq!(rt; again.as_slice(), state);
     Ok(())
+}
+
+/// To be run with each allocation refused in turn.
+#[test]
+fn refused_saves_and_resumes_are_asked_again(rt: HostRuntime) -> Result<(), Fail> {
+    ask_again(&rt, rt.alloc(), Select::All, 5 + 2 + 1 + 1)
+}
+
+/// To be run with each allocation refused in turn.
+#[test]
+fn refused_saves_and_resumes_of_a_chain_are_asked_again(rt: HostRuntime) -> Result<(), Fail> {
+    ask_again(&rt, rt.alloc(), Select::Chain, 6 + 2 + 1 + 1)
 }
 
 #[test]
@@ -403,6 +427,7 @@ fn searches_in_pieces(rt: HostRuntime) -> Result<(), Fail> {
             alloc,
             &table,
             &pattern,
+            Select::All,
             pieces,
             &mut |start, end| {
                 ranges.push((start, end)).expect(&rt, "memory");

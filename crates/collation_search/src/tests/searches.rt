@@ -2,7 +2,7 @@
 
 ghost use Rattle.std.specs.Prelude.{◌<◌};
 
-use crate::{Found, Search, TextFault};
+use crate::{Found, Search, Select, TextFault};
 use collation_elements::{Strength, Variable};
 use collation_pattern::Pattern;
 use collation_table::Table;
@@ -118,12 +118,13 @@ pub(super) fn resumed(
     alloc: Global,
     table: &Table,
     pattern: &Pattern,
+    select: Select,
     text: &[u8],
     size: usize,
 ) -> Result<(Answered, usize), Fail>
     requires { 0 < size }
 {
-    let mut search = Search::new(alloc, table, pattern)?;
+    let mut search = Search::new_with(alloc, table, pattern, select)?;
     let mut ranges = Vec::new(alloc);
     let mut words = Vec::new(alloc);
     let mut most_words = 0;
@@ -137,7 +138,7 @@ pub(super) fn resumed(
         words.clear();
         search.save(&mut words)?;
         most_words = most_words.max(words.len());
-        search = Search::resume(alloc, table, pattern, &words)?;
+        search = Search::resume_with(alloc, table, pattern, select, &words)?;
     }
     let mut found = Found::new();
     let fault = search.finish(&mut found).err();
@@ -161,7 +162,7 @@ fn compare(rt: &impl Abort, alloc: Global, rows: &[Row]) -> Result<(), Fail> {
         let pieces = fed(rt, alloc, &table, &pattern, text, 3)?;
         assert_eq!(rt; pieces.0.as_slice(), *ranges);
         assert_eq!(rt; pieces.1, want);
-        let (again, _most_words) = resumed(rt, alloc, &table, &pattern, text, 1)?;
+        let (again, _most_words) = resumed(rt, alloc, &table, &pattern, Select::All, text, 1)?;
         assert_eq!(rt; again.0.as_slice(), *ranges);
         assert_eq!(rt; again.1, want);
     }
