@@ -11,6 +11,7 @@ use Rattle.collation_search.specs.Answer.{Answer, answer}
 use Rattle.collation_search.specs.GoodPrefix.{whole}
 use Rattle.collation_search.specs.Matches.{settled}
 use Rattle.collation_search.specs.Search.{Sought, IsCompiledFrom, answer_to, settled_in}
+use Rattle.collation_search.specs.declared.select.Select.{Select}
 use Rattle.colfind.specs.Patterns as patterns
 use Rattle.colfind.specs.Patterns.{IsCompiledWith}
 use Rattle.colfind.specs.declared.devices.DeviceFault.{DeviceFault}
@@ -27,10 +28,11 @@ use Rattle.colfind.specs.Writing.{WritesPrefix}
 use Rattle.colfind.proofs.Prints.{output-prefix_of_lines}
 use Rattle.colfind.proofs.Runs.{has_risen}
 use Rattle.colfind.proofs.Searched.{short_take}
+use Rattle.colfind.proofs.Selections.{selected-few}
 
 -- both say that the pattern was compiled of this text
-pub compiled_from : (table : TableMap) (pattern : Compiled) (p : List ℕ) (s : Sought) → s ≡ record { table = table; pattern = pattern } → IsCompiledWith table pattern p → IsCompiledFrom s p
-compiled_from table pattern p s same h = subst (λ (t : Sought). IsCompiledFrom t p) (sym same) h
+pub compiled_from : (table : TableMap) (pattern : Compiled) (select : Select) (p : List ℕ) (s : Sought) → s ≡ record { table = table; pattern = pattern; select = select } → IsCompiledWith table pattern p → IsCompiledFrom s p
+compiled_from table pattern select p s same h = subst (λ (t : Sought). IsCompiledFrom t p) (sym same) h
 
 few_found : (all : List ℕ → Answer) (settled : List ℕ → List (ℕ × ℕ)) (end : TextEnd) (ranges : List (ℕ × ℕ)) (bytes : List ℕ) (left : Option (List ℕ)) →
     length (all bytes).ranges ≤ length bytes + 1 → length (settled bytes) ≤ length bytes + 1 → length bytes ≤ 2 ^ 62 + 4096 →
@@ -49,20 +51,23 @@ FewAnswered = (table : TableMap) (strength : Strength) (variable : Variable) (pa
 abbrev pub FewSettled : Type 0
 FewSettled = (table : TableMap) (strength : Strength) (variable : Variable) (pattern text : List ℕ) → length (settled table strength variable pattern text) ≤ length text + 1
 
-pub concluded : FewAnswered → FewSettled → (table : TableMap) (pattern : Compiled) (p : List ℕ) (s : Sought) → s ≡ record { table = table; pattern = pattern } → IsCompiledWith table pattern p →
+pub concluded : FewAnswered → FewSettled → (table : TableMap) (pattern : Compiled) (select : Select) (p : List ℕ) (s : Sought) → s ≡ record { table = table; pattern = pattern; select = select } → IsCompiledWith table pattern p →
     (end : TextEnd) (ranges : List (ℕ × ℕ)) (bytes : List ℕ) (before after : Option (List ℕ)) →
     before ≡ after_piece bytes after → length bytes ≤ 2 ^ 62 + 4096 →
     (IsCompiledFrom s p → IsFoundIn (λ b. answer_to s p b) (λ b. settled_in s p (whole b)) end ranges bytes after) →
-    Concluded (patterns.answer_to table p pattern) (patterns.settled_in table p pattern) end ranges before after
-concluded few few_settled table pattern p s same h end ranges bytes before after from short found =
-    let here : IsFoundIn (patterns.answer_to table p pattern) (patterns.settled_in table p pattern) end ranges bytes after =
-    subst (λ (t : Sought). IsFoundIn (λ b. answer_to t p b) (λ b. settled_in t p (whole b)) end ranges bytes after) same (found (compiled_from table pattern p s same h)) in
+    Concluded (patterns.answer_to select table p pattern) (patterns.settled_in select table p pattern) end ranges before after
+concluded few few_settled table pattern select p s same h end ranges bytes before after from short found =
+    let here : IsFoundIn (patterns.answer_to select table p pattern) (patterns.settled_in select table p pattern) end ranges bytes after =
+    subst (λ (t : Sought). IsFoundIn (λ b. answer_to t p b) (λ b. settled_in t p (whole b)) end ranges bytes after) same (found (compiled_from table pattern select p s same h)) in
     let a = few table pattern.strength pattern.variable p bytes in
     let b = few_settled table pattern.strength pattern.variable p (whole bytes) in
+    let a' = selected-few select (answer table pattern.strength pattern.variable p bytes).ranges in
+    let b' = selected-few select (settled table pattern.strength pattern.variable p (whole bytes)) in
     let n : length (whole bytes) ≤ length bytes = short_take _ bytes in
     record {
       finds = record { bytes = bytes; from_reader = from; found = here };
-      few = few_found (patterns.answer_to table p pattern) (patterns.settled_in table p pattern) end ranges bytes after a (omega (arith, b, n)) short here;
+      few = few_found (patterns.answer_to select table p pattern) (patterns.settled_in select table p pattern) end ranges bytes after
+          (omega (arith, a, a')) (omega (arith, b, b', n)) short here;
     }
 
 -- a write failed while the text came: of the ranges so far, which begin the answer, a prefix of the lines was written

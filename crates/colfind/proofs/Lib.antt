@@ -6,4 +6,5 @@ pub mod Prints
 pub mod Runs
 pub mod Searched
 pub mod Searches
+pub mod Selections
 pub mod Stops

@@ -7,15 +7,17 @@ use Rattle.collation_elements.specs.declared.settings.Variable.{Variable}
 use Rattle.collation_elements.specs.declared.settings.Strength.{Strength}
 use Rattle.collation_pattern.specs.Compiled.{Compiled}
 use Rattle.collation_pattern.specs.Levels.{text_keys}
-use Rattle.collation_search.specs.Answer.{answer, answer_at}
+use Rattle.collation_search.specs.Answer.{answer_at}
 use Rattle.collation_search.specs.GoodPrefix.{fault}
+use Rattle.collation_search.specs.Selecting.{selected}
+use Rattle.collation_search.specs.declared.select.Select.{Select}
 use Rattle.collation_search.specs.declared.TextFault.{TextFault}
 use Rattle.colfind.specs.declared.output.Output.{Output}
 use Rattle.colfind.specs.Devices.{with_piece}
-use Rattle.colfind.specs.Patterns.{IsCompiledWith}
+use Rattle.colfind.specs.Patterns.{IsCompiledWith, answer_by}
 use Rattle.colfind.specs.Printing.{output}
 use Rattle.colfind.specs.Running.{PrintsAll}
-use Rattle.colfind.specs.Searching.{FindsAll}
+use Rattle.colfind.specs.Searching.{FindsSelected}
 
 module _ (table : TableMap) (strength : Strength) (variable : Variable) (text : List ℕ) where
   -- what was compiled is the pattern of its text
@@ -29,12 +31,12 @@ module _ (table : TableMap) (strength : Strength) (variable : Variable) (text : 
   good_by_answer bytes None good = refl
   good_by_answer bytes (Some at) good = good
 
-  pub finds_all : (form : Output) (count : ℕ) (before after held then : Option (List ℕ)) → IsWellFormed table
-      → PrintsAll (answer table strength variable text) form count before after held then
-      → FindsAll table strength variable text form count before after held then
-  finds_all form count before after held then formed run =
+  pub finds_selected : (form : Output) (select : Select) (count : ℕ) (before after held then : Option (List ℕ)) → IsWellFormed table
+      → PrintsAll (answer_by select table strength variable text) form count before after held then
+      → FindsSelected table strength variable text form select count before after held then
+  finds_selected form select count before after held then formed run =
       let good = good_by_answer run.bytes (fault run.bytes) run.good in
-      let ranges = ap (λ at. (answer_at table strength variable text run.bytes at).ranges) good in
+      let ranges = ap (λ at. selected select (answer_at table strength variable text run.bytes at).ranges) good in
       record {
         table_is = formed;
         bytes = run.bytes;

@@ -41,7 +41,7 @@ search_stops words U asked table Memory before after taken file formed stops = (
 -- the search in a text file stopped
 at_file : (table : TableMap) (asked : Settings) (reads_after : ℕ) (stop : Stop) (before after : Seen)
     → pattern_fault table asked.strength asked.variable asked.pattern.now ≡ None → is_some asked.text ≡ true
-    → StopsAtText table asked.strength asked.variable asked.pattern.now asked.output stop (of_file 0 before) (of_file reads_after after)
+    → StopsAtText table asked.strength asked.variable asked.pattern.now asked.output asked.select stop (of_file 0 before) (of_file reads_after after)
     → StopsSearch table asked stop before after
 at_file table asked reads_after (Words fault) before after good given stops = absurd stops
 at_file table asked reads_after (File fault) before after good given stops = absurd stops
@@ -63,11 +63,11 @@ pub file_stops : (table : TableMap) (asked : Settings) (pattern : Compiled) (rea
     → pattern ≡ record { keys = text_keys table asked.strength asked.variable asked.pattern.now; strength = asked.strength; variable = asked.variable }
     → pattern_fault table asked.strength asked.variable asked.pattern.now ≡ None → is_some asked.text ≡ true → reads ≡ 0
     → ((p : List ℕ) → IsCompiledWith table pattern p
-    → StopsAtText table pattern.strength pattern.variable p asked.output stop (of_file reads before) (of_file reads_after after))
+    → StopsAtText table pattern.strength pattern.variable p asked.output asked.select stop (of_file reads before) (of_file reads_after after))
     → StopsSearch table asked stop before after
 file_stops table asked pattern reads reads_after stop before after utf8 is good given none stops =
     let text = asked.pattern.now in
     let compiled = compiled_from table asked.strength asked.variable text pattern utf8 is in
-    let P : Compiled → Type 0 = λ p. StopsAtText table p.strength p.variable text asked.output stop (of_file reads before) (of_file reads_after after) in
-    let Q : ℕ → Type 0 = λ n. StopsAtText table asked.strength asked.variable text asked.output stop (of_file n before) (of_file reads_after after) in
+    let P : Compiled → Type 0 = λ p. StopsAtText table p.strength p.variable text asked.output asked.select stop (of_file reads before) (of_file reads_after after) in
+    let Q : ℕ → Type 0 = λ n. StopsAtText table asked.strength asked.variable text asked.output asked.select stop (of_file n before) (of_file reads_after after) in
     at_file table asked reads_after stop before after good given (subst Q none (subst P is (stops text compiled)))

@@ -1,4 +1,4 @@
--- The command `colfind --table FILE [--tailor FILE] [--strength 1|2|3] [--variable shifted|non-ignorable] [--output ranges|count|marks] PATTERN [FILE]`, as its argument parser sees it.
+-- The command `colfind --table FILE [--tailor FILE] [--strength 1|2|3] [--variable shifted|non-ignorable] [--output ranges|count|marks] [--select all|chain] PATTERN [FILE]`, as its argument parser sees it.
 use Rattle.std.specs.Prelude.{◌≡◌, List, [], ◌∷◌, map, Some, codes, true}
 use Rattle.std.specs.Borrow.{Bor}
 use Rattle.clap.specs.Words.{App, Rule, Text, new_app, new_rule, with_rule}
@@ -17,6 +17,9 @@ variable_names = codes "shifted" ∷ codes "non-ignorable" ∷ []
 
 abbrev pub output_names : List Text
 output_names = codes "ranges" ∷ codes "count" ∷ codes "marks" ∷ []
+
+abbrev pub select_names : List Text
+select_names = codes "all" ∷ codes "chain" ∷ []
 
 abbrev pub table_rule : Rule
 table_rule = record (new_rule (codes "table")) { long = Some (codes "table"); required = true }
@@ -46,6 +49,13 @@ output_rule names = record (new_rule (codes "output")) {
   defaults = codes "ranges" ∷ [];
 }
 
+abbrev pub select_rule : ValueParser → Rule
+select_rule names = record (new_rule (codes "select")) {
+  long = Some (codes "select");
+  parser = Some names;
+  defaults = codes "all" ∷ [];
+}
+
 abbrev pub pattern_rule : Rule
 pattern_rule = record (new_rule (codes "pattern")) { required = true }
 
@@ -57,11 +67,14 @@ text_rule = new_rule (codes "text")
 abbrev pub empty_command : App
 empty_command = record { top = record (new_app (codes "colfind")).top { no_binary_name = true; disable_help_flag = true }; subs = [] }
 
--- the options of the command, by the parsers of the three that take names
-abbrev pub options : ValueParser → ValueParser → ValueParser → App
-options strengths variables outputs =
+-- the options of the command but the last, by the parsers of those that take names
+abbrev pub first_options : ValueParser → ValueParser → ValueParser → App
+first_options strengths variables outputs =
     with_rule (with_rule (with_rule (with_rule (with_rule empty_command table_rule) tailor_rule) (strength_rule strengths)) (variable_rule variables)) (output_rule outputs)
 
+abbrev pub options : ValueParser → ValueParser → ValueParser → ValueParser → App
+options strengths variables outputs selections = with_rule (first_options strengths variables outputs) (select_rule selections)
+
 -- the command: its options, the pattern and the text file
-abbrev pub command : ValueParser → ValueParser → ValueParser → App
-command strengths variables outputs = with_rule (with_rule (options strengths variables outputs) pattern_rule) text_rule
+abbrev pub command : ValueParser → ValueParser → ValueParser → ValueParser → App
+command strengths variables outputs selections = with_rule (with_rule (options strengths variables outputs selections) pattern_rule) text_rule

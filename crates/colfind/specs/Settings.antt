@@ -7,10 +7,12 @@ use Rattle.collation_elements.specs.declared.settings.Strength.{Strength}
 use Rattle.collation_elements.specs.declared.settings.Strength.TheVariants.{One, Two, Three}
 use Rattle.collation_elements.specs.declared.settings.Variable.{Variable}
 use Rattle.collation_elements.specs.declared.settings.Variable.TheVariants.{NonIgnorable, Shifted}
+use Rattle.collation_search.specs.declared.select.Select.{Select}
+use Rattle.collation_search.specs.declared.select.Select.TheVariants.{All, Chain}
 use Rattle.colfind.specs.declared.output.Output.{Output}
 use Rattle.colfind.specs.declared.output.Output.TheVariants.{Ranges, Count, Marks}
 use Rattle.colfind.specs.declared.words.Settings.{Settings}
-use Rattle.colfind.specs.Command.{TakesNames, command, strength_names, variable_names, output_names}
+use Rattle.colfind.specs.Command.{TakesNames, command, strength_names, variable_names, output_names, select_names}
 
 abbrev pub strength_of : Text → Strength
 strength_of word = if bytes_eq word (codes "1") then One else (if bytes_eq word (codes "2") then Two else Three)
@@ -20,6 +22,9 @@ variable_of word = if bytes_eq word (codes "shifted") then Shifted else NonIgnor
 
 abbrev pub output_of : Text → Output
 output_of word = if bytes_eq word (codes "count") then Count else (if bytes_eq word (codes "marks") then Marks else Ranges)
+
+abbrev pub select_of : Text → Select
+select_of word = if bytes_eq word (codes "chain") then Chain else All
 
 -- the text of an entry
 abbrev pub entry : Text → List Row → Text
@@ -33,6 +38,7 @@ pub record IsReadFrom (rows : List Row) (s : Settings) : Type 0 where
   pub strength : s.strength ≡ strength_of (entry (codes "strength") rows)
   pub variable : s.variable ≡ variable_of (entry (codes "variable") rows)
   pub output : s.output ≡ output_of (entry (codes "output") rows)
+  pub select : s.select ≡ select_of (entry (codes "select") rows)
   pub text : option_map (λ path. path.now) s.text ≡ first_of (codes "text") rows
 
 -- the command takes the words, and the settings are read from the entries that they make, or that stand for words left out
@@ -40,18 +46,22 @@ pub record IsTakenAs (words : List Text) (s : Settings) : Type 0 where
   pub strengths : ValueParser
   pub variables : ValueParser
   pub outputs : ValueParser
+  pub selections : ValueParser
   pub has_strengths : TakesNames strengths strength_names
   pub has_variables : TakesNames variables variable_names
   pub has_outputs : TakesNames outputs output_names
-  pub no_fault : fault_of (command strengths variables outputs) words ≡ []
-  pub read : IsReadFrom (matches_of (command strengths variables outputs) words) s
+  pub has_selections : TakesNames selections select_names
+  pub no_fault : fault_of (command strengths variables outputs selections) words ≡ []
+  pub read : IsReadFrom (matches_of (command strengths variables outputs selections) words) s
 
 -- the command does not take the words
 pub record IsRefused (words : List Text) : Type 0 where
   pub strengths : ValueParser
   pub variables : ValueParser
   pub outputs : ValueParser
+  pub selections : ValueParser
   pub has_strengths : TakesNames strengths strength_names
   pub has_variables : TakesNames variables variable_names
   pub has_outputs : TakesNames outputs output_names
-  pub refused : takes (command strengths variables outputs) words ≡ false
+  pub has_selections : TakesNames selections select_names
+  pub refused : takes (command strengths variables outputs selections) words ≡ false

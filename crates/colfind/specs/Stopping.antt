@@ -10,7 +10,7 @@ use Rattle.collation_table.specs.Faults.{tailored_fault, IsFaultOrAllocationRefu
 use Rattle.collation_elements.specs.declared.settings.Variable.{Variable}
 use Rattle.collation_elements.specs.declared.settings.Strength.{Strength}
 use Rattle.collation_pattern.specs.PatternFaults.{pattern_fault}
-use Rattle.collation_search.specs.Answer.{answer}
+use Rattle.collation_search.specs.declared.select.Select.{Select}
 use Rattle.colfind.specs.declared.output.Output.{Output}
 use Rattle.colfind.specs.declared.faults.Stop.{Stop}
 use Rattle.colfind.specs.declared.faults.Stop.TheVariants.{Words, File, Tailor, Table, Pattern, TextFile, Text, Read, Write, Memory}
@@ -18,7 +18,7 @@ use Rattle.colfind.specs.declared.words.Settings.{Settings}
 use Rattle.colfind.specs.declared.words.SettingsFault.TheVariants as of_words
 use Rattle.colfind.specs.declared.run.Outcome.{Outcome}
 use Rattle.colfind.specs.declared.run.Outcome.TheVariants as outcome
-use Rattle.colfind.specs.Patterns.{settled_by}
+use Rattle.colfind.specs.Patterns.{answer_by, settled_by}
 use Rattle.colfind.specs.Running.{PrintsToFault, PrintsSettled, PrintsPrefix, reported_ranges, FailsAs}
 use Rattle.colfind.specs.Settings.{IsTakenAs, IsRefused}
 
@@ -57,23 +57,23 @@ StopsAtTable asked (Table fault) =
 StopsAtTable asked _ = ⊥
 
 -- the text has this first fault, could not be read further, its ranges could not be written, or memory was refused
-abbrev pub StopsAtText : TableMap → Strength → Variable → List ℕ → Output → Stop → Seen → Seen → Type 0
-StopsAtText table strength variable pattern form (Text fault) before after =
-    PrintsToFault (answer table strength variable pattern) form fault before.left after.left before.held after.held
+abbrev pub StopsAtText : TableMap → Strength → Variable → List ℕ → Output → Select → Stop → Seen → Seen → Type 0
+StopsAtText table strength variable pattern form select (Text fault) before after =
+    PrintsToFault (answer_by select table strength variable pattern) form fault before.left after.left before.held after.held
     × Fails (outcome.Text fault) before after
-StopsAtText table strength variable pattern form (Read count) before after =
-    PrintsSettled (settled_by table strength variable pattern) form count before.left after.left before.held after.held
+StopsAtText table strength variable pattern form select (Read count) before after =
+    PrintsSettled (settled_by select table strength variable pattern) form count before.left after.left before.held after.held
     × Fails (outcome.Read count) before after
-StopsAtText table strength variable pattern form Write before after =
+StopsAtText table strength variable pattern form select Write before after =
     PrintsPrefix
-    (reported_ranges (answer table strength variable pattern) (settled_by table strength variable pattern)
+    (reported_ranges (answer_by select table strength variable pattern) (settled_by select table strength variable pattern)
     (nat_lt before.reads_failed after.reads_failed))
     form before.left after.left before.held after.held
     × Fails outcome.Write before after
-StopsAtText table strength variable pattern form Memory before after =
+StopsAtText table strength variable pattern form select Memory before after =
     (after.held ≡ before.held)
     × Fails outcome.Memory before after
-StopsAtText table strength variable pattern form _ before after = ⊥
+StopsAtText table strength variable pattern form select _ before after = ⊥
 
 -- what is seen of a text file in place of the input: no bytes, and whether it could not be read
 abbrev pub of_file : ℕ → Seen → Seen
@@ -83,9 +83,9 @@ of_file reads_failed at = record at { left = None; reads_failed = reads_failed }
 abbrev pub StopsIn : TableMap → Settings → Stop → Seen → Seen → Type 0
 StopsIn table asked stop before after =
     (is_some asked.text ≡ false
-    → StopsAtText table asked.strength asked.variable asked.pattern.now asked.output stop before after)
+    → StopsAtText table asked.strength asked.variable asked.pattern.now asked.output asked.select stop before after)
     × (is_some asked.text ≡ true → (reads_failed : ℕ)
-    × StopsAtText table asked.strength asked.variable asked.pattern.now asked.output stop (of_file 0 before) (of_file reads_failed after))
+    × StopsAtText table asked.strength asked.variable asked.pattern.now asked.output asked.select stop (of_file 0 before) (of_file reads_failed after))
 
 -- the pattern has this fault, or memory was refused for it; else it has none, and the text file comes, if one is asked for, and
 -- then the text

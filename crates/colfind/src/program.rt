@@ -4,27 +4,29 @@ ghost use Rattle.std.specs.Prelude.{◌≡◌, ◌<◌, ◌≤◌, ◌^◌, ℕ,
 ghost use Rattle.colfind.specs.declared.faults.Stop.{Stop};
 ghost use Rattle.colfind.specs.Faults.{fault_of, ReportsLine, ReportsSomeFault};
 ghost use Rattle.colfind.specs.Patterns.{IsCompiledWith};
-ghost use Rattle.colfind.specs.Searching.{FindsAll, FindsAsked, left_of, status_of};
+ghost use Rattle.colfind.specs.Searching.{FindsSelected, FindsAsked, left_of, status_of};
 ghost use Rattle.colfind.specs.Stopping.{IsReason, StopsSearch, StopsAtTable, StopsAtText, is_before_text, seen};
 
 use crate::devices::{Source, Target};
 use crate::faults::{Fault, Stop};
 use crate::files::{FileFault, read_all};
 use crate::output::Output;
-use crate::run::{Outcome, run};
+use crate::run::{Outcome, run_with};
 use crate::settings::settings;
 use crate::streams::FromRead;
 use crate::words::Settings;
 use crate::writing::write_all;
 use collation_pattern::Pattern;
+use collation_search::Select;
 use collation_table::{Table, Weights};
 use std::alloc::Global;
 use std::fs;
 use std::rt::Files;
 
 /// What the words of the program ask for. It answers the status: 0 where there are matches and no
-/// fault, 1 where there are neither, and 2 at a fault, of which it writes a line to `err`. The
-/// first fault ends the program. That `err` fails changes nothing.
+/// fault, 1 where there are neither, and 2 at a fault, of which it writes a line to `err`. What goes
+/// to `out` is all matches, or a chain of them, as the words select. The first fault ends the program.
+/// That `err` fails changes nothing.
 pub fn program<'a, F: Files, R: Source, O: Target, E: Target>(
     runtime: &F,
     alloc: Global,
@@ -108,8 +110,8 @@ fn search<F: Files, W: Weights, R: Source, O: Target>(
 ) -> Result<u64, Stop>
     requires reads { R.failures input.old < 2 ^ 63 }
     requires writes { O.failures out.old < 2 ^ 63 }
-    ensures found { IfOk result (λ count. FindsAll (W.table table.now) asked.now.strength asked.now.variable
-        asked.now.pattern.now asked.now.output count
+    ensures found { IfOk result (λ count. FindsSelected (W.table table.now) asked.now.strength asked.now.variable
+        asked.now.pattern.now asked.now.output asked.now.select count
         (left_of asked.now (R.left input.old)) (left_of asked.now (R.left input.new)) (O.held out.old) (O.held out.new)) }
     ensures sound { OnOk result ((R.failures input.new ≡ R.failures input.old)
         × (O.failures out.new ≡ O.failures out.old)) }
@@ -121,21 +123,38 @@ fn search<F: Files, W: Weights, R: Source, O: Target>(
 {
     let pattern = Pattern::compile(alloc, table, asked.pattern, asked.strength, asked.variable)?;
     let Some(path) = asked.text else {
-        return search_in(alloc, table, &pattern, asked.output, input, out);
+        return search_in(
+            alloc,
+            table,
+            &pattern,
+            asked.output,
+            asked.select,
+            input,
+            out,
+        );
     };
     let Ok(file) = fs::open(runtime, path) else {
         return Err(Stop::TextFile);
     };
     let mut text = FromRead::new(file);
-    search_in(alloc, table, &pattern, asked.output, &mut text, out)
+    search_in(
+        alloc,
+        table,
+        &pattern,
+        asked.output,
+        asked.select,
+        &mut text,
+        out,
+    )
 }
 
-/// The number of matches of the pattern in what `reader` gives, which were written.
+/// The number of matches of the pattern in what `reader` gives that are selected, which were written.
 fn search_in<W: Weights, R: Source, O: Target>(
     alloc: Global,
     table: &W,
     pattern: &Pattern,
     form: Output,
+    select: Select,
     reader: &mut R,
     out: &mut O,
 ) -> Result<u64, Stop>
@@ -143,17 +162,17 @@ fn search_in<W: Weights, R: Source, O: Target>(
     requires writes { O.failures out.old < 2 ^ 63 }
     // For each text `p` of which the pattern was compiled.
     ensures found { IfOk result (λ count. (p : List ℕ) → IsCompiledWith (W.table table.now) pattern.now p
-        → FindsAll (W.table table.now) pattern.now.strength pattern.now.variable p form count
+        → FindsSelected (W.table table.now) pattern.now.strength pattern.now.variable p form select count
         (R.left reader.old) (R.left reader.new) (O.held out.old) (O.held out.new)) }
     ensures sound { OnOk result ((R.failures reader.new ≡ R.failures reader.old)
         × (O.failures out.new ≡ O.failures out.old)) }
     ensures reason { IfErr result (λ stop. (p : List ℕ) → IsCompiledWith (W.table table.now) pattern.now p
-        → StopsAtText (W.table table.now) pattern.now.strength pattern.now.variable p form stop
+        → StopsAtText (W.table table.now) pattern.now.strength pattern.now.variable p form select stop
         (seen (R.left reader.old) (R.failures reader.old) (O.held out.old) (O.failures out.old))
         (seen (R.left reader.new) (R.failures reader.new) (O.held out.new) (O.failures out.new))) }
     ensures inside { IfErr result (λ stop. is_before_text stop ≡ false) }
 {
-    match run(alloc, table, pattern, form, reader, out) {
+    match run_with(alloc, table, pattern, form, select, reader, out) {
         Outcome::Done(count) => Ok(count),
         Outcome::Text(fault) => Err(Stop::Text(fault)),
         Outcome::Read(count) => Err(Stop::Read(count)),

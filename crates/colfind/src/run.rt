@@ -1,5 +1,6 @@
 //! A run of the search over a reader and a writer.
 ghost use Rattle.std.specs.Prelude.{ℕ, List, Option, ◌≡◌, ◌<◌, ◌^◌, ◌++◌, nat_lt};
+ghost use Rattle.collation_search.specs.declared.select.Select.TheVariants.{All};
 ghost use Rattle.colfind.specs.Patterns.{IsCompiledWith, answer_to, settled_in};
 ghost use Rattle.colfind.specs.Finding.{IsFoundIn, EndsBy, failures_of, failures_at};
 ghost use Rattle.collation_search.specs.GoodPrefix.{whole};
@@ -12,7 +13,7 @@ use crate::lines::Lines;
 use crate::output::Output;
 use crate::texts::{Ending, search_text};
 use collation_pattern::Pattern;
-use collation_search::{Found as Ranges, Search, TextFault, one_range_begins_at_an_offset};
+use collation_search::{Found as Ranges, Search, Select, TextFault, one_range_begins_at_an_offset};
 use collation_table::Weights;
 use std::alloc::Global;
 
@@ -65,12 +66,7 @@ fn close<'a, W: Weights>(search: Search<'a, W>, ending: Ending, rest: &mut Range
     }
 }
 
-/// Finds the pattern in the text that `reader` gives, and writes the matches to `out`, which it
-/// then flushes; no clause can say the latter. The text is read to its end or to its first fault.
-/// Neither the text nor the matches are kept: the lines of a match are written as soon as it is known, and at the latest
-/// before the next bytes are read. A failure of the reader ends the text too, and then the matches that end before the end of
-/// its last whole character are written. After a failure of `out` nothing more is written or read, and that is reported in
-/// place of anything else. Where memory is refused, neither device was asked.
+/// Finds the pattern in the text that `reader` gives, and writes all minimal matches to `out`, as `run_with` does.
 pub fn run<W: Weights, R: Source, O: Target>(
     alloc: Global,
     table: &W,
@@ -83,23 +79,61 @@ pub fn run<W: Weights, R: Source, O: Target>(
     requires writes { O.failures out.old < 2 ^ 63 }
     // What was read and printed, for each text `p` of which the pattern was compiled.
     ensures done { IfDone result (λ count. (p : List ℕ) → IsCompiledWith (W.table table.now) pattern.now p
-        → PrintsAll (answer_to (W.table table.now) p pattern.now) form count
+        → PrintsAll (answer_to All (W.table table.now) p pattern.now) form count
         (R.left reader.old) (R.left reader.new) (O.held out.old) (O.held out.new)) }
     ensures text_fault { IfText result (λ fault. (p : List ℕ) → IsCompiledWith (W.table table.now) pattern.now p
-        → PrintsToFault (answer_to (W.table table.now) p pattern.now) form fault
+        → PrintsToFault (answer_to All (W.table table.now) p pattern.now) form fault
         (R.left reader.old) (R.left reader.new) (O.held out.old) (O.held out.new)) }
     ensures read_failure { IfRead result (λ count. (p : List ℕ) → IsCompiledWith (W.table table.now) pattern.now p
-        → PrintsSettled (settled_in (W.table table.now) p pattern.now) form count
+        → PrintsSettled (settled_in All (W.table table.now) p pattern.now) form count
         (R.left reader.old) (R.left reader.new) (O.held out.old) (O.held out.new)) }
     ensures write_failure { result ≡ Outcome.Write → (p : List ℕ) → IsCompiledWith (W.table table.now) pattern.now p
-        → PrintsPrefix (reported_ranges (answer_to (W.table table.now) p pattern.now) (settled_in (W.table table.now) p pattern.now)
+        → PrintsPrefix (reported_ranges (answer_to All (W.table table.now) p pattern.now) (settled_in All (W.table table.now) p pattern.now)
         (nat_lt (R.failures reader.old) (R.failures reader.new))) form
         (R.left reader.old) (R.left reader.new) (O.held out.old) (O.held out.new) }
     ensures memory { result ≡ Outcome.Memory → (out.new ≡ out.old) × (reader.new ≡ reader.old) }
     ensures failures { FailsAs result (R.failures reader.old) (R.failures reader.new)
         (O.failures out.old) (O.failures out.new) }
 {
-    let Ok(mut search) = Search::new(alloc, table, pattern) else {
+    run_with(alloc, table, pattern, form, Select::All, reader, out)
+}
+
+/// Finds the pattern in the text that `reader` gives, and writes the matches that are selected to `out`, all or a chain of them;
+/// then it flushes `out`, and no clause can say that. The text is read to its end or to its first fault.
+/// Neither the text nor the matches are kept: the lines of a match are written as soon as it is known, and at the latest
+/// before the next bytes are read. A failure of the reader ends the text too, and then the matches that end before the end of
+/// its last whole character are written, or the chain of these. After a failure of `out` nothing more is written or read, and
+/// that is reported in place of anything else. Where memory is refused, neither device was asked.
+pub fn run_with<W: Weights, R: Source, O: Target>(
+    alloc: Global,
+    table: &W,
+    pattern: &Pattern,
+    form: Output,
+    select: Select,
+    reader: &mut R,
+    out: &mut O,
+) -> Outcome
+    requires reads { R.failures reader.old < 2 ^ 63 }
+    requires writes { O.failures out.old < 2 ^ 63 }
+    // What was read and printed, for each text `p` of which the pattern was compiled.
+    ensures done { IfDone result (λ count. (p : List ℕ) → IsCompiledWith (W.table table.now) pattern.now p
+        → PrintsAll (answer_to select (W.table table.now) p pattern.now) form count
+        (R.left reader.old) (R.left reader.new) (O.held out.old) (O.held out.new)) }
+    ensures text_fault { IfText result (λ fault. (p : List ℕ) → IsCompiledWith (W.table table.now) pattern.now p
+        → PrintsToFault (answer_to select (W.table table.now) p pattern.now) form fault
+        (R.left reader.old) (R.left reader.new) (O.held out.old) (O.held out.new)) }
+    ensures read_failure { IfRead result (λ count. (p : List ℕ) → IsCompiledWith (W.table table.now) pattern.now p
+        → PrintsSettled (settled_in select (W.table table.now) p pattern.now) form count
+        (R.left reader.old) (R.left reader.new) (O.held out.old) (O.held out.new)) }
+    ensures write_failure { result ≡ Outcome.Write → (p : List ℕ) → IsCompiledWith (W.table table.now) pattern.now p
+        → PrintsPrefix (reported_ranges (answer_to select (W.table table.now) p pattern.now) (settled_in select (W.table table.now) p pattern.now)
+        (nat_lt (R.failures reader.old) (R.failures reader.new))) form
+        (R.left reader.old) (R.left reader.new) (O.held out.old) (O.held out.new) }
+    ensures memory { result ≡ Outcome.Memory → (out.new ≡ out.old) × (reader.new ≡ reader.old) }
+    ensures failures { FailsAs result (R.failures reader.old) (R.failures reader.new)
+        (O.failures out.old) (O.failures out.new) }
+{
+    let Ok(mut search) = Search::new_with(alloc, table, pattern, select) else {
         return Outcome::Memory;
     };
     one_range_begins_at_an_offset();

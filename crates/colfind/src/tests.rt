@@ -14,7 +14,7 @@ use crate::words::{Settings, SettingsFault};
 use crate::writing::write_all;
 use collation_elements::{Strength, Variable};
 use collation_pattern::Pattern;
-use collation_search::TextFault;
+use collation_search::{Select, TextFault};
 use collation_table::Table;
 use std::alloc::Global;
 use std::process::Abort;
@@ -25,6 +25,7 @@ mod devices;
 mod pieces;
 mod refusals;
 mod rows;
+mod selections;
 mod sizes;
 mod streams;
 mod tailors;
@@ -275,6 +276,7 @@ fn reads_the_words(rt: HostRuntime) {
         strength: Strength::Three,
         variable: Variable::NonIgnorable,
         output: Output::Ranges,
+        select: Select::All,
         text: None,
     };
     assert!(rt; settings(alloc, &["--table", "t", "p"]) == Ok(plain));
@@ -327,6 +329,8 @@ fn refuses_other_words(rt: HostRuntime) {
     assert!(rt; settings(alloc, &["--table", "t", "--variable", "Shifted", "p"]) == usage);
     assert!(rt; settings(alloc, &["--table", "t", "--output", "lines", "p"]) == usage);
     assert!(rt; settings(alloc, &["--table", "t", "--output", "p"]) == usage);
+    assert!(rt; settings(alloc, &["--table", "t", "--select", "chains", "p"]) == usage);
+    assert!(rt; settings(alloc, &["--table", "t", "--select", "p"]) == usage);
     assert!(rt; settings(alloc, &["--help"]) == usage);
     assert!(rt; settings(alloc, &["--version"]) == usage);
 }

@@ -1,6 +1,7 @@
 //! What the words of the command line ask for.
 use crate::output::Output;
 use collation_elements::{Strength, Variable};
+use collation_search::Select;
 use thiserror::Error;
 
 /// What the words of the command line ask for.
@@ -18,6 +19,8 @@ pub struct Settings<'a> {
     pub variable: Variable,
     /// How the ranges are printed.
     pub output: Output,
+    /// Which of the matches are printed.
+    pub select: Select,
     /// The path of the text file, where there is one. Else the text is standard input.
     pub text: Option<&'a str>,
 }

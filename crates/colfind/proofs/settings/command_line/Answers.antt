@@ -2,7 +2,7 @@ use Rattle.std.proofs.Common.{◌≡◌, ◌∙◌, ap, ap₂, true}
 use Rattle.std.proofs.lemmas.Result.{IfOk-weaker}
 use Rattle.clap.specs.Words.{App, app_of, with_rule}
 use Rattle.clap.specs.Simple.{app_of_fields}
-use Rattle.colfind.specs.Command.{empty_command, options, table_rule, tailor_rule, strength_rule, variable_rule, pattern_rule}
+use Rattle.colfind.specs.Command.{empty_command, first_options, options, table_rule, tailor_rule, strength_rule, variable_rule, pattern_rule}
 use Rattle.colfind.proofs.settings.command_line.Goals as goal
 
 pub returns : goal.returns
@@ -23,10 +23,13 @@ returns c =
     let with_variable : app_of c.in_ok-arg-4.field-0 ≡ with_rule (with_rule (with_rule (with_rule empty_command table_rule) tailor_rule) (strength_rule s.0)) (variable_rule v.0) =
     c.in_ok-arg-4.ensures.shape c.variable_option.ensures.local ∙ ap₂ with_rule with_strength v.1 in
     let o = c.output_option.ensures.rule in
-    let with_output : app_of c.in_ok-arg-5.field-0 ≡ options s.0 v.0 o.0 =
+    let with_output : app_of c.in_ok-arg-5.field-0 ≡ first_options s.0 v.0 o.0 =
     c.in_ok-arg-5.ensures.shape c.output_option.ensures.local ∙ ap₂ with_rule with_variable o.1 in
-    let with_pattern : app_of c.in_ok-arg-6.field-0 ≡ with_rule (options s.0 v.0 o.0) pattern_rule =
-    c.in_ok-arg-6.ensures.shape c.pattern_argument.ensures.local ∙ ap₂ with_rule with_output c.pattern_argument.ensures.rule in
-    IfOk-weaker c.arg-7.result _ _ (λ r added.
-    (s.0, v.0, o.0, s.2, v.2, o.2, added.shape c.text_argument.ensures.local ∙ ap₂ with_rule with_pattern c.text_argument.ensures.rule))
-    c.arg-7.ensures
+    let e = c.select_option.ensures.rule in
+    let with_select : app_of c.in_ok-arg-6.field-0 ≡ options s.0 v.0 o.0 e.0 =
+    c.in_ok-arg-6.ensures.shape c.select_option.ensures.local ∙ ap₂ with_rule with_output e.1 in
+    let with_pattern : app_of c.in_ok-arg-7.field-0 ≡ with_rule (options s.0 v.0 o.0 e.0) pattern_rule =
+    c.in_ok-arg-7.ensures.shape c.pattern_argument.ensures.local ∙ ap₂ with_rule with_select c.pattern_argument.ensures.rule in
+    IfOk-weaker c.arg-8.result _ _ (λ r added.
+    (s.0, v.0, o.0, e.0, s.2, v.2, o.2, e.2, added.shape c.text_argument.ensures.local ∙ ap₂ with_rule with_pattern c.text_argument.ensures.rule))
+    c.arg-8.ensures

@@ -10,15 +10,17 @@ returns-in-Ok-try_get_matches_from-clause-taken c =
     let built = c.in-Ok.ensures in
     let parse = c.in-Ok-try_get_matches_from.ensures in
     let words = map (λ word. word.now) c.args.words.now in
-    let rows_are = (parse.matches (ap is_simple built.6 ∙ is_simple-command built.0 built.1 built.2)).0 ∙ ap (λ (a : App). matches_of a words) built.6 in
+    let rows_are = (parse.matches (ap is_simple built.8 ∙ is_simple-command built.0 built.1 built.2 built.3)).0 ∙ ap (λ (a : App). matches_of a words) built.8 in
     record {
       strengths = built.0;
       variables = built.1;
       outputs = built.2;
-      has_strengths = built.3;
-      has_variables = built.4;
-      has_outputs = built.5;
-      no_fault = ap (λ (a : App). fault_of a words) (sym built.6) ∙ parse.kinds (ap is_simple_and_free built.6 ∙ is_simple_and_free-command built.0 built.1 built.2);
+      selections = built.3;
+      has_strengths = built.4;
+      has_variables = built.5;
+      has_outputs = built.6;
+      has_selections = built.7;
+      no_fault = ap (λ (a : App). fault_of a words) (sym built.8) ∙ parse.kinds (ap is_simple_and_free built.8 ∙ is_simple_and_free-command built.0 built.1 built.2 built.3);
       read = subst (λ (rows : List Row). IsReadFrom rows c.read_from.result) rows_are c.read_from.ensures;
     }
 
@@ -32,10 +34,12 @@ returns c =
         strengths = built.0;
         variables = built.1;
         outputs = built.2;
-        has_strengths = built.3;
-        has_variables = built.4;
-        has_outputs = built.5;
-        refused = not_true (takes (command built.0 built.1 built.2) words) (λ yes.
-            c.in_default-kind.not-OutOfMemory (c.kind.ensures ∙ c.in-Err.ensures.passes (ap (λ (a : App). takes a words) built.6 ∙ yes)));
+        selections = built.3;
+        has_strengths = built.4;
+        has_variables = built.5;
+        has_outputs = built.6;
+        has_selections = built.7;
+        refused = not_true (takes (command built.0 built.1 built.2 built.3) words) (λ yes.
+            c.in_default-kind.not-OutOfMemory (c.kind.ensures ∙ c.in-Err.ensures.passes (ap (λ (a : App). takes a words) built.8 ∙ yes)));
       };
     }
