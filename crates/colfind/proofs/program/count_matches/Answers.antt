@@ -1,6 +1,18 @@
-use Rattle.std.proofs.lemmas.Result.{IfErr-weaker}
+use Rattle.std.proofs.lemmas.Result.{IfErr-weaker, IfOk-weaker}
 use Rattle.colfind.proofs.Stops.{search_stops}
 use Rattle.colfind.proofs.program.count_matches.Goals as goal
+
+pub returns-clause-found : goal.returns-clause-found
+returns-clause-found g c =
+    IfOk-weaker c.search.result _ _
+    (λ count found. record {
+      settings = c.in_ok-asked.asked;
+      taken = c.in_ok-asked.ensures.taken;
+      table = _;
+      unasked = c.search.ensures.file;
+      found = found;
+    })
+    c.search.ensures.found
 
 pub returns-clause-reason : goal.returns-clause-reason
 returns-clause-reason g c =
