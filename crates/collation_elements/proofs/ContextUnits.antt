@@ -3,6 +3,7 @@
 use Rattle.std.proofs.Common.{◌≡◌, ℕ, zero, suc, ◌+◌, ◌-◌, ◌≤◌, max, Bool, true, false, List, [], ◌∷◌, ◌++◌, length, take, drop, refl, sym, ap, ap₂, ◌∙◌, subst, arith, inl, inr, length-append, append_assoc, append-nil, eq-or-lt_of_le, if◌then◌else◌, true≢false}
 use Rattle.std.proofs.lemmas.Bool.{cond-true, cond-false, cases_Bool, and_parts, and_from, not_from_false, not_from_true}
 use Rattle.std.proofs.lemmas.List.{take-append-drop, length-take-le, length-drop, length-map, map-append, take-append-le, drop-append-le}
+use Rattle.std.proofs.lemmas.List.Folds.{list_all-append}
 use Rattle.std.specs.List.{list_all}
 use Rattle.nfd_points.specs.declared.points.Point.{Point}
 use Rattle.nfd_points.specs.Points.{is_starter}
@@ -62,11 +63,6 @@ pub record Leaves (unit between cs : List Point) (cut : Cut) : Type 0 where
   pub was : cs ≡ passed ++ later
   pub count : length taken + length left ≡ length between + length passed
 
-list_all-append : (p : Point → Bool) (xs ys : List Point) → list_all p xs ≡ true → list_all p ys ≡ true → list_all p (xs ++ ys) ≡ true
-list_all-append p [] ys hx hy = hy
-list_all-append p (x ∷ xs) ys hx hy =
-    let parts = and_parts (p x) (list_all p xs) hx in and_from _ _ parts.0 (list_all-append p xs ys parts.1 hy)
-
 pub extended-leaves : (table : TableMap) (unit between cs : List Point) → list_all is_non_starter between ≡ true → Leaves unit between cs (extended table unit between cs)
 extended-leaves table unit between [] h =
     record { taken = []; left = between; passed = []; later = []; unit_is = sym (append-nil unit); rest_is = sym (append-nil between); marks = h; was = refl; count = omega arith }
@@ -82,7 +78,7 @@ extended-leaves table unit between (c ∷ cs) h =
                 subst (Leaves unit between (c ∷ cs)) (sym (extended-taken table unit between c cs mark joined))
                 (record { taken = c ∷ more.taken; left = more.left; passed = c ∷ more.passed; later = more.later; unit_is = more.unit_is ∙ append_assoc unit (c ∷ []) more.taken; rest_is = more.rest_is; marks = more.marks; was = ap (λ l. c ∷ l) more.was; count = omega (arith, more.count) })
             | inr stays ↦
-                let more = extended-leaves table unit (between ++ c ∷ []) cs (list_all-append is_non_starter between (c ∷ []) h (and_from _ _ (not_from_false _ mark) refl)) in
+                let more = extended-leaves table unit (between ++ c ∷ []) cs (list_all-append is_non_starter between (c ∷ []) ∙ and_from _ _ h (and_from _ _ (not_from_false _ mark) refl)) in
                 subst (Leaves unit between (c ∷ cs)) (sym (extended-left table unit between c cs mark stays))
                 (record { taken = more.taken; left = more.left; passed = c ∷ more.passed; later = more.later; unit_is = more.unit_is; rest_is = more.rest_is; marks = more.marks; was = ap (λ l. c ∷ l) more.was; count = omega (arith, more.count, length-append between (c ∷ [])) })
           ]

@@ -12,6 +12,7 @@ use Rattle.collation_elements.specs.Units.{code_points, Cut, joins, extended, un
 use Rattle.collation_elements.specs.Windows.{Held, is_decided, next_cut}
 use Rattle.collation_elements.proofs.Longest.{longest_prefix-append, longest_prefix-le_longest, prefix_length-le}
 use Rattle.collation_elements.proofs.ContextUnits.{with_more, first_unit-shorter, units-cons}
+use Rattle.collation_elements.proofs.LeftPoints.{rest-cond}
 
 -- ---- a unit with what joins it
 
@@ -72,18 +73,13 @@ some_there : (ps : List Point) → list_any is_starter ps ≡ true → 0 < lengt
 some_there [] h = absurd (false≢true h)
 some_there (p ∷ ps) h = omega arith
 
-closed-cond : (e : Bool) (s j : Bool) (stop taken left : Cut) → is_closed stop.rest ≡ e → (s ≡ false → is_closed taken.rest ≡ e) → (s ≡ false → is_closed left.rest ≡ e) → is_closed (cond s stop (cond j taken left)).rest ≡ e
-closed-cond e true j stop taken left a b c = a
-closed-cond e false true stop taken left a b c = b refl
-closed-cond e false false stop taken left a b c = c refl
-
 pub is_closed-extended : (T : TableMap) (unit between following : List Point) → list_any is_starter following ≡ true → is_closed (extended T unit between following).rest ≡ is_closed following
 is_closed-extended T unit between [] h = absurd (false≢true h)
 is_closed-extended T unit between (c ∷ following) h =
     let stop : Cut = record { unit = unit; rest = between ++ c ∷ following } in
     let later : is_starter c ≡ false → list_any is_starter following ≡ true = starter_later (is_starter c) (list_any is_starter following) h in
     let down : is_starter c ≡ false → is_closed following ≡ is_closed (c ∷ following) = λ e. sym (is_closed-step c following (some_there following (later e))) in
-    closed-cond (is_closed (c ∷ following)) (is_starter c) (joins T unit between c) stop (extended T (unit ++ c ∷ []) between following) (extended T unit (between ++ c ∷ []) following)
+    rest-cond (λ ps. is_closed ps ≡ is_closed (c ∷ following)) (is_starter c) (joins T unit between c) stop (extended T (unit ++ c ∷ []) between following) (extended T unit (between ++ c ∷ []) following)
     (is_closed-append between (c ∷ following) (omega arith))
     (λ e. is_closed-extended T (unit ++ c ∷ []) between following (later e) ∙ down e)
     (λ e. is_closed-extended T unit (between ++ c ∷ []) following (later e) ∙ down e)

@@ -14,7 +14,8 @@ use Rattle.collation_table.specs.Table.{TableMap}
 use Rattle.collation_elements.specs.Units.{code_points, Cut, joins, extended, prefix_length}
 use Rattle.collation_elements.specs.Windows.{next_cut}
 
-rest-cond : (P : List Point → Type 0) (s j : Bool) (stop taken left : Cut) → P stop.rest → (s ≡ false → P taken.rest) → (s ≡ false → P left.rest) → P (cond s stop (cond j taken left)).rest
+-- what holds of the points left in each of the three cases of a look
+pub rest-cond : (P : List Point → Type 0) (s j : Bool) (stop taken left : Cut) → P stop.rest → (s ≡ false → P taken.rest) → (s ≡ false → P left.rest) → P (cond s stop (cond j taken left)).rest
 rest-cond P true j stop taken left a b c = a
 rest-cond P false true stop taken left a b c = b refl
 rest-cond P false false stop taken left a b c = c refl

@@ -12,7 +12,7 @@ use Rattle.collation_table.specs.declared.trie.Trie.{Trie}
 use Rattle.collation_table.specs.Entries.{part, rows_at, IsWithin, IsIndexed}
 use Rattle.collation_table.specs.Table.{row_with, greatest}
 use Rattle.collation_table.specs.Trie.{IsTrie, place_of}
-use Rattle.collation_table.proofs.RowLemmas.{AllByRecursion-push}
+use Rattle.collation_table.proofs.RowLemmas.{AllByRecursion-push, none_of}
 
 -- ---- places
 
@@ -89,10 +89,6 @@ row_with-push_here string row (r ∷ rows) none = by (bytes_eq string r.0) none 
 pub row_with-push_other : (string new : List ℕ) (row : List Element) (rows : List (List ℕ × List Element)) → bytes_eq string new ≡ false → row_with string (rows ++ (new, row) ∷ []) ≡ row_with string rows
 row_with-push_other string new row [] other = ap (λ b. cond b (Some row) None) other
 row_with-push_other string new row (r ∷ rows) other = ap (cond (bytes_eq string r.0) (Some r.1)) (row_with-push_other string new row rows other)
-
-pub none_of : {X : Type 0} (o : Option X) → is_some o ≡ false → o ≡ None
-none_of None h = refl
-none_of (Some x) h = cc
 
 flat_map-push : (rows : List (List ℕ × List Element)) (r : List ℕ × List Element) → flat_map (λ row. row.1) (rows ++ r ∷ []) ≡ flat_map (λ row. row.1) rows ++ r.1
 flat_map-push [] r = nil r.1

@@ -8,7 +8,8 @@ use Rattle.collation_table.specs.declared.plain_rows.PlainRow.{PlainRow}
 use Rattle.collation_table.specs.Plain.{plain_rows, number_of, elements_of_row, IsNumbered}
 use Rattle.collation_table.specs.Spelling.{◌>>=◌}
 use Rattle.collation_table.specs.Table.{row_with, greatest}
-use Rattle.collation_table.proofs.IndexLemmas.{map-push, row_with-push_here, row_with-push_other, none_of}
+use Rattle.collation_table.proofs.IndexLemmas.{map-push, row_with-push_here, row_with-push_other}
+use Rattle.collation_table.proofs.RowLemmas.{none_of}
 use Rattle.std.specs.Cmp.Lexicographic.{slice_cmp, bytes_decides}
 use Rattle.std.specs.declared.cmp.Ordering.{Ordering}
 use Rattle.std.specs.declared.cmp.Ordering.TheVariants.{Less, Equal, Greater}

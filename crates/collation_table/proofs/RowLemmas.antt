@@ -41,13 +41,13 @@ AreRangesSound-push rs r sound ok = λ k s at. by k s (slice_get_push rs r k s a
         ap (λ n. take n (rs ++ r ∷ [])) last.0 ∙ take-append_seam rs (r ∷ []) in
         ap (λ l. breaks_ranges l s) whole ∙ ap (breaks_ranges rs) (sym last.1) ∙ ok
 
+pub none_of : {X : Type 0} (o : Option X) → is_some o ≡ false → o ≡ None
+none_of None h = refl
+none_of (Some x) h = cc
+
 pub AreStringsDistinct-push : (rows : List (List ℕ × List Element)) (string : List ℕ) (row : List Element) → AreStringsDistinct rows → is_some (row_with string rows) ≡ false → AreStringsDistinct (rows ++ (string, row) ∷ [])
 AreStringsDistinct-push rows string row distinct absent = λ k r at. by k r (slice_get_push rows (string, row) k r at)
   where
-    none_of : (o : Option (List Element)) → is_some o ≡ false → o ≡ None
-    none_of None h = refl
-    none_of (Some x) h = cc
-
     by : (k : ℕ) (r : List ℕ × List Element) → (slice_get rows k ≡ Some r) ⊎ ((k ≡ length rows) × ((string, row) ≡ r)) → row_with r.0 (take k (rows ++ (string, row) ∷ [])) ≡ None
     by k r (inl found) =
         rw (take-append-le k rows ((string, row) ∷ []) (le_of_lt (slice_get_within rows k r found))) (distinct k r found)

@@ -1,8 +1,8 @@
 -- Table 3-7 against the bytes of characters.
-use Rattle.std.proofs.Common.{◌≡◌, ℕ, zero, suc, ◌+◌, ◌-◌, ◌*◌, ◌<◌, ◌≤◌, Bool, true, false, List, [], ◌∷◌, ◌++◌, length, take, drop, refl, sym, ap, ◌∙◌, subst, inl, inr, arith, append-nil, length-append, take-append-drop, le-leb, leb-true, lt-ltb, le-ltb}
+use Rattle.std.proofs.Common.{◌≡◌, ℕ, zero, suc, ◌+◌, ◌-◌, ◌*◌, ◌<◌, ◌≤◌, true, false, List, [], ◌∷◌, ◌++◌, length, take, drop, refl, sym, ap, ◌∙◌, subst, inl, inr, arith, append-nil, length-append, take-append-drop, le-leb, leb-true, lt-ltb, le-ltb}
 use Rattle.std.proofs.lemmas.List.{take-append-le, take_at, nil_from_length}
 use Rattle.std.specs.Prelude.{IsTrue}
-use Rattle.std.proofs.lemmas.Bool.{and_parts, and_from, and_right, cases_lt, false≢true, lt-leb}
+use Rattle.std.proofs.lemmas.Bool.{and_parts, and_from, and_right, cases_lt, false≢true, false_from_ne_true, lt-leb}
 use Rattle.std.proofs.lemmas.Str.{encodes-chars, scalars-chars, IsUtf8-encode, length-encode, len_utf8_bounds}
 use Rattle.std.specs.Int.{is_in_range}
 use Rattle.std.specs.Char.{IsScalar}
@@ -53,10 +53,6 @@ incomplete_no_char (x ∷ y ∷ z ∷ w ∷ rest) h = absurd (false≢true h)
 
 out_of_range : (lo hi x : ℕ) → is_in_range lo hi x ≡ false → lo ≤ x → x ≤ hi → ⊥
 out_of_range lo hi x e l h = false≢true (sym e ∙ is_in lo hi x l h)
-
-false_unless : (b : Bool) → (b ≡ true → ⊥) → b ≡ false
-false_unless true h = absurd (h refl)
-false_unless false h = refl
 
 -- a byte that no character begins with
 pub ill_one : (x : ℕ) → 0x80 ≤ x → is_in_range 0xC2 0xF4 x ≡ false → IsIllFormed (x ∷ [])
@@ -209,7 +205,7 @@ prefix_in xs ys us vs e l =
 
 -- no bytes after an ill-formed sequence mend it
 pub ill_stays : (bytes more : List ℕ) → IsIllFormed bytes → IsIllFormed (bytes ++ more)
-ill_stays bytes more h = (none, false_unless _ (λ t. false≢true (sym h.1 ∙ held_prefix bytes more t)))
+ill_stays bytes more h = (none, false_from_ne_true _ (λ t. false≢true (sym h.1 ∙ held_prefix bytes more t)))
   where
     none : StartsWithNoChar (bytes ++ more)
     none c rest s e = elim (cases_lt (length bytes) (length (encode c))) [
