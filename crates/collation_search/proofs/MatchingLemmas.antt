@@ -90,6 +90,11 @@ few_at_start item (Some r) h =
     let listed : length (option_to_list (Some r)) ≡ 1 = refl in
     omega (arith, one, listed)
 
+-- and no range with a key
+pub no_range_at_key : (key : Key) (range : Option (ℕ × ℕ)) → IfSome range (λ r. Element key ≡ ClusterStart r.1) → option_to_list range ≡ []
+no_range_at_key key None h = refl
+no_range_at_key key (Some r) h = cc
+
 -- ---- points among others
 
 -- what holds of each of the points holds of those that are among them

@@ -1,5 +1,5 @@
 //! From points to ranges: the units that a window gives, their items, and the walk over these.
-ghost use Rattle.std.specs.Prelude.{◌≡◌, ℕ, ◌+◌, ◌≤◌, ◌<◌, List, [], ◌∷◌, ◌++◌, length, All, Contains, option_to_list, true, false};
+ghost use Rattle.std.specs.Prelude.{◌≡◌, ℕ, ◌+◌, ◌≤◌, ◌<◌, List, [], ◌∷◌, ◌++◌, length, All, Contains, map, option_to_list, true, false};
 ghost use Rattle.arrayvec.specs.ArrayVec.{array_vec_len};
 ghost use Rattle.nfd_points.specs.declared.points.Point.{Point};
 ghost use Rattle.unicode_normalization.specs.StreamSafe.{has_short_runs};
@@ -7,13 +7,15 @@ ghost use Rattle.nfd_points.specs.Reordering.{IsSoundPoint, code_points, is_clos
 ghost use Rattle.collation_table.specs.Table.{TableMap, longest_mapped};
 ghost use Rattle.collation_elements.specs.declared.keys.Item.{Item};
 ghost use Rattle.collation_elements.specs.ItemParts.{item_starts};
+ghost use Rattle.collation_elements.specs.UnitValues.{IsUnitOf};
+ghost use Rattle.collation_elements.specs.Weighing.{value_items, weigher_after, WeigherStandsFor};
 ghost use Rattle.collation_elements.specs.Windows.{WindowStandsFor};
 ghost use Rattle.collation_search.specs.Matching.{HasMatched};
 ghost use Rattle.collation_search.specs.Walks.{WalksOver};
 
 use crate::walk::Walk;
 use arrayvec::ArrayVec;
-use collation_elements::{Item, MOST_ITEMS, Weigher, Window};
+use collation_elements::{Item, Key, MOST_ITEMS, Unit, Weigher, Window};
 use collation_pattern::Pattern;
 use collation_table::Weights;
 use nfd_points::Point;
@@ -71,6 +73,71 @@ fn walk_over(walk: &mut Walk, pattern: &Pattern, items: &[Item], found: &mut Fou
     }
 }
 
+/// Walks over the start of a cluster, if there is one.
+#[inline(always)]
+fn walk_start(walk: &mut Walk, pattern: &Pattern, start: Option<u64>, found: &mut Found)
+    requires state { walk.old.state ≤ length pattern.now.keys }
+    requires room { array_vec_len found.old < MOST_FOUND }
+    ensures stands { (before : List _) (ranges : List _) → WalksOver pattern.now.keys before (ranges ++ found.old.items) walk.old
+        → WalksOver pattern.now.keys (before ++ map (λ at. Item.ClusterStart at) (option_to_list start)) (ranges ++ found.new.items) walk.new }
+    ensures few { array_vec_len found.new ≤ array_vec_len found.old + 1 }
+    ensures state { walk.new.state ≤ length pattern.now.keys }
+    ensures select { walk.new.select ≡ walk.old.select }
+{
+    if let Some(start) = start {
+        let range = walk.take(pattern, Item::ClusterStart(start));
+        keep(found, range);
+    }
+}
+
+/// Walks over a key, if there is one.
+#[inline(always)]
+fn walk_key(walk: &mut Walk, pattern: &Pattern, key: Option<Key>)
+    requires state { walk.old.state ≤ length pattern.now.keys }
+    ensures stands { (before : List _) (ranges : List _) → WalksOver pattern.now.keys before ranges walk.old
+        → WalksOver pattern.now.keys (before ++ map (λ k. Item.Element k) (option_to_list key)) ranges walk.new }
+    ensures state { walk.new.state ≤ length pattern.now.keys }
+    ensures select { walk.new.select ≡ walk.old.select }
+{
+    if let Some(key) = key {
+        walk.take(pattern, Item::Element(key));
+    }
+}
+
+/// Weighs a unit, and walks over its items.
+#[inline(always)]
+fn take_unit(
+    weigher: &mut Weigher,
+    walk: &mut Walk,
+    pattern: &Pattern,
+    unit: &Unit,
+    items: &mut ArrayVec<Item, MOST_ITEMS>,
+    found: &mut Found,
+)
+    requires state { walk.old.state ≤ length pattern.now.keys }
+    requires room { array_vec_len found.old < MOST_FOUND }
+    ensures weighed { (table : TableMap) (points : List Point) (units : List (List Point)) (given : List Item) → IsUnitOf table points unit.now
+        → WeigherStandsFor table weigher.old units given
+        → WeigherStandsFor table weigher.new (units ++ points ∷ []) (given ++ value_items weigher.old unit.now) }
+    ensures after { weigher.new ≡ weigher_after weigher.old unit.now }
+    ensures walked { (before : List _) (ranges : List _) → WalksOver pattern.now.keys before (ranges ++ found.old.items) walk.old
+        → WalksOver pattern.now.keys (before ++ value_items weigher.old unit.now) (ranges ++ found.new.items) walk.new }
+    ensures few { array_vec_len found.new ≤ array_vec_len found.old + 1 }
+    ensures state { walk.new.state ≤ length pattern.now.keys }
+    ensures select { walk.new.select ≡ walk.old.select }
+{
+    match weigher.take_short(unit) {
+        Some(short) => {
+            walk_start(walk, pattern, short.start, found);
+            walk_key(walk, pattern, short.key);
+        }
+        None => {
+            weigher.take(unit, items);
+            walk_over(walk, pattern, items.as_slice(), found);
+        }
+    }
+}
+
 /// Cuts all units that are decided, and walks over their items.
 pub(crate) fn cut_units<W: Weights>(
     table: &W,
@@ -99,7 +166,6 @@ pub(crate) fn cut_units<W: Weights>(
     ensures select { walk.new.select ≡ walk.old.select }
 {
     while let Some(unit) = window.next_unit(table) {
-        weigher.take(&unit, items);
-        walk_over(walk, pattern, items.as_slice(), found);
+        take_unit(weigher, walk, pattern, &unit, items, found);
     }
 }
