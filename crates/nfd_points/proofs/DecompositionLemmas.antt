@@ -18,13 +18,15 @@ use Rattle.unicode_normalization.specs.Forms.{decomposed, normalize}
 use Rattle.unicode_normalization.specs.Hangul.{is_syllable, decompose_hangul}
 use Rattle.unicode_normalization.specs.Order.{is_ordered, is_reorderable, canonical_order}
 use Rattle.unicode_normalization.proofs.DecomposeLemmas.{decompose-syllable, decompose-final, decompose-mapped, IsFull-decompose}
-use Rattle.unicode_normalization.proofs.FormsLemmas.{normalize-ascii, class-latin}
+use Rattle.unicode_normalization.proofs.FormsLemmas.{normalize-ascii, normalize-passes, class-latin}
 use Rattle.unicode_normalization.proofs.HangulLemmas.{is_syllable-true, decompose_hangul-two, decompose_hangul-three}
 use Rattle.unicode_normalization.proofs.OrderLemmas.{canonical_order-ordered, is_ordered-starter, is_ordered-one}
-use Rattle.unicode_normalization.proofs.TableFacts.{Entry, Tables, by_rows, pick, full, class_of_jamo}
+use Rattle.unicode_normalization.proofs.TableFacts.{Entry, Tables, by_rows, pick, full, class_of_jamo, is_yes}
 use Rattle.std.specs.Char.{IsScalar}
 use Rattle.std.specs.List.{list_all}
-use Rattle.nfd_points.specs.Points.{decomposition}
+use Rattle.ucd_normal.specs.declared.forms.QuickCheck.TheVariants.{Yes}
+use Rattle.ucd_normal.specs.QuickCheck.{quick_check}
+use Rattle.nfd_points.specs.Points.{IsPlain, decomposition}
 
 -- ---- the tables, read by trees
 
@@ -161,6 +163,13 @@ decomposition-ascii c h = normalize-ascii Nfd (c ∷ []) (All-cons (λ x. x < 12
 
 pub class-ascii : (c : ℕ) → c < 128 → ccc c ≡ 0
 class-ascii c h = class-latin c (omega arith)
+
+pub ascii-plain : (c : ℕ) → c < 128 → IsPlain c
+ascii-plain c h = record { itself = decomposition-ascii c h; starter = class-ascii c h }
+
+-- what passes the quick check of NFD is its own decomposition
+pub decomposition-passes : (c : ℕ) → quick_check Nfd c ≡ Yes → decomposition c ≡ c ∷ []
+decomposition-passes c h = normalize-passes Nfd (c ∷ []) (and_from _ _ (ap is_yes h) refl) (is_ordered-one c)
 
 scalars-all : (ds : List ℕ) → list_all is_scalar ds ≡ true → All IsScalar ds
 scalars-all [] h = All-nil IsScalar

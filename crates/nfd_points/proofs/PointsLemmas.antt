@@ -16,9 +16,9 @@ use Rattle.unicode_normalization.proofs.DecomposeLemmas.{IsFull-decompose, decom
 use Rattle.unicode_normalization.proofs.TableFacts.{is_final}
 use Rattle.unicode_normalization.proofs.OrderLemmas.{sink-past as sink-past_code, sink-stays as sink-stays_code}
 use Rattle.nfd_points.specs.declared.points.Point.{Point}
-use Rattle.nfd_points.specs.Points.{decomposition, byte_len, points_at, points_of, points_from, shifted, is_reorderable, sink, ordered, points, begins_with_starter}
+use Rattle.nfd_points.specs.Points.{IsPlain, decomposition, byte_len, points_at, points_of, points_from, shifted, is_reorderable, sink, ordered, points, begins_with_starter}
 use Rattle.nfd_points.specs.Reordering.{code_points, IsSoundPoint}
-use Rattle.nfd_points.proofs.DecompositionLemmas.{decomposition-decompose, decomposition-ascii, decomposition-scalars, class-ascii}
+use Rattle.nfd_points.proofs.DecompositionLemmas.{decomposition-decompose, decomposition-scalars, ascii-plain}
 use Rattle.nfd_points.proofs.OrderingLemmas.{ordered-nil, ordered-cons, ordered-parts, sink-past, sink-stays, All-ordered}
 
 -- ---- bytes
@@ -204,13 +204,16 @@ decomposed-points_from start (c ∷ cs) =
 pub decomposed-points : (cs : List ℕ) → All IsItself (points cs)
 decomposed-points cs = All-ordered IsItself _ (decomposed-points_from 0 cs)
 
--- ---- ASCII
+-- ---- starters that are their own decomposition
+
+pub points_of-plain : (start c : ℕ) → IsPlain c → points_of start c ≡ record { cp = c; ccc = 0; offset = start; first = true } ∷ []
+unfolding points_at
+points_of-plain start c plain =
+    ap (points_at start true) plain.itself
+    ∙ ap (λ n. record { cp = c; ccc = n; offset = start; first = true } ∷ []) plain.starter
 
 pub points_of-ascii : (start c : ℕ) → c < 128 → points_of start c ≡ record { cp = c; ccc = 0; offset = start; first = true } ∷ []
-unfolding points_at
-points_of-ascii start c h =
-    ap (points_at start true) (decomposition-ascii c h)
-    ∙ ap (λ n. record { cp = c; ccc = n; offset = start; first = true } ∷ []) (class-ascii c h)
+points_of-ascii start c h = points_of-plain start c (ascii-plain c h)
 
 -- ---- sound points
 

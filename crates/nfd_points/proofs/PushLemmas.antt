@@ -8,12 +8,12 @@ use Rattle.unicode_normalization.specs.Lookups.{canonical_combining_class}
 use Rattle.unicode_normalization.specs.Order.{is_nonstarter}
 use Rattle.unicode_normalization.specs.StreamSafe.{has_short_runs}
 use Rattle.nfd_points.specs.declared.points.Point.{Point}
-use Rattle.nfd_points.specs.Points.{ascii_point, decomposition, byte_len, points_at, points_of, ordered}
+use Rattle.nfd_points.specs.Points.{IsPlain, ascii_point, decomposition, byte_len, points_at, points_of, ordered}
 use Rattle.nfd_points.specs.PointFaults.{run_after, fault_of_code_point}
 use Rattle.nfd_points.specs.Reordering.{Waiting, IsSoundPoint, IsHeld, is_closed, HasReordered}
-use Rattle.nfd_points.proofs.DecompositionLemmas.{decomposition-ascii, class-ascii}
+use Rattle.nfd_points.proofs.DecompositionLemmas.{ascii-plain}
 use Rattle.nfd_points.proofs.OrderingLemmas.{ordered-ordered, ordered-nil}
-use Rattle.nfd_points.proofs.PointsLemmas.{points_of-ascii}
+use Rattle.nfd_points.proofs.PointsLemmas.{points_of-plain}
 use Rattle.nfd_points.proofs.RunLemmas.{run_after-append, run_after-starter, run_after-nil, short-append, short-starter, short-nil, fault_of_code_point-none}
 use Rattle.nfd_points.proofs.ReorderingLemmas.{is_closed-nil, is_closed-end, carries, take-starter}
 use Rattle.nfd_points.proofs.StepLemmas.{points_at-more}
@@ -45,47 +45,52 @@ IsPushed-carries old new out start c h none taken given before at =
     let here : IsPushed old.held (byte_len taken) c new.held out = subst (λ n. IsPushed old.held n c new.held out) at h in
     carries old new taken given c out before none here.held here.closed here.run here.moved
 
--- ---- ASCII
+-- ---- starters that are their own decomposition
 
-ascii-starter : (c : ℕ) → c < 128 → is_nonstarter c ≡ false
-ascii-starter c h = ap not (eq-eqb _ 0 (class-ascii c h))
+plain-starter : (c : ℕ) → IsPlain c → is_nonstarter c ≡ false
+plain-starter c plain = ap not (eq-eqb _ 0 plain.starter)
 
-pub ascii-short : (run c : ℕ) → c < 128 → has_short_runs run (c ∷ []) ≡ true
-ascii-short run c h = short-starter run c [] (ascii-starter c h) ∙ short-nil 0
+pub plain-short : (run c : ℕ) → IsPlain c → has_short_runs run (c ∷ []) ≡ true
+plain-short run c plain = short-starter run c [] (plain-starter c plain) ∙ short-nil 0
 
-pub ascii-fault : (run c : ℕ) → c < 128 → fault_of_code_point run c ≡ None
-ascii-fault run c h = fault_of_code_point-none run c (ap (has_short_runs run) (decomposition-ascii c h) ∙ ascii-short run c h)
+pub plain-fault : (run c : ℕ) → IsPlain c → fault_of_code_point run c ≡ None
+plain-fault run c plain = fault_of_code_point-none run c (ap (has_short_runs run) plain.itself ∙ plain-short run c plain)
 
-pub ascii-sound : (c start : ℕ) → IsScalar c → c < 128 → IsSoundPoint (ascii_point start c)
-ascii-sound c start scalar h = record { scalar = scalar; in_range = scalar_below c scalar; class = sym (class-ascii c h) }
+pub plain-sound : (c start : ℕ) → IsScalar c → IsPlain c → IsSoundPoint (ascii_point start c)
+plain-sound c start scalar plain = record { scalar = scalar; in_range = scalar_below c scalar; class = sym plain.starter }
 
-pub ascii-pushed : (old new cleared out : List Point) (start c : ℕ) → c < 128 → cleared ≡ [] → IsHeld new → ((rest : List Point) → cleared ++ ordered (old ++ ascii_point start c ∷ rest) ≡ out ++ ordered (new ++ rest)) → (is_closed cleared ≡ true → is_closed out ≡ true) → length new ≡ run_after (length old) (c ∷ []) → IsPushed old start c new out
-ascii-pushed old new cleared out start c low empty held moved closed run = record {
-  moved = λ rest. ap₂ (λ l ps. l ++ ordered (old ++ (ps ++ rest))) (sym empty) (points_of-ascii start c low) ∙ moved rest;
+pub plain-pushed : (old new cleared out : List Point) (start c : ℕ) → IsPlain c → cleared ≡ [] → IsHeld new → ((rest : List Point) → cleared ++ ordered (old ++ ascii_point start c ∷ rest) ≡ out ++ ordered (new ++ rest)) → (is_closed cleared ≡ true → is_closed out ≡ true) → length new ≡ run_after (length old) (c ∷ []) → IsPushed old start c new out
+plain-pushed old new cleared out start c plain empty held moved closed run = record {
+  moved = λ rest. ap₂ (λ l ps. l ++ ordered (old ++ (ps ++ rest))) (sym empty) (points_of-plain start c plain) ∙ moved rest;
   closed = closed (ap is_closed empty ∙ is_closed-nil);
   held = held;
-  run = run ∙ ap (run_after (length old)) (sym (decomposition-ascii c low));
+  run = run ∙ ap (run_after (length old)) (sym plain.itself);
 }
 
 -- the points that waited, and then the character itself
-pub ascii-given : (old new out : List Point) (start c : ℕ) → c < 128 → IsHeld old → IsPushed old start c new out → out ≡ old ++ ascii_point start c ∷ []
-ascii-given old new out start c low held p =
-    let none : new ≡ [] = nil_from_length new (p.run ∙ ap (run_after (length old)) (decomposition-ascii c low) ∙ run_after-starter (length old) c [] (ascii-starter c low) ∙ run_after-nil 0) in
+pub plain-given : (old new out : List Point) (start c : ℕ) → IsPlain c → IsHeld old → IsPushed old start c new out → out ≡ old ++ ascii_point start c ∷ []
+plain-given old new out start c plain held p =
+    let none : new ≡ [] = nil_from_length new (p.run ∙ ap (run_after (length old)) plain.itself ∙ run_after-starter (length old) c [] (plain-starter c plain) ∙ run_after-nil 0) in
     let point : Point = ascii_point start c in
-    sym (append-nil out) ∙ ap (λ l. out ++ l) (sym none) ∙ IsPushed-all old new out start c p ∙ ap (λ ps. ordered (old ++ ps)) (points_of-ascii start c low)
+    sym (append-nil out) ∙ ap (λ l. out ++ l) (sym none) ∙ IsPushed-all old new out start c p ∙ ap (λ ps. ordered (old ++ ps)) (points_of-plain start c plain)
     ∙ take-starter old point [] held.in_order refl ∙ ap (λ l. (old ++ point ∷ []) ++ l) ordered-nil ∙ append-nil (old ++ point ∷ [])
+
+-- ---- ASCII
+
+pub ascii-sound : (c start : ℕ) → IsScalar c → c < 128 → IsSoundPoint (ascii_point start c)
+ascii-sound c start scalar h = plain-sound c start scalar (ascii-plain c h)
 
 -- and where none waited, the character itself
 pub ascii-given_alone : (w : Waiting) (taken : List ℕ) (given : List Point) (c : ℕ) → HasReordered w taken given → w.held ≡ [] → c < 128 → HasReordered w (taken ++ c ∷ []) (given ++ ascii_point (byte_len taken) c ∷ [])
 ascii-given_alone w taken given c h none low =
     let p : Point = ascii_point (byte_len taken) c in
-    let run : length w.held ≡ run_after (length w.held) (c ∷ []) = ap length none ∙ sym (run_after-starter (length w.held) c [] (ascii-starter c low) ∙ run_after-nil 0) in
+    let run : length w.held ≡ run_after (length w.held) (c ∷ []) = ap length none ∙ sym (run_after-starter (length w.held) c [] (plain-starter c (ascii-plain c low)) ∙ run_after-nil 0) in
     let moved : (rest : List Point) → ordered (w.held ++ p ∷ rest) ≡ (p ∷ []) ++ ordered (w.held ++ rest) =
     λ rest. take-starter w.held p rest h.held.in_order refl ∙ ap (λ (l : List Point). (l ++ p ∷ []) ++ ordered rest) none
     ∙ sym (ap (λ (l : List Point). (p ∷ []) ++ ordered (l ++ rest)) none) in
     IsPushed-carries w w (p ∷ []) (byte_len taken) c
-    (ascii-pushed w.held w.held [] (p ∷ []) (byte_len taken) c low refl h.held moved (λ _. is_closed-end [] p refl) run)
-    (ascii-fault (length w.held) c low) taken given h refl
+    (plain-pushed w.held w.held [] (p ∷ []) (byte_len taken) c (ascii-plain c low) refl h.held moved (λ _. is_closed-end [] p refl) run)
+    (plain-fault (length w.held) c (ascii-plain c low)) taken given h refl
 
 -- ---- the steps of `take_all`
 

@@ -1,6 +1,6 @@
 -- The points of a text: the canonical decompositions of its code points in turn, each point with the byte offset of its
 -- code point, and then in canonical order. It is NFD with offsets (UAX #15; The Unicode Standard, D68 and D107 to D109).
-use Rattle.std.specs.Prelude.{ℕ, ◌+◌, Bool, true, false, not, ◌&&◌, ◌==◌, nat_lt, List, [], ◌∷◌, ◌++◌, if◌then◌else◌}
+use Rattle.std.specs.Prelude.{◌≡◌, ℕ, ◌+◌, Bool, true, false, not, ◌&&◌, ◌==◌, nat_lt, List, [], ◌∷◌, ◌++◌, if◌then◌else◌}
 use Rattle.std.specs.Char.{len_utf8}
 use Rattle.unicode_normalization.specs.Forms.{nfd}
 use Rattle.unicode_normalization.specs.Lookups.{canonical_combining_class}
@@ -9,6 +9,11 @@ use Rattle.nfd_points.specs.declared.points.Point.{Point}
 -- a code point's full canonical decomposition (the Unicode Standard, D68): the NFD of the text of it alone
 abbrev pub decomposition : ℕ → List ℕ
 decomposition c = nfd (c ∷ [])
+
+-- a starter (the Unicode Standard, D107) that is its own decomposition
+pub record IsPlain (c : ℕ) : Type 0 where
+  pub itself : decomposition c ≡ c ∷ []
+  pub starter : canonical_combining_class c ≡ 0
 
 -- how many bytes of UTF-8 the code points have
 unfoldable pub byte_len : List ℕ → ℕ

@@ -1,9 +1,10 @@
 //! A point: one code point of a decomposed text, and where it comes from.
-ghost use Rattle.std.specs.Prelude.{◌≡◌, ◌<◌, [], ◌∷◌, bytes_eq};
+ghost use Rattle.std.specs.Prelude.{◌≡◌, ◌<◌, [], ◌∷◌, true, bytes_eq};
 ghost use Rattle.unicode_normalization.specs.Lookups.{canonical_combining_class};
-ghost use Rattle.nfd_points.specs.Points.{ascii_point, decomposition};
+ghost use Rattle.nfd_points.specs.Points.{IsPlain, ascii_point, decomposition};
 ghost use Rattle.nfd_points.specs.Reordering.{IsSoundPoint};
 
+use ucd_normal::{QuickCheck, class_and_quick_check};
 use unicode_normalization::Form;
 use unicode_normalization::char::{canonical_combining_class, decomposition};
 
@@ -42,10 +43,10 @@ impl Point {
         decomposition(c, Form::Nfd, &mut room) == [c].as_slice()
     }
 
-    /// The point of a character below 80 hex, which is its own decomposition and a starter.
+    /// The point of a code point that is a starter and its own decomposition.
     #[inline(always)]
-    pub(crate) fn ascii(c: char, offset: u64) -> Self
-        requires { c < 128 }
+    pub(crate) fn plain(c: char, offset: u64) -> Self
+        requires { IsPlain c }
         ensures { result ≡ ascii_point offset c }
     {
         Point {
@@ -55,4 +56,17 @@ impl Point {
             first: true,
         }
     }
+}
+
+/// Whether a code point is known to be a starter and its own decomposition. It asks the tables once, and for none below 80 hex.
+#[inline(always)]
+pub(crate) fn is_plain(c: char) -> bool
+    ensures plain { result ≡ true → IsPlain c }
+    ensures ascii { c < 128 → result ≡ true }
+{
+    if c.is_ascii() {
+        return true;
+    }
+    let (class, answer) = class_and_quick_check(c, Form::Nfd);
+    class == 0 && matches!(answer, QuickCheck::Yes)
 }

@@ -9,7 +9,7 @@ ghost use Rattle.nfd_points.specs.Reordering.{Waiting, code_points, IsSoundPoint
 use crate::decomposing::fault_of;
 use crate::faults::PointFault;
 use crate::limits::{MOST_GIVEN, MOST_WAITING};
-use crate::points::Point;
+use crate::points::{Point, is_plain};
 use arrayvec::ArrayVec;
 use std::alloc::Global;
 use std::marker::Model;
@@ -82,10 +82,10 @@ impl Reorder {
         ensures stops { (taken : List ℕ) (given : List Point) (rest : List ℕ) → HasReordered self.old taken given →
             IfErr result (λ f. point_fault (taken ++ c ∷ rest) ≡ Some (byte_len taken, f.kind)) }
     {
-        out.clear();
+        empty(out);
         let run = self.waiting.len();
-        if c.is_ascii() {
-            self.take(Point::ascii(c, offset), out);
+        if is_plain(c) {
+            self.take(Point::plain(c, offset), out);
             return Ok(());
         }
         let mut room = [c; 3];
@@ -201,6 +201,18 @@ impl Reorder {
             out.try_extend_from_slice(self.waiting.as_slice()).unwrap();
             self.waiting.clear();
         }
+    }
+}
+
+/// Empties `out`, which mostly holds one point.
+#[inline(always)]
+fn empty(out: &mut ArrayVec<Point, MOST_GIVEN>)
+    ensures { out.new.items ≡ [] }
+{
+    if out.len() == 1 {
+        out.pop();
+    } else {
+        out.clear();
     }
 }
 

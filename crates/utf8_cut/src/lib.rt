@@ -156,12 +156,12 @@ impl Cut {
                 Cutting::More
             }
             Form::WellFormed(c) => {
-                self.held.clear();
+                self.held = ArrayVec::new();
                 self.start = self.count;
                 Cutting::Char(c, start)
             }
             Form::IllFormed => {
-                self.held.clear();
+                self.held = ArrayVec::new();
                 self.is_bad = true;
                 Cutting::Bad(start)
             }

@@ -1,4 +1,4 @@
-use Rattle.std.proofs.Common.{◌≡◌, ℕ, List, [], ◌∷◌, ◌++◌, length, sym, ap, ap₂, ◌∙◌, subst, ltb-true}
+use Rattle.std.proofs.Common.{◌≡◌, ℕ, List, [], ◌∷◌, ◌++◌, length, sym, ap, ap₂, ◌∙◌, subst}
 use Rattle.unicode_normalization.specs.Decompose.{decompose}
 use Rattle.ucd_normal.specs.declared.forms.Form.TheVariants.{Nfd}
 use Rattle.unicode_normalization.specs.StreamSafe.{has_short_runs}
@@ -9,52 +9,52 @@ use Rattle.nfd_points.specs.Reordering.{code_points, IsHeld, IsSoundPoint, is_cl
 use Rattle.nfd_points.proofs.DecompositionLemmas.{decomposition-decompose}
 use Rattle.nfd_points.proofs.RunLemmas.{fault_of_code_point-parts, short-nil}
 use Rattle.nfd_points.proofs.ReorderingLemmas.{is_closed-nil, stops}
-use Rattle.nfd_points.proofs.PushLemmas.{IsPushed, IsPushed-parts, IsPushed-all, IsPushed-carries, ascii-pushed, ascii-given, ascii-short, ascii-fault, ascii-sound}
+use Rattle.nfd_points.proofs.PushLemmas.{IsPushed, IsPushed-parts, IsPushed-all, IsPushed-carries, plain-pushed, plain-given, plain-short, plain-fault, plain-sound}
 use Rattle.nfd_points.proofs.GivenRunLemmas.{short-given}
 use Rattle.nfd_points.proofs.reordering.Reorder.push.Goals as goal
 
--- ---- ASCII
+-- ---- starters that are their own decomposition
 
 pub take-requires-clause-short : goal.take-requires-clause-short
 take-requires-clause-short c =
-    ap (λ (p : Point). has_short_runs (length c.args.self.now.held) (p.cp ∷ [])) c.ascii.ensures
-    ∙ ascii-short _ c.args.c (ltb-true c.args.c 128 (sym c.is_ascii.ensures ∙ c.if-is_ascii.true))
+    ap (λ (p : Point). has_short_runs (length c.args.self.now.held) (p.cp ∷ [])) c.plain.ensures
+    ∙ plain-short _ c.args.c (c.is_plain.ensures.plain c.if-is_plain.true)
 
 pub take-requires-clause-sound : goal.take-requires-clause-sound
 take-requires-clause-sound c =
-    subst IsSoundPoint (sym c.ascii.ensures)
-    (ascii-sound c.args.c c.args.offset c.ranges.c.0 (ltb-true c.args.c 128 (sym c.is_ascii.ensures ∙ c.if-is_ascii.true)))
+    subst IsSoundPoint (sym c.plain.ensures)
+    (plain-sound c.args.c c.args.offset c.ranges.c.0 (c.is_plain.ensures.plain c.if-is_plain.true))
 
-pub returns-then-is_ascii-clause-fault : goal.returns-then-is_ascii-clause-fault
-returns-then-is_ascii-clause-fault c = ascii-fault _ c.args.c (ltb-true c.args.c 128 (sym c.is_ascii.ensures ∙ c.if-is_ascii.true))
+pub returns-then-is_plain-clause-fault : goal.returns-then-is_plain-clause-fault
+returns-then-is_plain-clause-fault c = plain-fault _ c.args.c (c.is_plain.ensures.plain c.if-is_plain.true)
 
-ascii : (c : goal.After-take) → IsPushed c.args.self.now.held c.args.offset c.args.c c.take.new.self.held c.take.new.out.items
-ascii c =
-    let low = ltb-true c.args.c 128 (sym c.is_ascii.ensures ∙ c.if-is_ascii.true) in
-    ascii-pushed c.args.self.now.held c.take.new.self.held c.clear.new.self.items c.take.new.out.items c.args.offset c.args.c low
-    c.clear.ensures c.take.ensures.held
-    (λ rest. ap (λ p. c.clear.new.self.items ++ ordered (c.args.self.now.held ++ p ∷ rest)) (sym c.ascii.ensures) ∙ c.take.ensures.moved rest)
-    c.take.ensures.closed (c.take.ensures.run ∙ ap (λ (p : Point). run_after (length c.args.self.now.held) (p.cp ∷ [])) c.ascii.ensures)
+plain_pushed : (c : goal.After-take) → IsPushed c.args.self.now.held c.args.offset c.args.c c.take.new.self.held c.take.new.out.items
+plain_pushed c =
+    let plain = c.is_plain.ensures.plain c.if-is_plain.true in
+    plain-pushed c.args.self.now.held c.take.new.self.held c.empty.new.out.items c.take.new.out.items c.args.offset c.args.c plain
+    c.empty.ensures c.take.ensures.held
+    (λ rest. ap (λ p. c.empty.new.out.items ++ ordered (c.args.self.now.held ++ p ∷ rest)) (sym c.plain.ensures) ∙ c.take.ensures.moved rest)
+    c.take.ensures.closed (c.take.ensures.run ∙ ap (λ (p : Point). run_after (length c.args.self.now.held) (p.cp ∷ [])) c.plain.ensures)
 
-pub returns-then-is_ascii-clause-ascii_given : goal.returns-then-is_ascii-clause-ascii_given
-returns-then-is_ascii-clause-ascii_given c low =
-    ascii-given c.args.self.now.held c.take.new.self.held c.take.new.out.items c.args.offset c.args.c low (subst (λ w. IsHeld w.held) c.self.view_is c.self.invariant) (ascii c)
+pub returns-then-is_plain-clause-ascii_given : goal.returns-then-is_plain-clause-ascii_given
+returns-then-is_plain-clause-ascii_given c low =
+    plain-given c.args.self.now.held c.take.new.self.held c.take.new.out.items c.args.offset c.args.c (c.is_plain.ensures.plain c.if-is_plain.true) (subst (λ w. IsHeld w.held) c.self.view_is c.self.invariant) (plain_pushed c)
 
-pub returns-then-is_ascii-clause-pushed : goal.returns-then-is_ascii-clause-pushed
-returns-then-is_ascii-clause-pushed c = IsPushed-all _ _ _ _ _ (ascii c)
+pub returns-then-is_plain-clause-pushed : goal.returns-then-is_plain-clause-pushed
+returns-then-is_plain-clause-pushed c = IsPushed-all _ _ _ _ _ (plain_pushed c)
 
-pub returns-then-is_ascii-clause-closed : goal.returns-then-is_ascii-clause-closed
-returns-then-is_ascii-clause-closed c = (ascii c).closed
+pub returns-then-is_plain-clause-closed : goal.returns-then-is_plain-clause-closed
+returns-then-is_plain-clause-closed c = (plain_pushed c).closed
 
-pub returns-then-is_ascii-clause-carries : goal.returns-then-is_ascii-clause-carries
-returns-then-is_ascii-clause-carries c =
-    IsPushed-carries c.args.self.now c.take.new.self c.take.new.out.items c.args.offset c.args.c (ascii c)
-    (ascii-fault (length c.args.self.now.held) c.args.c (ltb-true c.args.c 128 (sym c.is_ascii.ensures ∙ c.if-is_ascii.true)))
+pub returns-then-is_plain-clause-carries : goal.returns-then-is_plain-clause-carries
+returns-then-is_plain-clause-carries c =
+    IsPushed-carries c.args.self.now c.take.new.self c.take.new.out.items c.args.offset c.args.c (plain_pushed c)
+    (plain-fault (length c.args.self.now.held) c.args.c (c.is_plain.ensures.plain c.if-is_plain.true))
 
-pub returns-then-is_ascii-clause-short : goal.returns-then-is_ascii-clause-short
-returns-then-is_ascii-clause-short c =
-    short-given c.args.self.now.held c.take.new.self.held c.take.new.out.items c.args.offset c.args.c (subst (λ w. IsHeld w.held) c.self.view_is c.self.invariant) (ascii c)
-    (ascii-fault (length c.args.self.now.held) c.args.c (ltb-true c.args.c 128 (sym c.is_ascii.ensures ∙ c.if-is_ascii.true)))
+pub returns-then-is_plain-clause-short : goal.returns-then-is_plain-clause-short
+returns-then-is_plain-clause-short c =
+    short-given c.args.self.now.held c.take.new.self.held c.take.new.out.items c.args.offset c.args.c (subst (λ w. IsHeld w.held) c.self.view_is c.self.invariant) (plain_pushed c)
+    (plain-fault (length c.args.self.now.held) c.args.c (c.is_plain.ensures.plain c.if-is_plain.true))
 
 -- ---- any other code point
 
@@ -68,10 +68,10 @@ returns-in-Some-clause-fault c =
     ∙ sym c.in-Some.ensures
 
 pub returns-in-Some-clause-closed : goal.returns-in-Some-clause-closed
-returns-in-Some-clause-closed c = ap is_closed c.clear.ensures ∙ is_closed-nil
+returns-in-Some-clause-closed c = ap is_closed c.empty.ensures ∙ is_closed-nil
 
 pub returns-in-Some-clause-short : goal.returns-in-Some-clause-short
-returns-in-Some-clause-short c = ap (λ l. has_short_runs 0 (code_points l)) c.clear.ensures ∙ short-nil 0
+returns-in-Some-clause-short c = ap (λ l. has_short_runs 0 (code_points l)) c.empty.ensures ∙ short-nil 0
 
 pub returns-in-Some-clause-stops : goal.returns-in-Some-clause-stops
 returns-in-Some-clause-stops c taken given rest h =
@@ -85,22 +85,22 @@ returns-clause-fault c =
 pub returns-clause-pushed : goal.returns-clause-pushed
 returns-clause-pushed c =
     IsPushed-all _ _ _ _ _
-    (IsPushed-parts c.args.self.now.held c.take_all.new.self.held c.clear.new.self.items c.take_all.new.out.items c.decomposition-parts.result.now c.args.offset c.args.c
-    c.clear.ensures (c.decomposition-parts.ensures.value ∙ sym (decomposition-decompose c.args.c)) c.take_all.ensures.held c.take_all.ensures.moved c.take_all.ensures.closed c.take_all.ensures.run)
+    (IsPushed-parts c.args.self.now.held c.take_all.new.self.held c.empty.new.out.items c.take_all.new.out.items c.decomposition-parts.result.now c.args.offset c.args.c
+    c.empty.ensures (c.decomposition-parts.ensures.value ∙ sym (decomposition-decompose c.args.c)) c.take_all.ensures.held c.take_all.ensures.moved c.take_all.ensures.closed c.take_all.ensures.run)
 
 pub returns-clause-closed : goal.returns-clause-closed
-returns-clause-closed c = c.take_all.ensures.closed (ap is_closed c.clear.ensures ∙ is_closed-nil)
+returns-clause-closed c = c.take_all.ensures.closed (ap is_closed c.empty.ensures ∙ is_closed-nil)
 
 pub returns-clause-short : goal.returns-clause-short
 returns-clause-short c =
     short-given c.args.self.now.held c.take_all.new.self.held c.take_all.new.out.items c.args.offset c.args.c (subst (λ w. IsHeld w.held) c.self.view_is c.self.invariant)
-    (IsPushed-parts c.args.self.now.held c.take_all.new.self.held c.clear.new.self.items c.take_all.new.out.items c.decomposition-parts.result.now c.args.offset c.args.c
-    c.clear.ensures (c.decomposition-parts.ensures.value ∙ sym (decomposition-decompose c.args.c)) c.take_all.ensures.held c.take_all.ensures.moved c.take_all.ensures.closed c.take_all.ensures.run)
+    (IsPushed-parts c.args.self.now.held c.take_all.new.self.held c.empty.new.out.items c.take_all.new.out.items c.decomposition-parts.result.now c.args.offset c.args.c
+    c.empty.ensures (c.decomposition-parts.ensures.value ∙ sym (decomposition-decompose c.args.c)) c.take_all.ensures.held c.take_all.ensures.moved c.take_all.ensures.closed c.take_all.ensures.run)
     (returns-clause-fault c)
 
 pub returns-clause-carries : goal.returns-clause-carries
 returns-clause-carries c =
     IsPushed-carries c.args.self.now c.take_all.new.self c.take_all.new.out.items c.args.offset c.args.c
-    (IsPushed-parts c.args.self.now.held c.take_all.new.self.held c.clear.new.self.items c.take_all.new.out.items c.decomposition-parts.result.now c.args.offset c.args.c
-    c.clear.ensures (c.decomposition-parts.ensures.value ∙ sym (decomposition-decompose c.args.c)) c.take_all.ensures.held c.take_all.ensures.moved c.take_all.ensures.closed c.take_all.ensures.run)
+    (IsPushed-parts c.args.self.now.held c.take_all.new.self.held c.empty.new.out.items c.take_all.new.out.items c.decomposition-parts.result.now c.args.offset c.args.c
+    c.empty.ensures (c.decomposition-parts.ensures.value ∙ sym (decomposition-decompose c.args.c)) c.take_all.ensures.held c.take_all.ensures.moved c.take_all.ensures.closed c.take_all.ensures.run)
     (returns-clause-fault c)
