@@ -57,11 +57,7 @@ impl<'t> Unit<'t> {
 
     /// The unit of one point, of which the table has this row, or none.
     #[inline(always)]
-    pub(crate) fn of_one<W: Weights>(
-        table: &'t W,
-        point: Point,
-        row: Option<&'t [Element]>,
-    ) -> Self
+    pub(crate) fn of_one<W: Weights>(table: &'t W, point: Point, row: Option<&'t [Element]>) -> Self
         requires code_point { point.cp < 0x110000 }
         requires row { option_copied row ≡ row_of (W.table table.now) (point.cp ∷ []) }
         ensures first_point { result.first_point ≡ point }

@@ -151,11 +151,7 @@ struct Front<'t> {
 
 /// What is at the front, if the unit there is decided.
 #[inline(always)]
-fn decided_front<'t, W: Weights>(
-    points: &Queue,
-    has_ended: bool,
-    table: &'t W,
-) -> Option<Front<'t>>
+fn decided_front<'t, W: Weights>(points: &Queue, has_ended: bool, table: &'t W) -> Option<Front<'t>>
     ensures decided { let held : Held = record {
       points = points.now.items;
       capacity = points.now.capacity;

@@ -104,37 +104,60 @@ fn walk_key(walk: &mut Walk, pattern: &Pattern, key: Option<Key>)
     }
 }
 
+/// Weighs a unit of any number of keys, and walks over its items. It is kept apart from the loop over the units, so that those of one
+/// key need not lie in memory.
+#[inline(never)]
+fn take_long(
+    weigher: &mut Weigher,
+    walk: &mut Walk,
+    pattern: &Pattern,
+    unit: Unit<'_>,
+    items: &mut ArrayVec<Item, MOST_ITEMS>,
+    found: &mut Found,
+)
+    requires state { walk.old.state ≤ length pattern.now.keys }
+    requires room { array_vec_len found.old < MOST_FOUND }
+    ensures weighed { (table : TableMap) (points : List Point) (units : List (List Point)) (given : List Item) → IsUnitOf table points unit.entry
+        → WeigherStandsFor table weigher.old units given
+        → WeigherStandsFor table weigher.new (units ++ points ∷ []) (given ++ value_items weigher.old unit.entry) }
+    ensures after { weigher.new ≡ weigher_after weigher.old unit.entry }
+    ensures walked { (before : List _) (ranges : List _) → WalksOver pattern.now.keys before (ranges ++ found.old.items) walk.old
+        → WalksOver pattern.now.keys (before ++ value_items weigher.old unit.entry) (ranges ++ found.new.items) walk.new }
+    ensures few { array_vec_len found.new ≤ array_vec_len found.old + 1 }
+    ensures state { walk.new.state ≤ length pattern.now.keys }
+{
+    weigher.take(&unit, items);
+    walk_over(walk, pattern, items.as_slice(), found);
+}
+
 /// Weighs a unit, and walks over its items.
 #[inline(always)]
 fn take_unit(
     weigher: &mut Weigher,
     walk: &mut Walk,
     pattern: &Pattern,
-    unit: &Unit,
+    unit: Unit<'_>,
     items: &mut ArrayVec<Item, MOST_ITEMS>,
     found: &mut Found,
 )
     requires state { walk.old.state ≤ length pattern.now.keys }
     requires room { array_vec_len found.old < MOST_FOUND }
-    ensures weighed { (table : TableMap) (points : List Point) (units : List (List Point)) (given : List Item) → IsUnitOf table points unit.now
+    ensures weighed { (table : TableMap) (points : List Point) (units : List (List Point)) (given : List Item) → IsUnitOf table points unit.entry
         → WeigherStandsFor table weigher.old units given
-        → WeigherStandsFor table weigher.new (units ++ points ∷ []) (given ++ value_items weigher.old unit.now) }
-    ensures after { weigher.new ≡ weigher_after weigher.old unit.now }
+        → WeigherStandsFor table weigher.new (units ++ points ∷ []) (given ++ value_items weigher.old unit.entry) }
+    ensures after { weigher.new ≡ weigher_after weigher.old unit.entry }
     ensures walked { (before : List _) (ranges : List _) → WalksOver pattern.now.keys before (ranges ++ found.old.items) walk.old
-        → WalksOver pattern.now.keys (before ++ value_items weigher.old unit.now) (ranges ++ found.new.items) walk.new }
+        → WalksOver pattern.now.keys (before ++ value_items weigher.old unit.entry) (ranges ++ found.new.items) walk.new }
     ensures few { array_vec_len found.new ≤ array_vec_len found.old + 1 }
     ensures state { walk.new.state ≤ length pattern.now.keys }
     ensures select { walk.new.select ≡ walk.old.select }
 {
-    match weigher.take_short(unit) {
+    match weigher.take_short(&unit) {
         Some(short) => {
             walk_start(walk, pattern, short.start, found);
             walk_key(walk, pattern, short.key);
         }
-        None => {
-            weigher.take(unit, items);
-            walk_over(walk, pattern, items.as_slice(), found);
-        }
+        None => take_long(weigher, walk, pattern, unit, items, found),
     }
 }
 
@@ -166,6 +189,6 @@ pub(crate) fn cut_units<W: Weights>(
     ensures select { walk.new.select ≡ walk.old.select }
 {
     while let Some(unit) = window.next_unit(table) {
-        take_unit(weigher, walk, pattern, &unit, items, found);
+        take_unit(weigher, walk, pattern, unit, items, found);
     }
 }

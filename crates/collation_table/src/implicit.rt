@@ -80,6 +80,7 @@ fn implicit_weights(ranges: &[ImplicitRange], cp: u32) -> (u16, u16)
 }
 
 /// The two elements of a code point that has no row.
+#[inline(always)]
 pub(crate) fn implicit_pair(ranges: &[ImplicitRange], cp: u32) -> [Element; 2]
     requires sound { AreRangesSound ranges.now }
     requires code_point { cp < 0x110000 }

@@ -53,6 +53,7 @@ impl Weights for Table {
         self.rows.row(string)
     }
 
+    #[inline(always)]
     fn implicit(&self, cp: u32) -> [Element; 2] {
         implicit::implicit_pair(self.rows.ranges(), cp)
     }

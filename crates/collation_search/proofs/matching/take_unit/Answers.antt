@@ -1,16 +1,10 @@
-use Rattle.std.proofs.Common.{◌≡◌, ◌∙◌, ℕ, List, [], ◌∷◌, ◌++◌, length, sym, ap, subst, arith, append_assoc}
+use Rattle.std.proofs.Common.{◌≡◌, ◌∙◌, ℕ, List, [], ◌∷◌, ◌++◌, sym, ap, subst, append_assoc}
 use Rattle.nfd_points.specs.declared.points.Point.{Point}
 use Rattle.collation_elements.specs.declared.keys.Item.{Item}
-use Rattle.collation_elements.specs.ItemParts.{item_starts}
+use Rattle.collation_elements.specs.declared.weigher.Weigher.{Weigher}
 use Rattle.collation_elements.specs.Weighing.{WeigherStandsFor, value_items}
 use Rattle.collation_search.specs.Walks.{WalksOver}
-use Rattle.collation_search.proofs.MatchingLemmas.{value_items-few}
 use Rattle.collation_search.proofs.matching.take_unit.Goals as goal
-
-pub walk_over-requires-clause-room : goal.walk_over-requires-clause-room
-walk_over-requires-clause-room c =
-    let same = ap (λ t. length (item_starts t)) (c.as_slice.ensures.value ∙ c.take.ensures.items) in
-    omega (arith, value_items-few c.take_short.new.self c.args.unit.now, same, c.requires.room)
 
 pub returns-in-Some-clause-weighed : goal.returns-in-Some-clause-weighed
 returns-in-Some-clause-weighed c = λ table points units given is stands.
@@ -26,17 +20,10 @@ returns-in-Some-clause-walked c = λ before ranges h.
 
 pub returns-in-None-clause-weighed : goal.returns-in-None-clause-weighed
 returns-in-None-clause-weighed c = λ table points units given is stands.
-    let same = c.take.ensures.items ∙ ap (λ w. value_items w c.args.unit.now) c.in-None.ensures.none in
-    subst (λ (t : List Item). WeigherStandsFor table c.take.new.self (units ++ points ∷ []) (given ++ t)) same
-    (c.take.ensures.stands table points units given is (subst (λ w. WeigherStandsFor table w units given) (sym c.in-None.ensures.none) stands))
+    subst (λ (w : Weigher). WeigherStandsFor table c.take_long.new.weigher (units ++ points ∷ []) (given ++ value_items w c.args.unit)) c.in-None.ensures.none
+    (c.take_long.ensures.weighed table points units given is (subst (λ (w : Weigher). WeigherStandsFor table w units given) (sym c.in-None.ensures.none) stands))
 
 pub returns-in-None-clause-walked : goal.returns-in-None-clause-walked
 returns-in-None-clause-walked c = λ before ranges h.
-    let same = c.as_slice.ensures.value ∙ c.take.ensures.items ∙ ap (λ w. value_items w c.args.unit.now) c.in-None.ensures.none in
-    subst (λ (t : List Item). WalksOver c.args.pattern.now.keys (before ++ t) (ranges ++ c.walk_over.new.found.items) c.walk_over.new.walk) same
-    (c.walk_over.ensures.stands before ranges h)
-
-pub returns-in-None-clause-few : goal.returns-in-None-clause-few
-returns-in-None-clause-few c =
-    let same = ap (λ t. length (item_starts t)) (c.as_slice.ensures.value ∙ c.take.ensures.items) in
-    omega (arith, value_items-few c.take_short.new.self c.args.unit.now, same, c.walk_over.ensures.few)
+    subst (λ (w : Weigher). WalksOver c.args.pattern.now.keys (before ++ value_items w c.args.unit) (ranges ++ c.take_long.new.found.items) c.take_long.new.walk) c.in-None.ensures.none
+    (c.take_long.ensures.walked before ranges h)
