@@ -197,3 +197,34 @@ fn greatest_pattern_is_compiled(rt: HostRuntime) -> Result<(), Fail> {
     }
     Ok(())
 }
+
+/// To be run with each allocation refused in turn: a refused pattern is fault 24, and one that is asked for again is answered as
+/// with ample memory. A refusal that meets the test itself fails it by an error.
+#[test]
+fn refused_patterns_are_asked_for_again(rt: HostRuntime) -> Result<(), Fail> {
+    let alloc = rt.alloc();
+    let table = Table::read(alloc, TABLE.as_bytes())?;
+    let long = "ab".repeat(alloc, 3_000)?;
+    let too_long = "a".repeat(alloc, 65_537)?;
+    let (strength, variable) = (Strength::Three, Variable::NonIgnorable);
+    for (text, want) in [
+        ("aae\u{301}", Ok(4)),
+        ("u\u{327}\u{301}", Ok(2)),
+        (long.as_str(), Ok(6_000)),
+        ("", Err(22)),
+        (too_long.as_str(), Err(21)),
+    ] {
+        let compiled = match Pattern::compile(alloc, &table, text, strength, variable) {
+            Err(PatternFault { kind: 24 }) => {
+                Pattern::compile(alloc, &table, text, strength, variable)
+            }
+            answer => answer,
+        };
+        let answer = match compiled {
+            Ok(pattern) => Ok(pattern.len()),
+            Err(fault) => Err(fault.kind),
+        };
+        assert_eq!(rt; answer, want);
+    }
+    Ok(())
+}
