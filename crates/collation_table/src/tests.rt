@@ -401,6 +401,41 @@ fn bounds_the_ranges(rt: HostRuntime) -> Result<(), Fail> {
     Ok(())
 }
 
+/// A row for each code point below `rows`.
+fn rows_of(alloc: Global, rows: u32) -> Result<String, AllocError> {
+    let mut file = String::new(alloc);
+    for point in 0..rows {
+        writeln!(file, "{point:04X} ; [.1C00.0020.0002]")?;
+    }
+    Ok(file)
+}
+
+/// The same, made again where memory was refused.
+fn rows_again(alloc: Global, rows: u32) -> Result<String, AllocError> {
+    rows_of(alloc, rows).or_else(|_| rows_of(alloc, rows))
+}
+
+#[test]
+fn bounds_the_entries(rt: HostRuntime) -> Result<(), Fail> {
+    for (rows, fault, fault_of_tailor) in [
+        (1_048_576, None, None),
+        (1_048_577, Some((13, 1_048_577)), Some((73, 1_048_577))),
+    ] {
+        let file = rows_again(rt.alloc(), rows)?;
+        assert_eq!(rt;
+            faults_of(rt.alloc(), file.as_bytes()),
+            [fault; 2],
+            "{rows}"
+        );
+        assert_eq!(rt;
+            fault_of_both(rt.alloc(), BASIC, &file),
+            fault_of_tailor,
+            "{rows}"
+        );
+    }
+    Ok(())
+}
+
 /// Asks the table of the file with accents for rows and for longest prefixes.
 fn ask_for_rows<W: Weights>(rt: &impl Abort, table: &W) -> Result<(), Fail> {
     let row = table.row(&[0x75, 0x301]).ok_or("a row")?;
@@ -561,4 +596,48 @@ fn replaces_one_of_many_rows(rt: HostRuntime) -> Result<(), Fail> {
         assert_eq!(rt; row.len(), elements, "{number}");
     }
     Ok(())
+}
+
+/// As many strings of two code points that begin with `a`, and with every hundredth one of three.
+fn strings_after_one(alloc: Global) -> Result<String, AllocError> {
+    let mut file = String::from_str(alloc, "0061 ; [.1C00.0020.0002]\n")?;
+    for number in 0..MANY {
+        let weight = 1 + number % 0x7000;
+        writeln!(
+            file,
+            "0061 {:04X} ; [.{weight:04X}.0020.0002]",
+            0x20000 + number
+        )?;
+        if number % 100 == 0 {
+            writeln!(
+                file,
+                "0061 {:04X} 0062 ; [.{weight:04X}.0020.0004]",
+                0x20000 + number
+            )?;
+        }
+    }
+    Ok(file)
+}
+
+/// Asks the table of these strings for longest prefixes.
+fn ask_for_strings<W: Weights>(rt: &impl Abort, table: &W) -> Result<(), Fail> {
+    assert_eq!(rt; table.longest_key(), 3);
+    for (number, length) in [(0, 3), (1, 2), (99, 2), (100, 3), (99_900, 3), (99_999, 2)] {
+        let second = 0x20000u32.wrapping_add(number);
+        assert_eq!(rt; table.longest(&[0x61, second, 0x62]), length, "{number}");
+        assert_eq!(rt; table.longest(&[0x61, second, 0x61]), 2, "{number}");
+        let row = table.row(&[0x61, second]).ok_or("a row")?;
+        let weight = row.first().map_or(0, |e| u32::from(e.w1));
+        assert_eq!(rt; weight, 1 + number % 0x7000, "{number}");
+    }
+    assert_eq!(rt; table.longest(&[0x61, 0x20000 + MANY, 0x62]), 1);
+    assert_eq!(rt; table.longest(&[0x62, 0x20000]), 0);
+    Ok(())
+}
+
+#[test]
+fn answers_by_many_strings_after_one_code_point(rt: HostRuntime) -> Result<(), Fail> {
+    let file = strings_after_one(rt.alloc()).or_else(|_| strings_after_one(rt.alloc()))?;
+    ask_for_strings(&rt, &read_again(rt.alloc(), file.as_bytes())?)?;
+    ask_for_strings(&rt, &read_plain_again(rt.alloc(), file.as_bytes())?)
 }
