@@ -1,5 +1,5 @@
 -- A search that is under way takes a piece, goes on from its state, and ends.
-use Rattle.std.specs.Prelude.{Result, OnOk, IfErr, Ok, Err, Option, None, Some, ◌⊎◌}
+use Rattle.std.specs.Prelude.{Result, OnOk, IfErr, Ok, Err, Option, None, Some}
 use Rattle.std.specs.Borrow.{Bor}
 use Rattle.std.specs.Result.{result_err}
 use Rattle.std.proofs.Common.{◌≡◌, ◌∙◌, ◌<◌, ℕ, ◌+◌, List, [], ◌∷◌, ◌++◌, length, take, get_or, sym, ap, subst, append_assoc, inl, inr}

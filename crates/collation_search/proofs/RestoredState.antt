@@ -1,36 +1,27 @@
 -- What is restored from the words of a search stands for what that search stood for.
-use Rattle.std.specs.Option.{ForSome}
 use Rattle.std.specs.Prelude.{All, Contains}
 use Rattle.std.specs.Str.{chars}
-use Rattle.std.proofs.Common.{◌≡◌, ℕ, ◌+◌, ◌-◌, ◌≤◌, ◌==◌, Bool, true, false, List, [], ◌∷◌, ◌++◌, length, take, drop, Option, Some, None, Result, Err, refl, sym, ap, ap₂, ◌∙◌, subst, arith}
-use Rattle.std.proofs.lemmas.List.{take_all, length-drop}
+use Rattle.std.proofs.Common.{◌≡◌, ℕ, ◌+◌, false, List, None, refl, sym, ap, ap₂, ◌∙◌, subst}
 use Rattle.utf8_cut.specs.Characters.{characters}
 use Rattle.utf8_cut.specs.State.{StandsFor}
 use Rattle.utf8_cut.specs.Value.{CutState}
 use Rattle.nfd_points.specs.declared.limits.TheConstants.{MOST_GIVEN}
 use Rattle.nfd_points.specs.Reordering.{Waiting, HasReordered}
-use Rattle.collation_table.specs.Table.{TableMap, longest_mapped}
-use Rattle.collation_table.specs.declared.lookup.Weights.{Ghosts}
+use Rattle.collation_table.specs.Table.{longest_mapped}
 use Rattle.collation_elements.specs.Weighing.{weigher, is_after_variable, WeigherStandsFor}
 use Rattle.collation_elements.specs.Windows.{Held, WindowStandsFor}
-use Rattle.collation_pattern.specs.Compiled.{Compiled}
-use Rattle.collation_search.specs.declared.faults.StateFault.{StateFault}
-use Rattle.collation_search.specs.declared.faults.TextFault.{TextFault}
 use Rattle.collation_search.specs.declared.finder.Finder.{Finder}
-use Rattle.collation_search.specs.declared.states.Head.{Head}
-use Rattle.collation_search.specs.declared.search.Search.{Search}
 use Rattle.collation_search.specs.Finding.{FinderStandsFor}
-use Rattle.collation_search.specs.GoodPrefix.{whole, most_bytes}
+use Rattle.collation_search.specs.GoodPrefix.{whole}
 use Rattle.collation_search.specs.Restoring.{places_in}
-use Rattle.collation_search.specs.Resuming.{sizes_of, AreSaved, AreSavedAfter, KeepsSaved, IsRestored}
-use Rattle.collation_search.specs.Search.{Sought, sought, HasSearched, HasReported}
+use Rattle.collation_search.specs.Resuming.{IsRestored}
+use Rattle.collation_search.specs.Search.{Sought}
 use Rattle.collation_search.specs.Searching.{Searched}
-use Rattle.collation_search.specs.State.{number_of, state_words, tail_words, words_of}
-use Rattle.collation_search.specs.StateTests.{points_in, head, bytes_in, has_form, is_for, is_state, state_fault}
+use Rattle.collation_search.specs.State.{tail_words}
+use Rattle.collation_search.specs.StateTests.{points_in}
 use Rattle.collation_search.proofs.RestoredWalk.{walks-restored}
 use Rattle.collation_search.proofs.StateLemmas.{flag-read}
-use Rattle.collation_search.proofs.SavedBytes.{bytes_in-held}
-use Rattle.collation_search.proofs.SavedState.{SavedLaws, open_head, open-accepted, reported-accepted, points, walk, is_good, sound_held, parts}
+use Rattle.collation_search.proofs.SavedState.{SavedLaws, open_head, points, walk, is_good, parts}
 
 -- ---- a search that goes on
 

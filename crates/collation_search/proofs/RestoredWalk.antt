@@ -1,5 +1,5 @@
 -- What the words of a saved walk say, and that a walk restored from them stands for the same.
-use Rattle.std.proofs.Common.{◌≡◌, ℕ, ◌-◌, ◌==◌, Bool, true, false, List, [], ◌∷◌, ◌++◌, length, map, refl, sym, ap, ◌∙◌, arith}
+use Rattle.std.proofs.Common.{◌≡◌, ℕ, ◌-◌, List, [], ◌∷◌, ◌++◌, length, map, refl, sym, ap, ◌∙◌, arith}
 use Rattle.std.proofs.lemmas.List.{length-drop}
 use Rattle.collation_elements.specs.declared.keys.Key.{Key}
 use Rattle.collation_elements.specs.declared.keys.Item.{Item}
@@ -11,7 +11,7 @@ use Rattle.collation_search.specs.ByClusters.{placed, found}
 use Rattle.collation_search.specs.declared.select.Select.{Select}
 use Rattle.collation_search.specs.Selecting.{selected, remembered}
 use Rattle.collation_search.specs.Restoring.{places_in}
-use Rattle.collation_search.specs.State.{flag_word, place_words, kept_places}
+use Rattle.collation_search.specs.State.{place_words, kept_places}
 use Rattle.collation_search.specs.Walks.{place_of, WalksOver}
 use Rattle.collation_search.proofs.StateLemmas.{flag-read}
 use Rattle.collation_search.proofs.WalkSteps.{keep_last-all, walks-within, walks-few}

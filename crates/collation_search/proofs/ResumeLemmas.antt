@@ -1,7 +1,7 @@
 -- What a search that is resumed from words stands for, and which words are kept.
-use Rattle.std.specs.Prelude.{IfErr, IfOk, IfSome, slice_index, nat_le, ◌*◌, ◌&&◌, is_some}
+use Rattle.std.specs.Prelude.{IfOk, IfSome, slice_index, nat_le, ◌*◌, ◌&&◌, is_some}
 use Rattle.std.proofs.lemmas.Bool.{and_parts, le-leb, leb-true, lt-leb, eq-eqb, ne_eqb, eqb-true}
-use Rattle.std.proofs.Common.{◌≡◌, ℕ, ◌+◌, ◌-◌, ◌<◌, ◌≤◌, ◌==◌, Bool, true, false, List, [], ◌∷◌, ◌++◌, length, take, drop, Option, Some, None, Result, Ok, Err, refl, sym, ap, ap₂, ◌∙◌, subst, arith}
+use Rattle.std.proofs.Common.{◌≡◌, ℕ, ◌+◌, ◌-◌, ◌<◌, ◌≤◌, ◌==◌, Bool, true, false, List, length, take, drop, Option, Some, None, Result, Ok, Err, refl, sym, ap, ap₂, ◌∙◌, subst, arith}
 use Rattle.std.proofs.lemmas.List.{take_all, length-drop}
 use Rattle.utf8_cut.specs.Characters.{is_incomplete_or_empty}
 use Rattle.utf8_cut.specs.State.{StandsFor}
@@ -18,8 +18,7 @@ use Rattle.collation_search.specs.GoodPrefix.{most_bytes}
 use Rattle.collation_search.specs.Resuming.{sizes_of, AreSaved, AreSavedAfter, GoesOn, BeginsWithFault, KeepsSaved, IsRestored}
 use Rattle.collation_search.specs.Search.{Sought, sought, HasSearched, HasReported}
 use Rattle.collation_search.specs.Searching.{Searched}
-use Rattle.collation_search.specs.State.{number_of, state_words, tail_words, words_of}
-use Rattle.collation_search.specs.declared.select.Select.{Select}
+use Rattle.collation_search.specs.State.{state_words, tail_words}
 use Rattle.collation_search.specs.declared.select.Select.TheVariants.{All}
 use Rattle.collation_search.specs.Restoring.{last_end_in}
 use Rattle.collation_search.specs.Selecting.{remembered}

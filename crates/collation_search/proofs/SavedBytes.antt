@@ -1,10 +1,10 @@
 -- The number that stands for the bytes held gives them back.
 use Rattle.std.specs.Int.{is_in_range}
 use Rattle.std.specs.Str.Lossy.{second_byte_min, second_byte_max}
-use Rattle.std.proofs.Common.{◌≡◌, ℕ, ◌+◌, ◌*◌, ◌/◌, ◌%◌, ◌<◌, ◌≤◌, ◌==◌, Bool, true, false, nat_le, cond, ◌&&◌, List, [], ◌∷◌, length, refl, sym, ap, ap₂, ◌∙◌, arith, inl, inr}
+use Rattle.std.proofs.Common.{◌≡◌, ℕ, ◌+◌, ◌*◌, ◌/◌, ◌%◌, ◌<◌, ◌≤◌, ◌==◌, true, nat_le, cond, ◌&&◌, List, [], ◌∷◌, length, refl, ap, ap₂, ◌∙◌, arith, inl, inr}
 use Rattle.std.proofs.lemmas.Bool.{and_parts, cases_Bool, leb-true}
 use Rattle.std.proofs.lemmas.Nat.{div-mul-add, mod-mul-add}
-use Rattle.utf8_cut.specs.Characters.{is_incomplete_sequence, is_incomplete_or_empty}
+use Rattle.utf8_cut.specs.Characters.{is_incomplete_or_empty}
 use Rattle.collation_search.specs.State.{number_of}
 use Rattle.collation_search.specs.StateTests.{bytes_in}
 

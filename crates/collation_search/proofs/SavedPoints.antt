@@ -1,5 +1,5 @@
 -- The words of the points that a finder holds: they give the points back, and they pass the tests of a state.
-use Rattle.std.proofs.Common.{◌≡◌, ℕ, ◌+◌, ◌-◌, ◌*◌, ◌<◌, ◌≤◌, ◌==◌, Bool, true, false, List, [], ◌∷◌, ◌++◌, length, take, drop, refl, sym, ap, ap₂, ◌∙◌, arith, lt-ltb, append_assoc, length-append}
+use Rattle.std.proofs.Common.{◌≡◌, ℕ, ◌-◌, ◌*◌, ◌<◌, ◌≤◌, ◌==◌, Bool, true, List, [], ◌∷◌, ◌++◌, length, take, drop, refl, sym, ap, ap₂, ◌∙◌, lt-ltb, append_assoc}
 use Rattle.std.proofs.Math.Seq.{take-append_seam, drop-append_seam}
 use Rattle.std.specs.Prelude.{bytes_eq, cond}
 use Rattle.std.proofs.lemmas.Bool.{and_from, eq-eqb}
@@ -18,7 +18,7 @@ use Rattle.collation_search.specs.declared.finder.Finder.{Finder}
 use Rattle.collation_search.specs.Finding.{FinderStandsFor}
 use Rattle.collation_search.specs.State.{flag_word, point_words}
 use Rattle.collation_search.specs.declared.states.Head.{Head}
-use Rattle.collation_search.specs.StateTests.{place_part, window_part, waiting_part, decomposed, is_flag, are_places, are_points, points_in, may_be_in_window, may_wait, has_open_tail}
+use Rattle.collation_search.specs.StateTests.{place_part, window_part, waiting_part, decomposed, are_places, are_points, points_in, may_be_in_window, may_wait, has_open_tail}
 use Rattle.collation_search.proofs.MatchingLemmas.{all-among}
 use Rattle.collation_search.proofs.SavingLemmas.{point_words-length}
 use Rattle.collation_search.proofs.StateLemmas.{flag-is, flag-read}

@@ -1,21 +1,16 @@
 -- The words that a search saves are a state, and what is restored from them stands for what the search stood for.
 use Rattle.std.specs.Str.{chars, IsUtf8}
-use Rattle.std.proofs.Common.{◌≡◌, ℕ, ◌+◌, ◌-◌, ◌*◌, ◌%◌, ◌^◌, ◌<◌, ◌≤◌, ◌==◌, Bool, true, false, nat_le, cond, ◌&&◌, ◌||◌, not, List, [], ◌∷◌, ◌++◌, length, take, drop, slice_index, Option, Some, None, refl, sym, ap, ap₂, ◌∙◌, subst, arith}
+use Rattle.std.proofs.Common.{◌≡◌, ℕ, ◌+◌, ◌-◌, ◌*◌, ◌%◌, ◌≤◌, ◌==◌, true, false, nat_le, cond, ◌&&◌, ◌||◌, not, List, [], ◌∷◌, ◌++◌, length, take, drop, slice_index, Option, Some, None, refl, ap, ◌∙◌, arith}
 use Rattle.std.proofs.Math.Dec.{eqb-suc-zero}
 use Rattle.std.proofs.Math.Nat.{mul-mod_right}
 use Rattle.std.proofs.lemmas.Bool.{and_parts, and_from, leb-true, le-leb, eq-eqb, ne_eqb}
 use Rattle.std.proofs.lemmas.List.{length-append, length-drop}
 use Rattle.std.specs.List.{list_all}
 use Rattle.utf8_cut.specs.Characters.{characters_end, after_characters, is_incomplete_or_empty}
-use Rattle.utf8_cut.specs.State.{StandsFor}
 use Rattle.utf8_cut.specs.Value.{CutState}
 use Rattle.nfd_points.specs.Laws.{OffsetsAreWithin, WaitingAreOthers, PointsAreDecomposed}
 use Rattle.nfd_points.specs.Points.{byte_len}
 use Rattle.collation_table.specs.Table.{TableMap, longest_mapped, most_elements}
-use Rattle.collation_elements.specs.declared.settings.Strength.{Strength}
-use Rattle.collation_elements.specs.declared.settings.Strength.TheVariants.{One, Two, Three}
-use Rattle.collation_elements.specs.declared.settings.Variable.{Variable}
-use Rattle.collation_elements.specs.declared.settings.Variable.TheVariants.{NonIgnorable, Shifted}
 use Rattle.collation_elements.specs.Context.{BoundariesAreStarts}
 use Rattle.collation_elements.specs.Weighing.{is_after_variable}
 use Rattle.collation_pattern.specs.Compiled.{Compiled}
@@ -23,8 +18,7 @@ use Rattle.collation_search.specs.declared.faults.TextFault.{TextFault}
 use Rattle.collation_search.specs.declared.finder.Finder.{Finder}
 use Rattle.collation_search.specs.declared.states.Resumed.{Resumed}
 use Rattle.collation_search.specs.declared.states.Head.{Head}
-use Rattle.collation_search.specs.Finding.{FinderStandsFor}
-use Rattle.collation_search.specs.GoodPrefix.{whole, most_bytes, is_good_so_far}
+use Rattle.collation_search.specs.GoodPrefix.{whole, most_bytes}
 use Rattle.collation_search.specs.Resuming.{sizes_of}
 use Rattle.collation_search.specs.Search.{Sought}
 use Rattle.collation_search.specs.Searching.{Searched}
@@ -32,12 +26,12 @@ use Rattle.collation_search.specs.declared.select.Select.{Select}
 use Rattle.collation_search.specs.declared.select.Select.TheVariants.{All, Chain}
 use Rattle.collation_search.specs.Saving.{records_before}
 use Rattle.collation_search.specs.State.{flag_word, form_word, strength_word, variable_word, number_of, place_words, point_words, kept_places, match_waits, head_words, chain_record, chain_words, tail_words, state_words}
-use Rattle.collation_search.specs.StateTests.{is_flag, head, head_len, has_form, is_for, may_be_held, may_match_wait, has_records, is_open_head, is_chain_end, has_open_tail, is_reported, is_state, state_fault, bytes_in}
+use Rattle.collation_search.specs.StateTests.{head, head_len, has_form, is_for, may_be_held, may_match_wait, has_records, is_open_head, is_chain_end, has_open_tail, is_reported, is_state, state_fault}
 use Rattle.collation_search.proofs.SavedBytes.{bytes_in-held, held-few}
 use Rattle.collation_search.proofs.SavedPoints.{PointsAreSaved, points-saved, PartsAre, parts-saved, has_open_tail-saved}
 use Rattle.collation_search.proofs.SavedWalk.{WalkIsSaved, walk-saved, searched-end, saved-match_waits, open_words-tail, open_words-chain_end}
 use Rattle.collation_search.proofs.StateLemmas.{flag-is}
-use Rattle.collation_search.proofs.SavingLemmas.{place_words-length, point_words-length, head_len-records, before_tail-length}
+use Rattle.collation_search.proofs.SavingLemmas.{point_words-length, head_len-records, before_tail-length}
 use Rattle.collation_search.proofs.TextCheckLemmas.{open_cut}
 
 -- the laws of texts and points that this needs

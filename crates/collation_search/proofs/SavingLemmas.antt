@@ -10,7 +10,6 @@ use Rattle.collation_pattern.specs.Compiled.{Compiled}
 use Rattle.collation_search.specs.declared.walk.KeyPlace.{KeyPlace}
 use Rattle.collation_search.specs.declared.faults.TextFault.{TextFault}
 use Rattle.collation_search.specs.declared.finder.Finder.{Finder}
-use Rattle.collation_search.specs.Search.{Sought}
 use Rattle.collation_search.specs.State.{place_record, point_record, place_words, point_words, kept_places, head_words, chain_record, chain_words, state_words}
 use Rattle.collation_search.specs.StateTests.{head_len}
 use Rattle.collation_search.specs.Saving.{BeginsWith, HasRecords, records_before, most_records}

@@ -8,8 +8,6 @@ use Rattle.utf8_cut.specs.Characters.{is_incomplete_or_empty}
 use Rattle.nfd_points.specs.declared.points.Point.{Point}
 use Rattle.nfd_points.specs.Points.{decomposition, is_in_order}
 use Rattle.nfd_points.specs.Reordering.{code_points, is_non_starter, is_closed}
-use Rattle.collation_elements.specs.declared.settings.Strength.{Strength}
-use Rattle.collation_elements.specs.declared.settings.Variable.{Variable}
 use Rattle.collation_search.specs.declared.states.Resumed.{Resumed}
 use Rattle.collation_search.specs.declared.states.Head.{Head}
 use Rattle.collation_search.specs.declared.select.Select.{Select}

@@ -1,5 +1,5 @@
 use Rattle.std.specs.List.{FoldsTo}
-use Rattle.std.proofs.Common.{ℕ, ◌+◌, ◌≤◌, List, length, take}
+use Rattle.std.proofs.Common.{ℕ, ◌≤◌, List, take}
 use Rattle.collation_search.specs.Pieces.{joined, IsUnderWay}
 use Rattle.collation_search.specs.Saving.{most_records}
 use Rattle.collation_search.proofs.pieces.search_in_pieces.Given as goal

@@ -1,5 +1,5 @@
 -- A place more.
-use Rattle.std.proofs.Common.{◌∙◌, arith}
+use Rattle.std.proofs.Common.{◌∙◌}
 use Rattle.collation_search.proofs.StateLemmas.{places-next}
 use Rattle.collation_search.proofs.states.are_places.Goals as goal
 

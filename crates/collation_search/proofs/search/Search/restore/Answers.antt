@@ -1,11 +1,10 @@
 -- The words say a search that has reported a fault, or one that goes on.
 use Rattle.std.specs.Prelude.{IfSome, is_some}
-use Rattle.std.proofs.Common.{◌≡◌, ◌∙◌, ◌<◌, ◌≤◌, ◌-◌, ℕ, List, length, take, drop, sym, ap, ap₂, subst, refl}
+use Rattle.std.proofs.Common.{◌≡◌, ◌∙◌, ◌<◌, ◌≤◌, ◌-◌, length, take, drop, sym, ap, ap₂, subst, refl}
 use Rattle.collation_table.specs.Table.{TableMap}
 use Rattle.collation_pattern.specs.Compiled.{Compiled}
 use Rattle.collation_search.specs.declared.states.Head.{Head}
 use Rattle.collation_search.specs.declared.faults.TextFault.{TextFault}
-use Rattle.collation_search.specs.declared.search.Search.{Search}
 use Rattle.collation_search.specs.Resuming.{GoesOn, BeginsWithFault, IsRestored}
 use Rattle.collation_search.specs.Search.{Sought, sought, HasReported}
 use Rattle.collation_search.specs.declared.select.Select.{Select}
