@@ -1,6 +1,5 @@
 -- What a run has found when its text has ended, and when a write has failed before.
 use Rattle.std.specs.Prelude.{Result, Ok, Err, is_ok, is_err, not, Option}
-use Rattle.std.specs.List.{flat_map}
 use Rattle.std.proofs.Common.{◌≡◌, ◌∙◌, ℕ, ◌+◌, ◌<◌, ◌≤◌, ◌^◌, true, false, List, ◌++◌, length, refl, sym, ap, subst, arith, append_assoc, nat_lt}
 use Rattle.std.proofs.lemmas.List.Concat.{flat_map-append}
 use Rattle.collation_table.specs.Table.{TableMap}
@@ -19,7 +18,7 @@ use Rattle.colfind.specs.declared.lines.Lines.{Lines}
 use Rattle.colfind.specs.declared.output.Output.{Output}
 use Rattle.colfind.specs.declared.run.TextEnd.{TextEnd}
 use Rattle.colfind.specs.declared.run.TextEnd.TheVariants.{Good, Fault, Unread}
-use Rattle.colfind.specs.Devices.{after_piece, with_piece, one_if}
+use Rattle.colfind.specs.Devices.{after_piece, one_if}
 use Rattle.colfind.specs.Finding.{Finds, IsFoundIn, failures_of}
 use Rattle.colfind.specs.Gathering.{Prints}
 use Rattle.colfind.specs.Printing.{output, printed_range, printed_lines}

@@ -1,6 +1,6 @@
 -- A search that has taken one piece more.
-use Rattle.std.specs.Prelude.{Result, Ok, Err, OnOk, Some}
-use Rattle.std.proofs.Common.{◌≡◌, ◌∙◌, ℕ, ◌≤◌, ◌^◌, true, List, [], ◌++◌, length, take, refl, sym, ap, subst, append-nil, arith}
+use Rattle.std.specs.Prelude.{Result, Ok, Err, Some}
+use Rattle.std.proofs.Common.{◌≡◌, ◌∙◌, ℕ, ◌≤◌, ◌^◌, true, List, [], ◌++◌, length, take, sym, ap, subst, append-nil, arith}
 use Rattle.std.proofs.lemmas.List.{length-take}
 use Rattle.std.proofs.lemmas.Bool.{leb-true, and_parts}
 use Rattle.collation_table.specs.declared.lookup.Weights.{Ghosts}

@@ -1,7 +1,6 @@
-use Rattle.std.proofs.Common.{rules, ◌≡◌, ◌∙◌, ◌++◌, [], ℕ, List, length, sym, ap, subst, arith}
+use Rattle.std.proofs.Common.{◌∙◌, ◌++◌, [], ℕ, List, sym, ap, subst, arith}
 use Rattle.colfind.specs.Gathering.{Prints}
 use Rattle.colfind.specs.Patterns.{answer_to, settled_in}
-use Rattle.colfind.specs.Running.{PrintsAll}
 use Rattle.collation_search.specs.Search as search
 use Rattle.colfind.specs.declared.run.TextEnd.TheVariants.{Good, Fault, Unread}
 use Rattle.colfind.proofs.Concluding.{at_most_one, concluded, compiled_from, unwritten, no_failure, one_failure}

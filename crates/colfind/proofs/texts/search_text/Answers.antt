@@ -1,4 +1,4 @@
-use Rattle.std.proofs.Common.{rules, ◌≡◌, ◌∙◌, ◌+◌, ◌≤◌, ◌++◌, [], List, ℕ, length, take, ap, sym, refl, arith, append-nil, length-append}
+use Rattle.std.proofs.Common.{rules, ◌≡◌, ◌∙◌, ◌+◌, ◌≤◌, ◌++◌, [], length, take, ap, sym, arith, append-nil, length-append}
 use Rattle.std.proofs.lemmas.List.{length-take}
 use Rattle.collation_search.specs.GoodPrefix.{is_good_so_far}
 use Rattle.colfind.specs.Devices.{after_piece}

@@ -1,4 +1,4 @@
-use Rattle.std.proofs.Common.{rules, ◌∙◌, ◌+◌, refl, ap, arith, sym}
+use Rattle.std.proofs.Common.{◌∙◌, ◌+◌, ap, arith, sym}
 use Rattle.colfind.specs.Devices.{one_if}
 use Rattle.colfind.proofs.Gathered.{failed-prefix, whole-at_end, prefix-at_end}
 use Rattle.colfind.proofs.lines.Lines.finish.Goals as goal

@@ -1,4 +1,4 @@
-use Rattle.std.proofs.Common.{rules, ◌∙◌, ◌++◌, refl, ap, arith}
+use Rattle.std.proofs.Common.{rules, ◌∙◌, ◌++◌, refl, ap}
 use Rattle.colfind.proofs.Gathered.{grown}
 use Rattle.colfind.proofs.lines.Lines.put.Goals as goal
 

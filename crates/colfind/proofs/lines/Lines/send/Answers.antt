@@ -1,4 +1,4 @@
-use Rattle.std.proofs.Common.{rules, ◌∙◌, refl, sym}
+use Rattle.std.proofs.Common.{◌∙◌, refl, sym}
 use Rattle.colfind.proofs.Gathered.{sent, unsent}
 use Rattle.colfind.proofs.lines.Lines.send.Goals as goal
 
