@@ -41,3 +41,5 @@ pub mod IndexLemmas
 pub mod AsciiRunLemmas
 pub mod AsciiUnitLemmas
 pub mod LoneLemmas
+pub mod RunWindowLemmas
+pub mod PassedLemmas

@@ -1,7 +1,7 @@
--- A character that is a unit by itself, taken out of the front of a window as the next one comes.
+-- What is kept of a character, and a character that is a unit by itself, taken out of the front of a window as the next one comes.
 use Rattle.std.specs.Option.{ForSome, IfSome, OnSome}
 use Rattle.std.specs.List.{Contains}
-use Rattle.std.proofs.lemmas.List.Elements.{All-same, All-drop}
+use Rattle.std.proofs.lemmas.List.Elements.{All-same, All-tail}
 use Rattle.collation_search.proofs.MatchingLemmas.{among-pushed}
 use Rattle.std.proofs.Common.{◌≡◌, ◌∙◌, ℕ, zero, suc, ◌<◌, length, get_or, arith, cond, ltb, ltb-true, Bool, true, false, not, ◌||◌, List, [], ◌∷◌, ◌++◌, take, drop, slice_get, Option, Some, None, refl, sym, ap, ap₂, subst, append_assoc}
 use Rattle.std.proofs.lemmas.Option.{none-some, same_Some}
@@ -16,11 +16,11 @@ use Rattle.collation_elements.specs.declared.settings.Variable.{Variable}
 use Rattle.collation_elements.specs.Units.{units}
 use Rattle.collation_elements.specs.Windows.{Held}
 use Rattle.collation_elements.specs.Weighing.{weigher, WeigherStandsFor}
-use Rattle.collation_elements.specs.Lone.{items_at, AreItemsOf}
+use Rattle.collation_elements.specs.Lone.{AreItemsOf}
 use Rattle.collation_pattern.specs.Compiled.{Compiled}
 use Rattle.collation_search.specs.declared.ascii_units.AsciiUnit.{AsciiUnit}
 use Rattle.collation_search.specs.declared.walk.Walk.{Walk}
-use Rattle.collation_search.specs.AsciiUnits.{IsAsciiUnit, IsLoneFront}
+use Rattle.collation_search.specs.AsciiUnits.{IsAsciiUnit, IsCutOff}
 use Rattle.collation_search.specs.Matching.{HasMatched}
 use Rattle.collation_search.specs.Walks.{WalksOver}
 
@@ -50,15 +50,10 @@ items_kept table pattern first unit true o same kept =
 items_kept table pattern first unit false o same kept =
     subst (λ (o' : Option LoneItems). IfSome o' (λ lone. AreItemsOf table (weigher pattern.strength pattern.variable false) first lone)) (sym same) (if_some unit.items _ kept.2)
 
--- the first character is cut off before the second
-abbrev pub IsCutOff : TableMap → ℕ → ℕ → Type 0
-IsCutOff table first next =
-    (start later : ℕ) (rest : List Point) → units table (ascii_point start first ∷ ascii_point later next ∷ rest) ≡ (ascii_point start first ∷ []) ∷ units table (ascii_point later next ∷ rest)
-
-abbrev AloneLaw : Type 0
+abbrev pub AloneLaw : Type 0
 AloneLaw = (table : TableMap) (p : Point) (rest : List Point) → BeginsNoLongerString table p.cp → units table (p ∷ rest) ≡ (p ∷ []) ∷ units table rest
 
-abbrev BeforeLaw : Type 0
+abbrev pub BeforeLaw : Type 0
 BeforeLaw =
     (table : TableMap) (p d : Point) (rest : List Point) → is_starter d ≡ true → ContinuesNoString table d.cp → units table (p ∷ d ∷ rest) ≡ (p ∷ []) ∷ units table (d ∷ rest)
 
@@ -68,56 +63,36 @@ cut_off alone before table pattern first next unit following false k begins goes
 cut_off alone before table pattern first next unit following true false begins goes_on one other apart = λ start later rest. before table (ascii_point start first) (ascii_point later next) rest refl (other.1 (sym goes_on))
 cut_off alone before table pattern first next unit following true true begins goes_on one other apart = cc
 
--- ---- the front of a window
-
-pub lone_front_from : (table : TableMap) (pattern : Compiled) (ps : List Point) (p d : Point) (after told : Bool) (lone : LoneItems) → slice_get ps 0 ≡ Some p → slice_get ps 1 ≡ Some d →
-    p ≡ ascii_point p.offset p.cp → d ≡ ascii_point d.offset d.cp → told ≡ after → IsCutOff table p.cp d.cp → AreItemsOf table (weigher pattern.strength pattern.variable told) p.cp lone →
-    IsLoneFront table pattern ps after lone p.offset
-lone_front_from table pattern [] p d after told lone first next pa da same cut items = absurd (none-some p first)
-lone_front_from table pattern (x ∷ []) p d after told lone first next pa da same cut items = absurd (none-some d next)
-lone_front_from table pattern (x ∷ y ∷ rest) p d after told lone first next pa da same cut items =
-    let xp : x ≡ ascii_point p.offset p.cp = same_Some x p first ∙ pa in
-    let yd : y ≡ ascii_point d.offset d.cp = same_Some y d next ∙ da in
-    record {
-      cp = p.cp;
-      first = ap (λ (q : Point). q ∷ []) xp;
-      items = subst (λ (b : Bool). AreItemsOf table (weigher pattern.strength pattern.variable b) p.cp lone) same items;
-      cut = λ more.
-          ap₂ (λ (a b : Point). units table (a ∷ b ∷ (rest ++ more))) xp yd ∙ cut p.offset d.offset (rest ++ more)
-          ∙ ap₂ (λ (a b : Point). (a ∷ []) ∷ units table (b ∷ (rest ++ more))) (sym xp) (sym yd);
-    }
-
 -- ---- the next character
 
 ended_not : (b : Bool) → b ≡ false → b ≡ true → ⊥
 ended_not b going ended = cc
 
-pub after_lone : (table : TableMap) (pattern : Compiled) (points : List Point) (x : Point) (old new : Held) (w w' : Weigher) (walk walk' : Walk) (lone : LoneItems) (start : ℕ) (ranges found : List (ℕ × ℕ)) →
-    IsLoneFront table pattern old.points w.after_variable lone start → old.has_ended ≡ false → new.points ≡ drop 1 old.points ++ x ∷ [] →
-    ((cp : ℕ) (us : List (List Point)) (items : List Item) → AreItemsOf table w cp lone → WeigherStandsFor table w us items →
-    WeigherStandsFor table w' (us ++ (ascii_point start cp ∷ []) ∷ []) (items ++ items_at lone start)) →
-    w' ≡ weigher w.strength w.variable lone.after_variable →
-    ((before : List Item) (rs : List (ℕ × ℕ)) → WalksOver pattern.keys before rs walk → WalksOver pattern.keys (before ++ items_at lone start) (rs ++ found) walk') →
+pub after_lone : (table : TableMap) (pattern : Compiled) (points : List Point) (x : Point) (old new : Held) (w w' : Weigher) (walk walk' : Walk) (start cp : ℕ) (given : List Item) (ranges found : List (ℕ × ℕ)) →
+    old.has_ended ≡ false → old.points ++ x ∷ [] ≡ ascii_point start cp ∷ new.points →
+    ((more : List Point) → units table (ascii_point start cp ∷ (new.points ++ more)) ≡ (ascii_point start cp ∷ []) ∷ units table (new.points ++ more)) →
+    (w.strength ≡ pattern.strength → w.variable ≡ pattern.variable → (us : List (List Point)) (items : List Item) → WeigherStandsFor table w us items →
+    WeigherStandsFor table w' (us ++ (ascii_point start cp ∷ []) ∷ []) (items ++ given)) →
+    w'.strength ≡ w.strength → w'.variable ≡ w.variable →
+    ((before : List Item) (rs : List (ℕ × ℕ)) → WalksOver pattern.keys before rs walk → WalksOver pattern.keys (before ++ given) (rs ++ found) walk') →
     HasMatched table pattern old w walk points ranges → HasMatched table pattern new w' walk' (points ++ x ∷ []) (ranges ++ found)
-after_lone table pattern points x old new w w' walk walk' lone start ranges found front going shifted weighs after walks h =
-    let first = take 1 old.points in
-    let here : AreItemsOf table w front.cp lone =
-    subst (λ (v : Weigher). AreItemsOf table v front.cp lone) (ap₂ (λ (s : Strength) (v : Variable). weigher s v w.after_variable) (sym h.strength) (sym h.variable)) front.items in
+after_lone table pattern points x old new w w' walk walk' start cp given ranges found going front cut weighs strength variable walks h =
+    let p : Point = ascii_point start cp in
+    let unit : List (List Point) = (p ∷ []) ∷ [] in
     record {
-      units = h.units ++ first ∷ [];
-      items = h.items ++ items_at lone start;
+      units = h.units ++ unit;
+      items = h.items ++ given;
       cut = record {
         continues = λ more open_window.
             ap (units table) (append_assoc points (x ∷ []) more) ∙ h.cut.continues (x ∷ more) (λ e. absurd (ended_not old.has_ended going e))
-            ∙ ap (λ (us : List (List Point)). h.units ++ us) (front.cut (x ∷ more))
-            ∙ sym (append_assoc h.units (first ∷ []) (units table (drop 1 old.points ++ x ∷ more)))
-            ∙ ap (λ (ps : List Point). (h.units ++ first ∷ []) ++ units table ps) (sym (append_assoc (drop 1 old.points) (x ∷ []) more))
-            ∙ ap (λ (ps : List Point). (h.units ++ first ∷ []) ++ units table (ps ++ more)) (sym shifted);
+            ∙ ap (λ (ps : List Point). h.units ++ units table ps) (sym (append_assoc old.points (x ∷ []) more) ∙ ap (λ (ps : List Point). ps ++ more) front)
+            ∙ ap (λ (us : List (List Point)). h.units ++ us) (cut more)
+            ∙ sym (append_assoc h.units unit (units table (new.points ++ more)));
       };
-      weighed = subst (λ (u : List Point). WeigherStandsFor table w' (h.units ++ u ∷ []) (h.items ++ items_at lone start)) (sym front.first) (weighs front.cp h.units h.items here h.weighed);
+      weighed = weighs h.strength h.variable h.units h.items h.weighed;
       walked = walks h.items ranges h.walked;
-      strength = ap (λ (v : Weigher). v.strength) after ∙ h.strength;
-      variable = ap (λ (v : Weigher). v.variable) after ∙ h.variable;
-      kept = All-same (Contains (points ++ x ∷ [])) new.points (drop 1 old.points ++ x ∷ []) shifted
-          (among-pushed points (drop 1 old.points) (x ∷ []) (All-drop (Contains points) 1 old.points h.kept));
+      strength = strength ∙ h.strength;
+      variable = variable ∙ h.variable;
+      kept = All-tail (Contains (points ++ x ∷ [])) p new.points
+          (All-same (Contains (points ++ x ∷ [])) (p ∷ new.points) (old.points ++ x ∷ []) (sym front) (among-pushed points old.points (x ∷ []) h.kept));
     }

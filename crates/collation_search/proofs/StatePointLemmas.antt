@@ -71,11 +71,11 @@ right-next end (a ∷ b ∷ c ∷ d ∷ later) len e =
 abbrev pub no_point : Point
 no_point = record { cp = 0; ccc = 0; offset = 0; first = false }
 
-after-none : (run : ℕ) → has_short_runs run [] ≡ true
+pub after-none : (run : ℕ) → has_short_runs run [] ≡ true
 unfolding has_short_runs
 after-none run = refl
 
-run-starter : (run c : ℕ) (cs : List ℕ) → canonical_combining_class c ≡ 0 → has_short_runs run (c ∷ cs) ≡ has_short_runs 0 cs
+pub run-starter : (run c : ℕ) (cs : List ℕ) → canonical_combining_class c ≡ 0 → has_short_runs run (c ∷ cs) ≡ has_short_runs 0 cs
 unfolding has_short_runs
 run-starter run c cs h = rw h refl
 

@@ -1,8 +1,10 @@
 //! What a search keeps of the ASCII characters, made once, so that its table is not asked for them again: the items of each as a
-//! unit by itself, and whether it stands in the longer strings that the table maps.
-ghost use Rattle.std.specs.Prelude.{◌≡◌, ℕ, ◌<◌, ◌||◌, not, slice_get, if◌then◌else◌};
+//! unit by itself, whether it stands in the longer strings that the table maps, and whether it is passed by where no key of the
+//! pattern waits.
+ghost use Rattle.std.specs.Prelude.{◌≡◌, ℕ, ◌<◌, ◌||◌, Bool, true, false, not, slice_get, if◌then◌else◌};
 ghost use Rattle.std.specs.Option.{ForSome};
-ghost use Rattle.collation_search.specs.AsciiUnits.{IsAsciiUnit};
+ghost use Rattle.collation_table.specs.Table.{TableMap, ContinuesNoString};
+ghost use Rattle.collation_search.specs.AsciiUnits.{IsAsciiUnit, IsPassed};
 
 use crate::search::Query;
 use collation_elements::{LoneItems, Weigher, lone_points_are_units};
@@ -58,6 +60,53 @@ fn ascii_units<W: Weights>(table: &W, pattern: &Pattern) -> [AsciiUnit; 128]
     units
 }
 
+/// Whether some of these characters may stand after the first place in a mapped string.
+fn any_continues(units: &[AsciiUnit]) -> bool
+    ensures { result ≡ false → (c : ℕ) → ForSome (slice_get units.now c) (λ unit. unit.continues ≡ false) }
+{
+    for unit in units {
+        if unit.continues {
+            return true;
+        }
+    }
+    false
+}
+
+/// Whether a character is passed by where no key of the pattern waits: not where it begins a longer string and some character
+/// goes on with one.
+fn is_passed(pattern: &Pattern, unit: &AsciiUnit, some_continues: bool) -> bool
+    ensures { result ≡ true → (table : TableMap) (c : ℕ) → IsAsciiUnit table pattern.now c unit.now
+        → (some_continues ≡ false → (next : ℕ) → next < 128 → ContinuesNoString table next) → IsPassed table pattern.now c }
+{
+    lone_points_are_units();
+    if some_continues && unit.begins_longer {
+        return false;
+    }
+    let Some(lone) = unit.items else {
+        return false;
+    };
+    let Some(key) = lone.key else {
+        return false;
+    };
+    if !lone.begins_cluster || lone.after_variable {
+        return false;
+    }
+    pattern.advance(0, &key) == 0
+}
+
+/// Which characters are passed by, each at the place of its code point.
+fn passed_units(pattern: &Pattern, units: &[AsciiUnit; 128]) -> [bool; 128]
+    ensures { (table : TableMap) → ((c : ℕ) → ForSome (slice_get units.now c) (IsAsciiUnit table pattern.now c))
+        → (c : ℕ) → ForSome (slice_get result c) (λ (passed : Bool). passed ≡ true → IsPassed table pattern.now c) }
+{
+    let some_continues = any_continues(units);
+    let mut passed = [false; ASCII];
+    for c in 0..ASCII {
+        passed[c] = is_passed(pattern, &units[c], some_continues);
+    }
+    passed
+}
+
 /// Whether a character is a unit by itself before the next one.
 #[inline(always)]
 fn are_apart(unit: &AsciiUnit, following: &AsciiUnit) -> bool
@@ -79,7 +128,8 @@ fn items_of(unit: &AsciiUnit, after_variable: bool) -> Option<LoneItems>
 }
 
 impl<'a, W: Weights> Query<'a, W> {
-    ghost use Rattle.std.specs.Prelude.{◌≡◌, ℕ, List, [], ◌∷◌, IfSome, OnSome};
+    ghost use Rattle.std.specs.Prelude.{◌≡◌, ℕ, ◌<◌, ◌≤◌, List, [], ◌∷◌, length, slice_index, IfSome, OnSome};
+    ghost use Rattle.std.specs.Str.{IsAscii};
     ghost use Rattle.nfd_points.specs.declared.points.Point.{Point};
     ghost use Rattle.nfd_points.specs.Points.{ascii_point};
     ghost use Rattle.collation_elements.specs.Units.{units};
@@ -91,11 +141,14 @@ impl<'a, W: Weights> Query<'a, W> {
         ensures table { W.table result.table.now ≡ W.table table.now }
         ensures pattern { result.pattern.now ≡ pattern.now }
     {
+        let ascii = ascii_units(table, pattern);
+        let passed = passed_units(pattern, &ascii);
         Query {
             table,
             pattern,
             longest_key: table.longest_key(),
-            ascii: ascii_units(table, pattern),
+            ascii,
+            passed,
         }
     }
 
@@ -116,5 +169,20 @@ impl<'a, W: Weights> Query<'a, W> {
             return None;
         }
         items_of(unit, after_variable)
+    }
+
+    /// How many characters at the front of a run are passed by where no key of the pattern waits.
+    #[inline(always)]
+    pub(crate) fn passed_len(&self, run: &[u8]) -> usize
+        requires { IsAscii run.now }
+        ensures within { result ≤ length run.now }
+        ensures passed { (k : ℕ) → k < result → IsPassed (W.table self.now.table.now) self.now.pattern.now (slice_index run.now k) }
+    {
+        for (i, c) in run.iter().enumerate() {
+            if !self.passed[*c as usize] {
+                return i;
+            }
+        }
+        run.len()
     }
 }

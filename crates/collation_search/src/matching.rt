@@ -125,6 +125,7 @@ fn take_long(
         → WalksOver pattern.now.keys (before ++ value_items weigher.old unit.entry) (ranges ++ found.new.items) walk.new }
     ensures few { array_vec_len found.new ≤ array_vec_len found.old + 1 }
     ensures state { walk.new.state ≤ length pattern.now.keys }
+    ensures select { walk.new.select ≡ walk.old.select }
 {
     weigher.take(&unit, items);
     walk_over(walk, pattern, items.as_slice(), found);

@@ -1,8 +1,8 @@
 //! The search over a stream of bytes.
-ghost use Rattle.std.specs.Prelude.{◌≡◌, ℕ, ◌+◌, ◌<◌, ◌≤◌, length, slice_get, None, false};
+ghost use Rattle.std.specs.Prelude.{◌≡◌, ℕ, ◌+◌, ◌<◌, ◌≤◌, Bool, length, slice_get, None, true, false};
 ghost use Rattle.std.specs.Option.{ForSome};
 ghost use Rattle.collation_table.specs.Table.{longest_mapped as longest_key_of};
-ghost use Rattle.collation_search.specs.AsciiUnits.{IsAsciiUnit};
+ghost use Rattle.collation_search.specs.AsciiUnits.{IsAsciiUnit, IsPassed};
 ghost use Rattle.collation_search.specs.GoodPrefix.{most_bytes};
 
 use crate::ascii_units::AsciiUnit;
@@ -30,8 +30,11 @@ pub(crate) struct Query<'a, W: Weights> {
     pub(crate) longest_key: usize,
     /// What is kept of the ASCII characters, so that the table is not asked for them again.
     pub(crate) ascii: [AsciiUnit; 128],
+    /// Which of them are passed by where no key of the pattern waits.
+    pub(crate) passed: [bool; 128],
     ghost longest: { longest_key ≡ longest_key_of (W.table table.now) },
     ghost units: { (c : ℕ) → ForSome (slice_get ascii c) (IsAsciiUnit (W.table table.now) pattern.now c) },
+    ghost passed_by: { (c : ℕ) → ForSome (slice_get passed c) (λ (by : Bool). by ≡ true → IsPassed (W.table table.now) pattern.now c) },
 }
 
 /// A search for a pattern in a text whose bytes come in pieces.
