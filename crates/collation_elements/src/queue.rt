@@ -70,7 +70,13 @@ impl Queue {
         ensures code_point { result.cp < 0x110000 }
     {
         match self.points.get(index) {
-            Some(p) => *p,
+            // field by field: what lies between the fields would be copied too, and that waits for the last write
+            Some(p) => Point {
+                cp: p.cp,
+                ccc: p.ccc,
+                offset: p.offset,
+                first: p.first,
+            },
             None => unreachable!(),
         }
     }
