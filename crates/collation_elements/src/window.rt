@@ -186,6 +186,15 @@ fn prefix_length<W: Weights>(points: &Queue, table: &W, is_alone: bool) -> usize
     if is_alone {
         return 1;
     }
+    longest_string(points, table)
+}
+
+/// How many points the longest mapped string at the front has, or 1 where none is one.
+#[inline(never)]
+fn longest_string<W: Weights>(points: &Queue, table: &W) -> usize
+    requires { 0 < length points.now.items }
+    ensures { result ≡ prefix_length (W.table table.now) points.now.items }
+{
     let prefix = points.prefix(table.longest_key());
     table.longest(prefix.as_slice()).max(1)
 }
@@ -215,13 +224,27 @@ fn cut<'t, W: Weights>(points: &mut Queue, table: &'t W, front: Front<'t>) -> Un
         points.new ≡ buffer cut.rest points.old.capacity }
     ensures unit { IsUnitOf (W.table table.now) (next_cut (W.table table.now) points.old.items).unit result }
 {
-    let first_point = points.point(0);
     if let Some(row) = front.lone {
+        let first_point = points.point(0);
         points.skip(1);
         return Unit::of_one(table, first_point, row);
     }
-    let mut string = points.prefix(front.taken);
-    points.skip(front.taken);
+    cut_string(points, table, front.taken)
+}
+
+/// Takes the first unit, which begins with the first `taken` points: the longest mapped string at the front, or one point. It is kept
+/// apart, so that its string needs no room where a point is a unit by itself.
+#[inline(never)]
+fn cut_string<'t, W: Weights>(points: &mut Queue, table: &'t W, taken: usize) -> Unit<'t>
+    requires some { 0 < length points.old.items }
+    requires beginning { taken ≡ prefix_length (W.table table.now) points.old.items }
+    ensures rest { let cut = next_cut (W.table table.now) points.old.items in
+        points.new ≡ buffer cut.rest points.old.capacity }
+    ensures unit { IsUnitOf (W.table table.now) (next_cut (W.table table.now) points.old.items).unit result }
+{
+    let first_point = points.point(0);
+    let mut string = points.prefix(taken);
+    points.skip(taken);
     take_joining(points, table, &mut string);
     Unit::new(table, first_point, string.as_slice())
 }
