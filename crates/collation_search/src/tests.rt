@@ -15,6 +15,7 @@ mod long_keys;
 mod long_texts;
 mod pieces;
 mod resumed_chains;
+mod refusals;
 mod resuming;
 mod searches;
 
