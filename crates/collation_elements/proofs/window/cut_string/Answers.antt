@@ -4,9 +4,9 @@ use Rattle.nfd_points.specs.declared.points.Point.{Point}
 use Rattle.circular_buffer.specs.Buffer.{Buffer, buffer}
 use Rattle.collation_elements.specs.Units.{code_points, Cut, extended}
 use Rattle.collation_elements.specs.Windows.{next_cut}
-use Rattle.collation_elements.proofs.Cutting.{next_cut-of, prefix_length-le}
+use Rattle.collation_elements.proofs.Cutting.{next_cut-of}
 use Rattle.collation_elements.proofs.Cuts.{IsUnitOf-cut}
-use Rattle.collation_elements.proofs.Longest.{longest_prefix-le_longest}
+use Rattle.collation_elements.proofs.Longest.{longest_prefix-le_longest, prefix_length-le}
 use Rattle.collation_elements.proofs.window.cut_string.Goals as goal
 
 pub prefix-string-requires : goal.prefix-string-requires

@@ -1,4 +1,4 @@
-use Rattle.std.proofs.Common.{◌≡◌, ◌<◌, List, Some, length, get_or, slice_get, sym}
+use Rattle.std.proofs.Common.{◌≡◌, ◌<◌, List, false, Some, length, get_or, slice_get, sym}
 use Rattle.std.proofs.lemmas.Option.{slice_get-get_or}
 use Rattle.nfd_points.specs.declared.points.Point.{Point}
 use Rattle.collation_elements.proofs.Alone.{prefix_length-alone}
