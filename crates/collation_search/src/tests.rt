@@ -14,8 +14,8 @@ mod first_ranges;
 mod long_keys;
 mod long_texts;
 mod pieces;
-mod resumed_chains;
 mod refusals;
+mod resumed_chains;
 mod resuming;
 mod searches;
 
