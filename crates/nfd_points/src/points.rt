@@ -15,10 +15,10 @@ pub struct Point {
     pub cp: u32,
     /// Its canonical combining class, which is 0 exactly for a starter.
     pub ccc: u8,
-    /// The offset in bytes, from the beginning of the text, of the code point that it comes from.
-    pub offset: u64,
     /// Whether it is the first of that code point's decomposition.
     pub first: bool,
+    /// The offset in bytes, from the beginning of the text, of the code point that it comes from.
+    pub offset: u64,
 }
 
 impl Point {
