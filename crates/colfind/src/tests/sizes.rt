@@ -1,6 +1,6 @@
 //! Tables, texts and lists of matches of some size.
 
-use super::{ill_formed_at, outcome_of};
+use super::{TABLE, ill_formed_at, outcome_of};
 use crate::memory::{MemorySource, MemoryTarget};
 use crate::output::Output;
 use crate::run::{Outcome, run};
@@ -136,5 +136,52 @@ fn many_matches_before_a_read_that_fails(rt: HostRuntime) -> Result<(), Fail> {
     assert_eq!(rt; outcome, Outcome::Read(1_100));
     // The match that ends at the last byte read is not settled.
     assert_eq!(rt; out.bytes(), lines(alloc, 549)?.as_bytes());
+    Ok(())
+}
+
+/// What a run reports of a pattern in a text, with a table of one more row.
+fn outcome_with(alloc: Global, row: &str, pattern: &str, text: &str) -> Result<Outcome, Fail> {
+    let mut rows = TABLE.to_owned(alloc)?;
+    rows.push_str(row)?;
+    let table = Table::read(alloc, rows.as_bytes())?;
+    let (strength, variable) = (Strength::Three, Variable::NonIgnorable);
+    let pattern = Pattern::compile(alloc, &table, pattern, strength, variable)?;
+    let mut reader = MemorySource::new(text.as_bytes(), 1_000);
+    let mut out = MemoryTarget::new(alloc);
+    Ok(run(
+        alloc,
+        &table,
+        &pattern,
+        Output::Count,
+        &mut reader,
+        &mut out,
+    ))
+}
+
+#[test]
+fn the_longest_string_in_its_repetition(rt: HostRuntime) -> Result<(), Fail> {
+    let alloc = rt.alloc();
+    let string = "0062 ".repeat(alloc, 64)?;
+    let row = format!(in alloc; "{}; [.1C18.0020.0002]\n", string.as_str())?;
+    let letters = "b".repeat(alloc, 64)?;
+    let text = letters.repeat(alloc, 1_000)?;
+    let whole = outcome_with(alloc, row.as_str(), letters.as_str(), text.as_str())?;
+    assert_eq!(rt; whole, Outcome::Done(1_000));
+    // Alone no letter of the text is a unit.
+    let one = outcome_with(alloc, row.as_str(), "b", text.as_str())?;
+    assert_eq!(rt; one, Outcome::Done(0));
+    Ok(())
+}
+
+#[test]
+fn the_largest_row_at_each_letter(rt: HostRuntime) -> Result<(), Fail> {
+    let alloc = rt.alloc();
+    let elements = "[.1E00.0020.0002]".repeat(alloc, 128)?;
+    let row = format!(in alloc; "0078 ; {}\n", elements.as_str())?;
+    let text = "x".repeat(alloc, 10_000)?;
+    for (pattern, matches) in [("x", 10_000), ("xx", 9_999), ("xb", 0)] {
+        let outcome = outcome_with(alloc, row.as_str(), pattern, text.as_str())?;
+        assert_eq!(rt; outcome, Outcome::Done(matches));
+    }
     Ok(())
 }
