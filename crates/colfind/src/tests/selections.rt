@@ -1,7 +1,10 @@
 //! All matches, or a chain of them that do not overlap: what a run prints and reports of each, and what the program does by its
 //! words.
 
+ghost use Rattle.std.specs.Prelude.{◌<◌, ◌^◌};
+
 use super::{TABLE, answered, file_with, ill_formed_at};
+use crate::devices::{Source, Target};
 use crate::memory::MemorySource;
 use crate::output::Output;
 use crate::run::{Outcome, run_with};
@@ -81,12 +84,15 @@ fn a_chain_of_matches(rt: HostRuntime) -> Result<(), Fail> {
 }
 
 /// What a run for `aa` reports over these devices.
-fn reported_of(
+fn reported_of<R: Source, O: Target>(
     alloc: Global,
     select: Select,
-    reader: &mut FailingSource,
-    out: &mut FailingTarget,
-) -> Result<Outcome, Fail> {
+    reader: &mut R,
+    out: &mut O,
+) -> Result<Outcome, Fail>
+    requires reads { R.failures reader.old < 2 ^ 63 }
+    requires writes { O.failures out.old < 2 ^ 63 }
+{
     let table = Table::read(alloc, TABLE.as_bytes())?;
     let (strength, variable) = (Strength::Three, Variable::NonIgnorable);
     let pattern = Pattern::compile(alloc, &table, "aa", strength, variable)?;
@@ -149,24 +155,48 @@ fn compare_words(
     Ok(())
 }
 
-const CHAIN: [&str; 2] = ["--select", "chain"];
-
 #[test]
 fn the_words_select_all_or_a_chain(rt: HostRuntime) -> Result<(), Fail> {
     let path = file_with(&rt, "selections", TABLE)?;
     let two = "0:2\n2:4\n";
     let fault = "colfind: fault 31 at 5\n";
-    let counted = ["--output", "count", "--select=chain"];
-    let marked = ["--select=chain", "--output", "marks"];
     let rows: [WordsRow; 12] = [
-        (&CHAIN, "aa", b"aaa", 0, "0:2\n", ""),
-        (&counted, "aa", b"aaa", 0, "1\n", ""),
-        (&CHAIN, "aa", b"aaaa", 0, two, ""),
-        (&CHAIN, "a", b"aaa", 0, "0:1\n1:2\n2:3\n", ""),
-        (&CHAIN, "aa", b"aaaaa\xff", 2, two, fault),
-        (&marked, "aa", b"aaaa", 0, "[0\n]2\n[2\n]4\n", ""),
-        (&CHAIN, "aa", b"a", 1, "", ""),
-        (&counted, "aa", b"a", 1, "0\n", ""),
+        (&["--select", "chain"], "aa", b"aaa", 0, "0:2\n", ""),
+        (
+            &["--output", "count", "--select=chain"],
+            "aa",
+            b"aaa",
+            0,
+            "1\n",
+            "",
+        ),
+        (&["--select", "chain"], "aa", b"aaaa", 0, two, ""),
+        (
+            &["--select", "chain"],
+            "a",
+            b"aaa",
+            0,
+            "0:1\n1:2\n2:3\n",
+            "",
+        ),
+        (&["--select", "chain"], "aa", b"aaaaa\xff", 2, two, fault),
+        (
+            &["--select=chain", "--output", "marks"],
+            "aa",
+            b"aaaa",
+            0,
+            "[0\n]2\n[2\n]4\n",
+            "",
+        ),
+        (&["--select", "chain"], "aa", b"a", 1, "", ""),
+        (
+            &["--output", "count", "--select=chain"],
+            "aa",
+            b"a",
+            1,
+            "0\n",
+            "",
+        ),
         (&["--select", "all"], "aa", b"aaa", 0, "0:2\n1:3\n", ""),
         (&["--select=all"], "aa", b"aaa", 0, "0:2\n1:3\n", ""),
         (&[], "aa", b"aaa", 0, "0:2\n1:3\n", ""),
@@ -203,16 +233,28 @@ fn a_chain_of_the_matches_in_a_text_file(rt: HostRuntime) -> Result<(), Fail> {
 fn other_words_select_nothing(rt: HostRuntime) -> Result<(), Fail> {
     let path = file_with(&rt, "no-selection", TABLE)?;
     let usage = "colfind: usage\n";
-    let twice = ["--select", "chain", "--select", "chain"];
-    let both = ["--select=all", "--select=chain"];
     let rows: [WordsRow; 7] = [
         (&["--select", "chains"], "aa", b"aaa", 2, "", usage),
         (&["--select", "Chain"], "aa", b"aaa", 2, "", usage),
         (&["--select", ""], "aa", b"aaa", 2, "", usage),
         (&["--select="], "aa", b"aaa", 2, "", usage),
         (&["--select"], "aa", b"aaa", 2, "", usage),
-        (&twice, "aa", b"aaa", 2, "", usage),
-        (&both, "aa", b"aaa", 2, "", usage),
+        (
+            &["--select", "chain", "--select", "chain"],
+            "aa",
+            b"aaa",
+            2,
+            "",
+            usage,
+        ),
+        (
+            &["--select=all", "--select=chain"],
+            "aa",
+            b"aaa",
+            2,
+            "",
+            usage,
+        ),
     ];
     compare_words(&rt, &rt, path.as_str(), &rows)?;
     fs::remove_file(&rt, path.as_str())?;
