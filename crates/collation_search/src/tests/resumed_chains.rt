@@ -134,12 +134,17 @@ fn chains_resumed_after_each_byte(rt: HostRuntime) -> Result<(), Fail> {
         kind: 31,
         offset: 5,
     };
-    let cases: [(&[u8], &[Range], Option<TextFault>); 3] = [
-        (b"aaa", &[(0, 2)], None),
-        (b"aaaa", &[(0, 2), (2, 4)], None),
-        (b"aaaaa\xff", &[(0, 2), (2, 4)], Some(bad)),
+    let cases: [(&[u8], &[&[u8]], &[Range], Option<TextFault>); 3] = [
+        (b"aaa", &[b"aa", b"a"], &[(0, 2)], None),
+        (b"aaaa", &[b"aa", b"aa"], &[(0, 2), (2, 4)], None),
+        (
+            b"aaaaa\xff",
+            &[b"aa", b"aaa\xff"],
+            &[(0, 2), (2, 4)],
+            Some(bad),
+        ),
     ];
-    for (text, want, fault) in cases {
+    for (text, pieces, want, fault) in cases {
         let (answered, most_words) = resumed(&rt, alloc, &table, &pattern, Select::Chain, text, 1)?;
         assert_eq!(rt; answered.0.as_slice(), want);
         assert_eq!(rt; answered.1, fault);
@@ -150,7 +155,7 @@ fn chains_resumed_after_each_byte(rt: HostRuntime) -> Result<(), Fail> {
             &table,
             &pattern,
             Select::Chain,
-            &[&text[..2], &text[2..]],
+            pieces,
             &mut |start, end| {
                 ranges.push((start, end)).expect(&rt, "memory");
             },
