@@ -29,7 +29,9 @@ fn compare<W: Weights>(
     table: &W,
     most: usize,
     rows: &[Row],
-) -> Result<(), Fail> {
+) -> Result<(), Fail>
+    requires { 0 < most }
+{
     let (strength, variable) = (Strength::Three, Variable::NonIgnorable);
     for (form, pattern, text, printed, outcome) in rows {
         let pattern = Pattern::compile(alloc, table, *pattern, strength, variable)?;
@@ -76,10 +78,10 @@ fn a_chain_of_matches(rt: HostRuntime) -> Result<(), Fail> {
     ];
     let table = Table::read(alloc, TABLE.as_bytes())?;
     let plain = PlainTable::read(alloc, TABLE.as_bytes())?;
-    for most in [1, 3, usize::MAX] {
-        compare(&rt, alloc, &table, most, &rows)?;
-        compare(&rt, alloc, &plain, most, &rows)?;
-    }
+    compare(&rt, alloc, &table, 1, &rows)?;
+    compare(&rt, alloc, &table, 3, &rows)?;
+    compare(&rt, alloc, &table, usize::MAX, &rows)?;
+    compare(&rt, alloc, &plain, 1, &rows)?;
     Ok(())
 }
 
