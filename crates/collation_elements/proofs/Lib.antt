@@ -19,4 +19,5 @@ pub mod ContextParts
 pub mod ContextTexts
 pub mod ContextUnits
 pub mod ContextWeights
+pub mod Apart
 pub mod TextLemmas

@@ -25,7 +25,7 @@ length_mapped T string found = mapped_length_among string T.rows found
 pub long_list-is_mapped : (T : TableMap) (string : List ℕ) → longest_mapped T < length string → is_mapped T string ≡ false
 long_list-is_mapped T string long = false_from_ne_true (is_mapped T string) (λ found. let h : length string ≤ longest_mapped T = length_mapped T string found in absurd (omega arith))
 
-longest_prefix_within-le : (T : TableMap) (ps : List ℕ) (n : ℕ) → longest_prefix_within T ps n ≤ n
+pub longest_prefix_within-le : (T : TableMap) (ps : List ℕ) (n : ℕ) → longest_prefix_within T ps n ≤ n
 longest_prefix_within-le T ps zero = omega arith
 longest_prefix_within-le T ps (suc n) = le_step (is_mapped T (take (suc n) ps)) n (longest_prefix_within T ps n) (longest_prefix_within-le T ps n) where
   le_step : (b : Bool) (n m : ℕ) → m ≤ n → cond b (suc n) m ≤ suc n

@@ -1,5 +1,5 @@
 //! Laws about the definitions: each is the contract of a function that does nothing.
-ghost use Rattle.std.specs.Prelude.{◌≡◌, List, [], ◌∷◌, ◌++◌, true, false};
+ghost use Rattle.std.specs.Prelude.{◌≡◌, List, [], ◌∷◌, ◌++◌, true, false, All};
 ghost use Rattle.nfd_points.specs.declared.points.Point.{Point};
 ghost use Rattle.nfd_points.specs.Points.{is_starter};
 ghost use Rattle.nfd_points.specs.Reordering.{is_closed};
@@ -33,4 +33,13 @@ pub fn lone_points_are_units()
         → units table (p ∷ rest) ≡ (p ∷ []) ∷ units table rest }
     ensures before { (table : TableMap) (p d : Point) (rest : List Point) → is_starter d ≡ true → ContinuesNoString table d.cp
         → units table (p ∷ d ∷ rest) ≡ (p ∷ []) ∷ units table (d ∷ rest) }
+{}
+
+/// The units of points and of those that follow are those of both by themselves, where with no code point of the first ones a mapped
+/// string of two or more begins, or where a starter follows whose code point stands in no mapped string after the first place.
+pub fn units_stay_apart()
+    ensures alone { (table : TableMap) (ps more : List Point) → All (λ p. BeginsNoLongerString table p.cp) ps
+        → units table (ps ++ more) ≡ units table ps ++ units table more }
+    ensures before { (table : TableMap) (ps : List Point) (d : Point) (more : List Point) → is_starter d ≡ true
+        → ContinuesNoString table d.cp → units table (ps ++ d ∷ more) ≡ units table ps ++ units table (d ∷ more) }
 {}

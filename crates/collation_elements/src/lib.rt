@@ -31,7 +31,9 @@ pub mod worked;
 
 pub use crate::context::{clusters_are_parts, clusters_begin_afresh, parts_join};
 pub use crate::keys::{Item, Key};
-pub use crate::laws::{closed_points_append, items_are_keys_and_starts, lone_points_are_units};
+pub use crate::laws::{
+    closed_points_append, items_are_keys_and_starts, lone_points_are_units, units_stay_apart,
+};
 pub use crate::lone::LoneItems;
 pub use crate::settings::{Strength, Variable};
 pub use crate::short::ShortItems;

@@ -211,6 +211,7 @@ fn answers_each_call(rt: HostRuntime) -> Result<(), Fail> {
     crate::worked::limits();
     crate::items_are_keys_and_starts();
     crate::closed_points_append();
+    crate::units_stay_apart();
     crate::clusters_are_parts();
     crate::clusters_begin_afresh();
     crate::parts_join();

@@ -1,0 +1,8 @@
+use Rattle.collation_elements.proofs.Apart.{units-all_alone, units-before_starter}
+use Rattle.collation_elements.proofs.laws.units_stay_apart.Goals as goal
+
+pub returns-clause-alone : goal.returns-clause-alone
+returns-clause-alone c = units-all_alone
+
+pub returns-clause-before : goal.returns-clause-before
+returns-clause-before c = units-before_starter
