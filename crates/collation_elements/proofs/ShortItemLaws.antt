@@ -1,5 +1,5 @@
 -- The items of a unit of one element, and of one that is a lead and its follower.
-use Rattle.std.proofs.Common.{◌≡◌, ℕ, Bool, true, List, [], ◌∷◌, ◌++◌, ◌&&◌, map, Option, None, Some, IfSome, OnSome, refl, sym, ◌∙◌, ap, ap₂}
+use Rattle.std.proofs.Common.{◌≡◌, ℕ, Bool, true, List, [], ◌∷◌, ◌++◌, ◌&&◌, map, Option, None, Some, IfSome, OnSome, sym, ◌∙◌, ap, ap₂}
 use Rattle.std.specs.Option.{option_to_list}
 use Rattle.std.proofs.lemmas.Bool.{cond-true, and_from}
 use Rattle.nfd_points.specs.declared.points.Point.{Point}

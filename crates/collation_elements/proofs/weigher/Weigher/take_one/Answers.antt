@@ -1,4 +1,4 @@
-use Rattle.std.proofs.Common.{◌≡◌, [], sym, ◌∙◌, ap}
+use Rattle.std.proofs.Common.{[], ◌∙◌, ap}
 use Rattle.collation_elements.specs.Keys.{element_keys}
 use Rattle.collation_elements.proofs.ShortItemLaws.{listed-one}
 use Rattle.collation_elements.proofs.weigher.Weigher.take_one.Goals as goal
