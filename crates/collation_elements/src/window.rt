@@ -109,6 +109,15 @@ impl Window {
         self.has_ended = true;
     }
 
+    /// Lets an empty window take points again, those of another text.
+    pub fn reopen(&mut self)
+        requires { self.old.points ≡ [] }
+        ensures open { self.new ≡ record self.old { has_ended = false } }
+        ensures stands { (table : TableMap) → WindowStandsFor table self.new [] [] }
+    {
+        self.has_ended = false;
+    }
+
     /// The next unit, taken out of the window, where it is decided, and no point that may follow can change it; else `None`, and
     /// the window stays as it was. So whatever follows, the units of what the window held are this one and then those of what it holds now: that
     /// is `stands`, where what it held was taken and nothing given.
