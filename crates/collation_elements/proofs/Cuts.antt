@@ -35,7 +35,7 @@ slice_get-take zero ps h = absurd (omega arith)
 slice_get-take (suc n) [] h = refl
 slice_get-take (suc n) (p ∷ ps) h = refl
 
-slice_get-next_cut : (T : TableMap) (ps : List Point) → 0 < length ps → slice_get (next_cut T ps).unit 0 ≡ slice_get ps 0
+pub slice_get-next_cut : (T : TableMap) (ps : List Point) → 0 < length ps → slice_get (next_cut T ps).unit 0 ≡ slice_get ps 0
 slice_get-next_cut T ps some =
     let n : ℕ = prefix_length T ps in
     let prefix : 0 < length (take n ps) = omega (arith, length-take n ps, prefix_length-le T ps some) in

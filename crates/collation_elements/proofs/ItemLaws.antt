@@ -28,7 +28,7 @@ use Rattle.collation_elements.specs.Weighing.{weigher, weigher_after, value_item
 
 -- ---- the keys and the cluster starts among items
 
-item_keys-map : (ks : List Key) → item_keys (map (λ key. Element key) ks) ≡ ks
+pub item_keys-map : (ks : List Key) → item_keys (map (λ key. Element key) ks) ≡ ks
 item_keys-map [] = refl
 item_keys-map (key ∷ ks) = ap (λ rest. key ∷ rest) (item_keys-map ks)
 

@@ -22,7 +22,7 @@ rest-cond P false false stop taken left a b c = c refl
 
 -- ---- what holds of each point
 
-all-extended : (P : Point → Type 0) (T : TableMap) (unit between following : List Point) → All P between → All P following → All P (extended T unit between following).rest
+pub all-extended : (P : Point → Type 0) (T : TableMap) (unit between following : List Point) → All P between → All P following → All P (extended T unit between following).rest
 all-extended P T unit between [] looked_at rest = looked_at
 all-extended P T unit between (c ∷ following) looked_at rest =
     let stop : Cut = record { unit = unit; rest = between ++ c ∷ following } in

@@ -20,4 +20,5 @@ pub mod ContextTexts
 pub mod ContextUnits
 pub mod ContextWeights
 pub mod Apart
+pub mod CharacterLaws
 pub mod TextLemmas

@@ -16,3 +16,4 @@ pub mod WorkedTable
 pub mod WorkedClusters
 pub mod Lone
 pub mod ShortItems
+pub mod CharacterItems

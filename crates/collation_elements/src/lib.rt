@@ -16,6 +16,7 @@
 //! `Window::with_capacity` and `items_of_text` alone take memory.
 #![tactic(auto)]
 
+mod character;
 mod context;
 mod keys;
 mod laws;
@@ -29,6 +30,7 @@ mod weigher;
 mod window;
 pub mod worked;
 
+pub use crate::character::CharacterItems;
 pub use crate::context::{clusters_are_parts, clusters_begin_afresh, parts_join};
 pub use crate::keys::{Item, Key};
 pub use crate::laws::{

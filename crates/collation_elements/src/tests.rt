@@ -8,7 +8,9 @@ ghost use Rattle.collation_elements.specs.Clusters.{clusters};
 ghost use Rattle.collation_elements.specs.WorkedTable.{worked_table};
 ghost use Rattle.collation_elements.specs.WorkedClusters.{worked_cluster};
 
-use crate::{Item, ItemsFault, Key, MOST_ITEMS, Strength, Variable, Weigher, Window};
+use crate::{
+    CharacterItems, Item, ItemsFault, Key, MOST_ITEMS, Strength, Variable, Weigher, Window,
+};
 use arrayvec::ArrayVec;
 use collation_table::{Table, Weights};
 use nfd_points::Point;
@@ -215,5 +217,27 @@ fn answers_each_call(rt: HostRuntime) -> Result<(), Fail> {
     crate::clusters_are_parts();
     crate::clusters_begin_afresh();
     crate::parts_join();
+    Ok(())
+}
+
+#[test]
+fn keeps_the_items_of_a_character(rt: HostRuntime) -> Result<(), Fail> {
+    let table = Table::read(rt.alloc(), ACCENTED.as_bytes())?;
+    let mut window = Window::with_capacity(rt.alloc(), table.longest_key())?;
+    let weigher = Weigher::restore(Strength::Two, Variable::Shifted, true);
+    let letter = Point::new('e', 0, true);
+    let mark = Point::new('\u{301}', 0, false);
+    let two = CharacterItems::of_points(&table, &mut window, weigher, &[letter, mark]);
+    let expected = CharacterItems {
+        begins_cluster: true,
+        first: Some(Key::Primary(0x1C40, 0x20, 0)),
+        second: Some(Key::Secondary(0x24, 0)),
+        third: None,
+        after_variable: false,
+    };
+    assert_eq!(rt; two, Some(expected));
+    let four = [letter, mark, mark, mark];
+    let none = CharacterItems::of_points(&table, &mut window, weigher, &four);
+    assert_eq!(rt; none, None);
     Ok(())
 }

@@ -128,7 +128,7 @@ fn items_of_characters<W: Weights>(
 }
 
 /// Puts points at the end of a window.
-fn push_points(window: &mut Window, points: &[Point])
+pub(crate) fn push_points(window: &mut Window, points: &[Point])
     requires room { length window.old.points + length points.now ≤ window.old.capacity }
     requires open { window.old.has_ended ≡ false }
     requires sound { All IsSoundPoint points.now }

@@ -1,0 +1,138 @@
+//! The items of one character's points, wherever they stand: what is kept of a character so that its table is not asked again.
+ghost use Rattle.std.specs.Prelude.{◌≡◌, ◌+◌, ◌<◌, ◌≤◌, ◌∷◌, ◌++◌, List, [], Bool, true, false, length, map, All, IfSome, OnSome, IfNone, if◌then◌else◌, drop};
+ghost use Rattle.std.specs.Option.{option_to_list};
+ghost use Rattle.nfd_points.specs.Reordering.{IsSoundPoint};
+ghost use Rattle.collation_elements.specs.declared.keys.Item.{Item};
+ghost use Rattle.collation_elements.specs.declared.keys.Key.{Key};
+ghost use Rattle.collation_elements.specs.Units.{units};
+ghost use Rattle.collation_elements.specs.Items.{items};
+ghost use Rattle.collation_elements.specs.ItemParts.{item_keys};
+ghost use Rattle.collation_elements.specs.CharacterItems.{AreItemsOfPoints, BeginsOnce, character_items};
+ghost use Rattle.collation_elements.specs.Weighing.{weigher, after_units};
+
+use crate::keys::{Item, Key};
+use crate::texts::push_points;
+use crate::weigher::{MOST_ITEMS, Weigher};
+use crate::window::Window;
+use arrayvec::ArrayVec;
+use collation_table::Weights;
+use nfd_points::Point;
+
+/// The start of a cluster, and as many keys as `CharacterItems` has room for.
+const MOST_CHARACTER_ITEMS: usize = 4;
+
+/// The items of one character's units, where it is known that no unit reaches into or out of it. There are three keys at most.
+#[derive(Clone, Copy, Debug, PartialEq, Eq)]
+pub struct CharacterItems {
+    /// Whether it begins a cluster.
+    pub begins_cluster: bool,
+    /// Its first key, if it has one.
+    pub first: Option<Key>,
+    /// Its second key, if it has two.
+    pub second: Option<Key>,
+    /// Its third key, if it has three.
+    pub third: Option<Key>,
+    /// Whether, after it, the last element that was variable or primary was variable, in shifted weighting.
+    pub after_variable: bool,
+}
+
+impl CharacterItems {
+    /// The items of these points by themselves, which this weigher weighs next; `None` where they have more than three keys. The
+    /// points go through the window, which is then as it was. Their offsets are those from the start of the character, so 0.
+    pub fn of_points<W: Weights>(
+        table: &W,
+        window: &mut Window,
+        mut weigher: Weigher,
+        points: &[Point],
+    ) -> Option<CharacterItems>
+        requires empty { window.old.points ≡ [] }
+        requires open { window.old.has_ended ≡ false }
+        requires room { length points.now ≤ window.old.capacity }
+        requires sound { All IsSoundPoint points.now }
+        ensures window { window.new ≡ window.old }
+        ensures items { IfSome result (λ it. AreItemsOfPoints (W.table table.now) weigher points.now it) }
+        ensures none { let all = items (W.table table.now) weigher.strength weigher.variable weigher.after_variable (units (W.table table.now) points.now) in
+            IfNone result (BeginsOnce points.now → 3 < length (item_keys all)) }
+    {
+        push_points(window, points);
+        window.end();
+        let gathered = gather(table, window, &mut weigher);
+        window.skip(window.len());
+        window.reopen();
+        CharacterItems::of_items(gathered?.as_slice(), weigher.after_variable())
+    }
+
+    /// These items, with the flag after them; `None` where they are more than the start of a cluster at 0 and three keys.
+    fn of_items(items: &[Item], after_variable: bool) -> Option<CharacterItems>
+        ensures items { IfSome result (λ it. items.now ≡ character_items it 0) }
+        ensures after { IfSome result (λ it. it.after_variable ≡ after_variable) }
+        ensures none { IfNone result ((begins : Bool) (keys : List Key)
+            → items.now ≡ (if begins then Item.ClusterStart 0 ∷ [] else []) ++ map (λ key. Item.Element key) keys
+            → 3 < length keys) }
+    {
+        let (begins_cluster, keys) = split_start(items);
+        let (first, keys) = split_key(keys);
+        let (second, keys) = split_key(keys);
+        let (third, keys) = split_key(keys);
+        if !keys.is_empty() {
+            return None;
+        }
+        Some(CharacterItems {
+            begins_cluster,
+            first,
+            second,
+            third,
+            after_variable,
+        })
+    }
+}
+
+/// Whether these items begin with the start of a cluster at 0, and what follows it.
+fn split_start(items: &[Item]) -> (bool, &[Item])
+    ensures items { items.now ≡ (if result.0 then Item.ClusterStart 0 ∷ [] else []) ++ result.1.now }
+    ensures start { (rest : List Item) → items.now ≡ Item.ClusterStart 0 ∷ rest → result.1.now ≡ rest }
+    ensures key { (key : Key) (rest : List Item) → items.now ≡ Item.Element key ∷ rest → result.1.now ≡ items.now }
+{
+    match items {
+        [Item::ClusterStart(0), rest @ ..] => (true, rest),
+        _ => (false, items),
+    }
+}
+
+/// The key with which these items begin, if they begin with one, and what follows it.
+fn split_key(items: &[Item]) -> (Option<Key>, &[Item])
+    ensures items { items.now ≡ map (λ key. Item.Element key) (option_to_list result.0) ++ result.1.now }
+    ensures keys { (keys : List Key) → items.now ≡ map (λ key. Item.Element key) keys
+        → result.1.now ≡ map (λ key. Item.Element key) (drop 1 keys) }
+{
+    match items {
+        [Item::Element(key), rest @ ..] => (Some(*key), rest),
+        _ => (None, items),
+    }
+}
+
+/// Cuts the units of a window whose end was told, and gathers their items; `None` as soon as these have no room.
+fn gather<W: Weights>(
+    table: &W,
+    window: &mut Window,
+    weigher: &mut Weigher,
+) -> Option<ArrayVec<Item, MOST_CHARACTER_ITEMS>>
+    requires { window.old.has_ended ≡ true }
+    ensures capacity { window.new.capacity ≡ window.old.capacity }
+    ensures items { IfSome result (λ gathered. gathered.items
+        ≡ items (W.table table.now) weigher.old.strength weigher.old.variable weigher.old.after_variable (units (W.table table.now) window.old.points)) }
+    ensures after { OnSome result (weigher.new.after_variable
+        ≡ after_units (W.table table.now) weigher.old.variable weigher.old.after_variable (units (W.table table.now) window.old.points)) }
+    ensures none { IfNone result (MOST_CHARACTER_ITEMS
+        < length (items (W.table table.now) weigher.old.strength weigher.old.variable weigher.old.after_variable (units (W.table table.now) window.old.points))) }
+{
+    let mut gathered = ArrayVec::new();
+    let mut of_unit = ArrayVec::<Item, MOST_ITEMS>::new();
+    while let Some(unit) = window.next_unit(table) {
+        weigher.take(&unit, &mut of_unit);
+        if let Err(_full) = gathered.try_extend_from_slice(of_unit.as_slice()) {
+            return None;
+        }
+    }
+    Some(gathered)
+}
