@@ -119,8 +119,8 @@ impl Window {
     }
 
     /// The next unit, taken out of the window, where it is decided, and no point that may follow can change it; else `None`, and
-    /// the window stays as it was. So whatever follows, the units of what the window held are this one and then those of what it holds now: that
-    /// is `stands`, where what it held was taken and nothing given.
+    /// the window stays as it was. So whatever follows, the units of what the window held are this one and then those of what it
+    /// holds now: that is `stands`, where what it held was taken and nothing given.
     #[inline(always)]
     pub fn next_unit<'t, W: Weights>(&mut self, table: &'t W) -> Option<Unit<'t>>
         ensures decided { IsSome result ↔ IsTrue (is_decided (W.table table.now) self.old) }
