@@ -1,5 +1,5 @@
 //! The items of a unit that has one key at most, as most units have: what a weigher gives without a list.
-ghost use Rattle.std.specs.Prelude.{◌≡◌, ℕ, List, ◌∷◌, [], ◌++◌, map, Some, IfSome, OnSome, IfNone};
+ghost use Rattle.std.specs.Prelude.{◌≡◌, ◌≢◌, length, ℕ, List, ◌∷◌, [], ◌++◌, map, Some, IfSome, OnSome, IfNone};
 ghost use Rattle.std.specs.Option.{option_to_list};
 ghost use Rattle.nfd_points.specs.declared.points.Point.{Point};
 ghost use Rattle.collation_table.specs.declared.elements.Element.{Element as CollationElement};
@@ -33,6 +33,7 @@ impl Weigher {
         ensures items { IfSome result (λ short. listed short ≡ value_items self.old unit.now) }
         ensures after { OnSome result (self.new ≡ weigher_after self.old unit.now) }
         ensures none { IfNone result (self.new ≡ self.old) }
+        ensures long { IfNone result (length unit.now.elements ≢ 1) }
         ensures stands { (table : TableMap) (points : List Point) (units : List (List Point)) (given : List Item)
             → IsUnitOf table points unit.now
             → WeigherStandsFor table self.old units given
@@ -41,11 +42,13 @@ impl Weigher {
         self.take_one_key(unit)
     }
 
+    /// The same of the unit alone: no clause speaks of the units before.
     #[inline(always)]
     fn take_one_key(&mut self, unit: &Unit) -> Option<ShortItems>
         ensures items { IfSome result (λ short. listed short ≡ value_items self.old unit.now) }
         ensures after { OnSome result (self.new ≡ weigher_after self.old unit.now) }
         ensures none { IfNone result (self.new ≡ self.old) }
+        ensures long { IfNone result (length unit.now.elements ≢ 1) }
     {
         if let Some(e) = unit.only_element() {
             return Some(self.take_one(unit.first_point(), e));

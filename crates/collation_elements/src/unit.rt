@@ -1,5 +1,5 @@
 //! A unit of a text, with its collation elements.
-ghost use Rattle.std.specs.Prelude.{◌≡◌, ◌<◌, ◌≤◌, [], ◌∷◌, length, option_copied, unwrap_or, IfSome};
+ghost use Rattle.std.specs.Prelude.{◌≡◌, ◌≢◌, ◌<◌, ◌≤◌, [], ◌∷◌, length, option_copied, unwrap_or, None, IfSome, IfNone};
 ghost use Rattle.collation_table.specs.Table.{row_of, implicit_pair};
 
 use collation_table::{Element, MOST_ROW_ELEMENTS, Weights};
@@ -85,11 +85,13 @@ impl<'t> Unit<'t> {
     /// The unit's only element, where it has a row of one.
     #[inline(always)]
     pub(crate) fn only_element(&self) -> Option<Element>
-        ensures { IfSome result (λ e. self.now.elements ≡ e ∷ []) }
+        ensures element { IfSome result (λ e. self.now.elements ≡ e ∷ []) }
+        ensures none { IfNone result (length self.now.elements ≢ 1) }
     {
         match &self.elements {
             Elements::Row([e]) => Some(*e),
-            _ => None,
+            Elements::Row(_) => None,
+            Elements::Implicit(pair) => none_of_two(pair),
         }
     }
 
@@ -116,4 +118,14 @@ impl<'t> Unit<'t> {
             Elements::Implicit(pair) => pair,
         }
     }
+}
+
+/// Of two elements none is the only one.
+#[inline(always)]
+fn none_of_two(pair: &[Element; 2]) -> Option<Element>
+    ensures none { result ≡ None }
+    ensures two { length pair.now ≡ 2 }
+{
+    let _two = *pair;
+    None
 }
