@@ -35,8 +35,9 @@ pub fn lone_points_are_units()
         → units table (p ∷ d ∷ rest) ≡ (p ∷ []) ∷ units table (d ∷ rest) }
 {}
 
-/// The units of points and of those that follow are those of both by themselves, where with no code point of the first ones a mapped
-/// string of two or more begins, or where a starter follows whose code point stands in no mapped string after the first place.
+/// The units of points and of those that follow are those of both by themselves, where with no code point of the first ones a
+/// mapped string of two or more begins, or where a starter follows whose code point stands in no mapped string after the first
+/// place.
 pub fn units_stay_apart()
     ensures alone { (table : TableMap) (ps more : List Point) → All (λ p. BeginsNoLongerString table p.cp) ps
         → units table (ps ++ more) ≡ units table ps ++ units table more }
