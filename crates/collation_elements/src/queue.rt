@@ -92,16 +92,15 @@ impl Queue {
         }
     }
 
-    /// The code points of the first `count` points, or of all where there are fewer.
-    pub(crate) fn prefix(&self, count: usize) -> ArrayVec<u32, MOST_STRING_POINTS>
+    /// Puts the code points of the first `count` points, or of all where there are fewer, in place of what `prefix` holds.
+    pub(crate) fn copy_prefix(&self, count: usize, prefix: &mut ArrayVec<u32, MOST_STRING_POINTS>)
         requires { count ≤ MOST_STRING_POINTS }
-        ensures { result.items ≡ take count (code_points self.now.items) }
+        ensures { prefix.new.items ≡ take count (code_points self.now.items) }
     {
-        let mut prefix = ArrayVec::new();
+        prefix.clear();
         for i in 0..count.min(self.points.len()) {
             prefix.push(self.point(i).cp);
         }
-        prefix
     }
 
     #[inline(always)]

@@ -26,6 +26,8 @@ use std::marker::Model;
 pub struct Window {
     queue: Queue,
     has_ended: bool,
+    // where a string is gathered: kept from unit to unit, as all the room of a new one would be cleared
+    string: ArrayVec<u32, MOST_STRING_POINTS>,
 }
 
 impl Model for Window {
@@ -48,6 +50,7 @@ impl Window {
         Ok(Window {
             queue: Queue::with_capacity(alloc, longest_key + MOST_GIVEN)?,
             has_ended: false,
+            string: ArrayVec::new(),
         })
     }
 
@@ -144,8 +147,8 @@ impl Window {
         ensures last { OnSome result (self.old.has_ended ≡ false → is_closed self.old.points ≡ true
             → is_closed self.new.points ≡ true) }
     {
-        let front = decided_front(&self.queue, self.has_ended, table)?;
-        Some(cut(&mut self.queue, table, front))
+        let front = decided_front(&self.queue, self.has_ended, table, &mut self.string)?;
+        Some(cut(&mut self.queue, table, front, &mut self.string))
     }
 }
 
@@ -160,7 +163,12 @@ struct Front<'t> {
 
 /// What is at the front, if the unit there is decided.
 #[inline(always)]
-fn decided_front<'t, W: Weights>(points: &Queue, has_ended: bool, table: &'t W) -> Option<Front<'t>>
+fn decided_front<'t, W: Weights>(
+    points: &Queue,
+    has_ended: bool,
+    table: &'t W,
+    string: &mut ArrayVec<u32, MOST_STRING_POINTS>,
+) -> Option<Front<'t>>
     ensures decided { let held : Held = record {
       points = points.now.items;
       capacity = points.now.capacity;
@@ -176,7 +184,7 @@ fn decided_front<'t, W: Weights>(points: &Queue, has_ended: bool, table: &'t W) 
     }
     let first = points.point(0);
     let lone = table.lone_row(first.cp);
-    let taken = prefix_length(points, table, lone.is_some());
+    let taken = prefix_length(points, table, lone.is_some(), string);
     if has_ended || has_starter_from(points, taken) {
         Some(Front { taken, lone })
     } else {
@@ -187,7 +195,12 @@ fn decided_front<'t, W: Weights>(points: &Queue, has_ended: bool, table: &'t W) 
 /// How many points the longest mapped string at the front has, or 1 where none is one. No mapped string is looked for where
 /// none of two or more code points is known to begin with the first point's.
 #[inline(always)]
-fn prefix_length<W: Weights>(points: &Queue, table: &W, is_alone: bool) -> usize
+fn prefix_length<W: Weights>(
+    points: &Queue,
+    table: &W,
+    is_alone: bool,
+    string: &mut ArrayVec<u32, MOST_STRING_POINTS>,
+) -> usize
     requires some { 0 < length points.now.items }
     requires alone { is_alone ≡ true → BeginsAlone (W.table table.now) points.now.items }
     ensures { result ≡ prefix_length (W.table table.now) points.now.items }
@@ -195,17 +208,21 @@ fn prefix_length<W: Weights>(points: &Queue, table: &W, is_alone: bool) -> usize
     if is_alone {
         return 1;
     }
-    longest_string(points, table)
+    longest_string(points, table, string)
 }
 
-/// How many points the longest mapped string at the front has, or 1 where none is one.
+/// How many points the longest mapped string at the front has, or 1 where none is one. It is looked for in `string`.
 #[inline(never)]
-fn longest_string<W: Weights>(points: &Queue, table: &W) -> usize
+fn longest_string<W: Weights>(
+    points: &Queue,
+    table: &W,
+    string: &mut ArrayVec<u32, MOST_STRING_POINTS>,
+) -> usize
     requires { 0 < length points.now.items }
     ensures { result ≡ prefix_length (W.table table.now) points.now.items }
 {
-    let prefix = points.prefix(table.longest_key());
-    table.longest(prefix.as_slice()).max(1)
+    points.copy_prefix(table.longest_key(), string);
+    table.longest(string.as_slice()).max(1)
 }
 
 /// Whether a starter stands at `index` or after it.
@@ -224,7 +241,12 @@ fn has_starter_from(points: &Queue, index: usize) -> bool
 /// Takes the first unit, of which this is the front. Nothing joins a point with whose code point no mapped string of two or more
 /// begins.
 #[inline(always)]
-fn cut<'t, W: Weights>(points: &mut Queue, table: &'t W, front: Front<'t>) -> Unit<'t>
+fn cut<'t, W: Weights>(
+    points: &mut Queue,
+    table: &'t W,
+    front: Front<'t>,
+    string: &mut ArrayVec<u32, MOST_STRING_POINTS>,
+) -> Unit<'t>
     requires some { 0 < length points.old.items }
     requires beginning { front.taken ≡ prefix_length (W.table table.now) points.old.items }
     requires alone { OnSome front.lone (BeginsAlone (W.table table.now) points.old.items) }
@@ -238,13 +260,18 @@ fn cut<'t, W: Weights>(points: &mut Queue, table: &'t W, front: Front<'t>) -> Un
         points.skip(1);
         return Unit::of_one(table, first_point, row);
     }
-    cut_string(points, table, front.taken)
+    cut_string(points, table, front.taken, string)
 }
 
-/// Takes the first unit, which begins with the first `taken` points: the longest mapped string at the front, or one point. It is kept
-/// apart, so that its string needs no room where a point is a unit by itself.
+/// Takes the first unit, which begins with the first `taken` points: the longest mapped string at the front, or one point. Its code
+/// points are gathered in `string`. It is kept apart, as few points are not units by themselves.
 #[inline(never)]
-fn cut_string<'t, W: Weights>(points: &mut Queue, table: &'t W, taken: usize) -> Unit<'t>
+fn cut_string<'t, W: Weights>(
+    points: &mut Queue,
+    table: &'t W,
+    taken: usize,
+    string: &mut ArrayVec<u32, MOST_STRING_POINTS>,
+) -> Unit<'t>
     requires some { 0 < length points.old.items }
     requires beginning { taken ≡ prefix_length (W.table table.now) points.old.items }
     ensures rest { let cut = next_cut (W.table table.now) points.old.items in
@@ -252,9 +279,9 @@ fn cut_string<'t, W: Weights>(points: &mut Queue, table: &'t W, taken: usize) ->
     ensures unit { IsUnitOf (W.table table.now) (next_cut (W.table table.now) points.old.items).unit result }
 {
     let first_point = points.point(0);
-    let mut string = points.prefix(taken);
+    points.copy_prefix(taken, string);
     points.skip(taken);
-    take_joining(points, table, &mut string);
+    take_joining(points, table, string);
     Unit::new(table, first_point, string.as_slice())
 }
 

@@ -9,8 +9,8 @@ use Rattle.collation_elements.proofs.Cuts.{IsUnitOf-cut}
 use Rattle.collation_elements.proofs.Longest.{longest_prefix-le_longest, prefix_length-le}
 use Rattle.collation_elements.proofs.window.cut_string.Goals as goal
 
-pub prefix-string-requires : goal.prefix-string-requires
-prefix-string-requires g c =
+pub copy_prefix-requires : goal.copy_prefix-requires
+copy_prefix-requires g c =
     let sizes = g.met.W.Weights.sizes c.args.table.now in
     omega (arith, c.requires.beginning, sizes.string, longest_prefix-le_longest (g.W.Weights.table c.args.table.now) (code_points c.args.points.now.items))
 
@@ -23,7 +23,7 @@ returns-clause-rest g c =
     let T = g.W.Weights.table c.args.table.now in
     let ps : List Point = c.args.points.now.items in
     let n : ℕ = c.args.taken in
-    let codes_are : code_points (take n ps) ≡ c.prefix-string.result.items = sym (c.prefix-string.ensures ∙ take-map (λ p. p.cp) n ps) in
+    let codes_are : code_points (take n ps) ≡ c.copy_prefix.new.prefix.items = sym (c.copy_prefix.ensures ∙ take-map (λ p. p.cp) n ps) in
     c.take_joining.ensures.rest (take n ps) codes_are
     ∙ ap (λ (q : Buffer Point). buffer (extended T (take n ps) [] q.items).rest q.capacity) c.skip.ensures
     ∙ ap (λ (k : ℕ). buffer (extended T (take k ps) [] (drop k ps)).rest c.args.points.now.capacity) c.requires.beginning
@@ -34,6 +34,6 @@ returns-clause-unit g c =
     let T = g.W.Weights.table c.args.table.now in
     let ps : List Point = c.args.points.now.items in
     let n : ℕ = c.args.taken in
-    let codes_are : code_points (take n ps) ≡ c.prefix-string.result.items = sym (c.prefix-string.ensures ∙ take-map (λ p. p.cp) n ps) in
+    let codes_are : code_points (take n ps) ≡ c.copy_prefix.new.prefix.items = sym (c.copy_prefix.ensures ∙ take-map (λ p. p.cp) n ps) in
     let string_is : c.as_slice.result.now ≡ code_points (next_cut T ps).unit = c.as_slice.ensures.value ∙ c.take_joining.ensures.string (take n ps) codes_are ∙ ap (λ (q : Buffer Point). code_points (extended T (take n ps) [] q.items).unit) c.skip.ensures ∙ ap (λ (k : ℕ). code_points (extended T (take k ps) [] (drop k ps)).unit) c.requires.beginning ∙ ap (λ (cut : Cut). code_points cut.unit) (sym (next_cut-of T ps c.requires.some)) in
     IsUnitOf-cut T ps c.as_slice.result.now c.point-first_point.result c.new.result c.requires.some c.point-first_point.ensures.point string_is c.new.ensures.first_point c.new.ensures.elements

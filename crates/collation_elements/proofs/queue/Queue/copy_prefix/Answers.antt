@@ -2,7 +2,7 @@ use Rattle.std.proofs.Common.{◌≡◌, ◌≤◌, length, ◌∙◌, ap, arith
 use Rattle.nfd_points.specs.declared.points.Point.{Point}
 use Rattle.circular_buffer.specs.Buffer.{Buffer}
 use Rattle.collation_elements.proofs.Queues.{prefix_more, prefix_all, prefix_len}
-use Rattle.collation_elements.proofs.queue.Queue.prefix.Goals as goal
+use Rattle.collation_elements.proofs.queue.Queue.copy_prefix.Goals as goal
 
 pub push-requires : goal.push-requires
 push-requires c =
