@@ -1,11 +1,11 @@
 -- What a push makes of what a cutter stands for, and what any further bytes do.
-use Rattle.std.proofs.Common.{◌≡◌, ℕ, suc, ◌+◌, ◌-◌, ◌<◌, Bool, true, false, List, [], ◌∷◌, ◌++◌, length, take, refl, sym, ap, ◌∙◌, subst, arith, add-zero, append_assoc, append-nil, length-append, length-drop, ne_eqb}
+use Rattle.std.proofs.Common.{◌≡◌, ℕ, ◌+◌, ◌-◌, ◌<◌, Bool, true, false, List, [], ◌∷◌, ◌++◌, length, take, refl, sym, ap, ◌∙◌, subst, arith, append_assoc, append-nil, length-append, length-drop, ne_eqb}
 use Rattle.std.specs.Prelude.{None, Some, IsTrue, not, cond}
 use Rattle.std.proofs.lemmas.Bool.{not-true}
-use Rattle.std.proofs.lemmas.Str.{IsUtf8-append, IsUtf8-encode, IsUtf8-nil, chars-nil, length-encode, encode_ascii, len_utf8_ascii, utf8_valid_len_le}
+use Rattle.std.proofs.lemmas.Str.{IsUtf8-append, IsUtf8-encode, IsUtf8-nil, chars-nil, length-encode, encode_ascii, utf8_valid_len_le}
 use Rattle.std.proofs.lemmas.List.{nil_from_length}
 use Rattle.std.specs.Char.{len_utf8}
-use Rattle.std.specs.Str.{IsAscii, IsUtf8, StartsWithNoChar}
+use Rattle.std.specs.Str.{IsUtf8, StartsWithNoChar, chars}
 use Rattle.utf8_cut.specs.declared.Cutting.{Cutting}
 use Rattle.utf8_cut.specs.declared.Cutting.TheVariants.{More, Char, Bad}
 use Rattle.utf8_cut.specs.Characters.{is_incomplete_or_empty, is_utf8_prefix, ill_formed_at, characters_end, after_characters, with_offsets, characters_from, characters, first_fault}
@@ -226,25 +226,22 @@ module _ (cut : CutState) (taken : List ℕ) (given : List (ℕ × ℕ)) (more :
       ∙ fault_after _ (after_characters taken ++ more) t.text
       ∙ (λ i. option_map (λ at. start i + at) (first_fault (sym (held_is cut taken given stands e) i ++ more)))
 
--- ---- ASCII bytes between characters
+-- ---- whole characters, between characters
 
-pub ascii_taken : (bytes : List ℕ) → IsAscii bytes → (at : ℕ) (taken : List ℕ) (given : List (ℕ × ℕ)) → StandsFor (between_characters at) taken given
-    → StandsFor (between_characters (at + length bytes)) (taken ++ bytes) (given ++ with_offsets at bytes)
-ascii_taken [] h at taken given s =
-    subst (λ t. StandsFor (between_characters (at + 0)) t (given ++ [])) (sym (append-nil taken))
-    (subst (λ g. StandsFor (between_characters (at + 0)) taken g) (sym (append-nil given))
-    (subst (λ n. StandsFor (between_characters n) taken given) (sym (add-zero at)) s))
-ascii_taken (b ∷ bs) h at taken given s =
-    let low : b < 128 = h 0 in
-    let one = pushed_stands (between_characters at) b (Char b at) (refl, refl, (low_scalar b (omega arith), sym (encode_ascii b low))) taken given s in
-    let all = ascii_taken bs (λ i. h (suc i)) (at + 1) (taken ++ b ∷ []) (given ++ (b, at) ∷ []) one in
-    let far : at + 1 + length bs ≡ at + length (b ∷ bs) = omega arith in
-    let next : at + 1 ≡ at + len_utf8 b = omega (arith, len_utf8_ascii b low) in
-    let given_is : (given ++ (b, at) ∷ []) ++ with_offsets (at + 1) bs ≡ given ++ with_offsets at (b ∷ bs) =
-    append_assoc given ((b, at) ∷ []) (with_offsets (at + 1) bs) ∙ ap (λ n. given ++ (b, at) ∷ with_offsets n bs) next in
-    subst (λ n. StandsFor (between_characters n) (taken ++ b ∷ bs) (given ++ with_offsets at (b ∷ bs))) far
-    (subst (λ t. StandsFor (between_characters (at + 1 + length bs)) t (given ++ with_offsets at (b ∷ bs))) (append_assoc taken (b ∷ []) bs)
-    (subst (λ g. StandsFor (between_characters (at + 1 + length bs)) ((taken ++ b ∷ []) ++ bs) g) given_is all))
+pub text_taken : (text : List ℕ) → IsUtf8 text → (at : ℕ) (taken : List ℕ) (given : List (ℕ × ℕ)) → StandsFor (between_characters at) taken given
+    → StandsFor (between_characters (at + length text)) (taken ++ text) (given ++ with_offsets at (chars text))
+text_taken text u at taken given s =
+    let t = split_of taken in
+    let before : IsUtf8 taken = subst IsUtf8 (sym (t.parts ∙ ap (λ l. take (characters_end taken) taken ++ l) (sym s.held) ∙ append-nil _)) t.text in
+    let all = split_whole (taken ++ text) (IsUtf8-append taken text before u) in
+    let long : at + length text ≡ length (taken ++ text) = omega (arith, s.count, length-append taken text) in
+    record {
+      characters_given = sym (continued (between_characters at) taken given text s ∙ ap (λ l. given ++ l) (Split-characters _ _ _ (split_whole text u) at));
+      count = long;
+      start = long ∙ sym (Split-end _ _ _ all);
+      held = sym (Split-after _ _ _ all);
+      bad = ap (λ l. not (is_incomplete_or_empty l)) (sym (Split-after _ _ _ all));
+    }
 
 -- a cutter whose start is its count holds nothing and has met nothing
 pub between_is : (cut : CutState) → IsSoundCut cut → cut.start ≡ cut.count → cut ≡ between_characters cut.count

@@ -73,7 +73,7 @@ impl Model for Cut {
 impl Cut {
     ghost use Rattle.std.specs.Prelude.{◌≡◌, ℕ, ◌+◌, ◌^◌, ◌<◌, ◌≤◌, List, [], ◌∷◌, ◌++◌, length, Option, None, Some, IsTrue, ◌==◌, if◌then◌else◌, true, false};
     ghost use Rattle.std.specs.Char.{len_utf8};
-    ghost use Rattle.std.specs.Str.{IsAscii};
+    ghost use Rattle.std.specs.Str.{IsAscii, IsUtf8, chars};
     ghost use Rattle.utf8_cut.specs.Characters.{ill_formed_at, with_offsets};
     ghost use Rattle.utf8_cut.specs.Sequences.{SpellsCharacter, IsIllFormed};
     ghost use Rattle.utf8_cut.specs.Value.{between_characters};
@@ -119,10 +119,26 @@ impl Cut {
         self.push_in_sequence(byte)
     }
 
-    /// Takes `n` bytes below 80 hex at once, and leaves the value that as many pushes of them leave.
+    /// Takes `n` bytes at once that are whole characters, and leaves the value that as many pushes of
+    /// them leave.
     ///
     /// Asked where no character is held and no ill-formed sequence was met, which is where
     /// [`held_start`](Cut::held_start) is [`count`](Cut::count).
+    #[inline]
+    pub fn take_characters(&mut self, n: u64)
+        requires between { self.old.start ≡ self.old.count }
+        requires fits { self.old.count + n ≤ 2 ^ 62 }
+        ensures state { self.new ≡ between_characters (self.old.count + n) }
+        ensures stands_for { (taken text : List ℕ) (given : List (ℕ × ℕ))
+            → StandsFor self.old taken given → length text ≡ n → IsUtf8 text
+            → StandsFor self.new (taken ++ text) (given ++ with_offsets self.old.count (chars text)) }
+    {
+        let end = self.count + n;
+        self.start = end;
+        self.count = end;
+    }
+
+    /// Takes `n` bytes below 80 hex at once, as [`take_characters`](Cut::take_characters) does.
     #[inline]
     pub fn take_ascii(&mut self, n: u64)
         requires between { self.old.start ≡ self.old.count }
@@ -132,9 +148,7 @@ impl Cut {
             → StandsFor self.old taken given → length bytes ≡ n → IsAscii bytes
             → StandsFor self.new (taken ++ bytes) (given ++ with_offsets self.old.count bytes) }
     {
-        let end = self.count + n;
-        self.start = end;
-        self.count = end;
+        self.take_characters(n);
     }
 
     // Takes any byte. `push` has a shorter way for ASCII between characters.

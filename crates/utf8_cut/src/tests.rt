@@ -293,6 +293,17 @@ fn ascii_is_taken_at_once(rt: HostRuntime) {
 }
 
 #[test]
+fn characters_are_taken_at_once(rt: HostRuntime) {
+    let mut cut = Cut::new();
+    let _ = cut.push(b'a');
+    assert!(rt; cut.held_start() == cut.count());
+    cut.take_characters(5);
+    assert_eq!(rt; cut.count(), 6);
+    assert_eq!(rt; cut.held_start(), 6);
+    assert_eq!(rt; cut.push(b'b'), Cutting::Char('b', 6));
+}
+
+#[test]
 fn what_was_held_is_restored(rt: HostRuntime) {
     let mut cut = Cut::new();
     let _ = cut.push(b'a');
