@@ -1,6 +1,6 @@
 -- What the bytes of one sequence are, told by its last byte (the Unicode Standard, table 3-7).
-use Rattle.std.specs.Prelude.{◌≡◌, ℕ, ◌<◌, false, List, ◌++◌, length, IsTrue}
-use Rattle.std.specs.Char.{IsScalar, encode_utf8}
+use Rattle.std.specs.Prelude.{◌≡◌, ℕ, ◌<◌, ◌≤◌, false, List, ◌++◌, length, take, IsTrue, Option, None, Some}
+use Rattle.std.specs.Char.{IsScalar, len_utf8, encode_utf8}
 use Rattle.std.specs.Str.{StartsWithNoChar}
 use Rattle.utf8_cut.specs.declared.sequence.Form.{Form}
 use Rattle.utf8_cut.specs.declared.sequence.Form.TheVariants.{WellFormed, Incomplete, IllFormed}
@@ -22,3 +22,8 @@ IsForm bytes IllFormed = IsIllFormed bytes
 -- the bytes, one at least, with further bytes, one at least, are a character
 abbrev pub BeginsCharacter : List ℕ → Type 0
 BeginsCharacter bytes = (0 < length bytes) × (more : List ℕ) × (c : ℕ) × (0 < length more) × SpellsCharacter (bytes ++ more) c
+
+-- the character that begins the bytes and is whole there, or none
+abbrev pub IsFirstCharacter : List ℕ → Option ℕ → Type 0
+IsFirstCharacter bytes None = StartsWithNoChar bytes
+IsFirstCharacter bytes (Some c) = (len_utf8 c ≤ length bytes) × SpellsCharacter (take (len_utf8 c) bytes) c

@@ -46,7 +46,7 @@ pub(crate) fn is_incomplete_or_empty(bytes: &[u8]) -> bool
     }
 }
 
-fn of_one(first: u8) -> Form
+pub(crate) fn of_one(first: u8) -> Form
     ensures { IsForm (first ∷ []) result }
 {
     match first {
@@ -75,7 +75,7 @@ fn is_continuation(byte: u8) -> bool
     matches!(byte, 0x80..=0xBF)
 }
 
-fn of_two(first: u8, second: u8) -> Form
+pub(crate) fn of_two(first: u8, second: u8) -> Form
     requires { IsTrue (is_incomplete_sequence (first ∷ [])) }
     ensures { IsForm (first ∷ second ∷ []) result }
 {
@@ -88,7 +88,7 @@ fn of_two(first: u8, second: u8) -> Form
     }
 }
 
-fn of_three(first: u8, second: u8, third: u8) -> Form
+pub(crate) fn of_three(first: u8, second: u8, third: u8) -> Form
     requires { IsTrue (is_incomplete_sequence (first ∷ second ∷ [])) }
     ensures { IsForm (first ∷ second ∷ third ∷ []) result }
 {
@@ -101,7 +101,7 @@ fn of_three(first: u8, second: u8, third: u8) -> Form
     }
 }
 
-fn of_four(first: u8, second: u8, third: u8, fourth: u8) -> Form
+pub(crate) fn of_four(first: u8, second: u8, third: u8, fourth: u8) -> Form
     requires { IsTrue (is_incomplete_sequence (first ∷ second ∷ third ∷ [])) }
     ensures { IsForm (first ∷ second ∷ third ∷ fourth ∷ []) result }
 {

@@ -5,8 +5,9 @@ ghost use Rattle.std.specs.Prelude.{◌≡◌, ℕ, ◌<◌, List, [], ◌∷◌
 ghost use Rattle.utf8_cut.specs.Characters.{characters, first_fault, ill_formed_at, is_utf8_prefix, is_incomplete_sequence, ascii_prefix_len};
 
 use super::{
-    Cut, Cutting, any_bytes_may_follow, ascii_len, front, incomplete_sequences_begin_characters,
-    text_may_stand_before, whole_characters_are_the_longest_text,
+    Cut, Cutting, any_bytes_may_follow, ascii_len, first_character, front,
+    incomplete_sequences_begin_characters, text_may_stand_before,
+    whole_characters_are_the_longest_text,
 };
 use std::alloc::{AllocError, Global};
 use std::test::Fail;
@@ -301,6 +302,26 @@ fn characters_are_taken_at_once(rt: HostRuntime) {
     assert_eq!(rt; cut.count(), 6);
     assert_eq!(rt; cut.held_start(), 6);
     assert_eq!(rt; cut.push(b'b'), Cutting::Char('b', 6));
+}
+
+#[test]
+fn first_characters(rt: HostRuntime) {
+    assert_eq!(rt; first_character(b"ab"), Some('a'));
+    assert_eq!(rt; first_character(&[0xC3, 0xA9, b'a']), Some('\u{E9}'));
+    assert_eq!(rt;
+        first_character(&[0xE2, 0x82, 0xAC, 0xFF]),
+        Some('\u{20AC}')
+    );
+    assert_eq!(rt;
+        first_character(&[0xF4, 0x8F, 0xBF, 0xBF]),
+        Some('\u{10FFFF}')
+    );
+    assert_eq!(rt; first_character(b""), None);
+    assert_eq!(rt; first_character(&[0xC3]), None);
+    assert_eq!(rt; first_character(&[0xC1, 0xA9]), None);
+    assert_eq!(rt; first_character(&[0xE2, 0x82, b'a']), None);
+    assert_eq!(rt; first_character(&[0xED, 0xA0, 0x80]), None);
+    assert_eq!(rt; first_character(&[0xF0, 0x9F, 0x98]), None);
 }
 
 #[test]

@@ -1,0 +1,73 @@
+// The character at the front of a slice.
+ghost use Rattle.std.specs.Prelude.{◌≡◌, ◌≤◌, [], ◌∷◌, length, take, IsTrue, IfSome, IfNone};
+ghost use Rattle.std.specs.Char.{len_utf8};
+ghost use Rattle.std.specs.Str.{StartsWithNoChar};
+ghost use Rattle.utf8_cut.specs.Characters.{is_incomplete_sequence};
+ghost use Rattle.utf8_cut.specs.Sequences.{SpellsCharacter, IsFirstCharacter};
+
+use crate::sequence::{Form, of_four, of_one, of_three, of_two};
+
+/// The character at the front of a slice, if it is whole there: none where the slice is empty or begins
+/// with a sequence that is ill-formed or incomplete.
+#[inline]
+pub fn first_character(bytes: &[u8]) -> Option<char>
+    ensures some { IfSome result (λ c. (len_utf8 c ≤ length bytes.now)
+        × SpellsCharacter (take (len_utf8 c) bytes.now) c) }
+    ensures none { IfNone result (StartsWithNoChar bytes.now) }
+{
+    match bytes {
+        [] => None,
+        [first, later @ ..] => match of_one(*first) {
+            Form::WellFormed(c) => Some(c),
+            Form::Incomplete => after_one(*first, later),
+            Form::IllFormed => None,
+        },
+    }
+}
+
+/// The character of this first byte and the later ones.
+#[inline]
+fn after_one(first: u8, later: &[u8]) -> Option<char>
+    requires { IsTrue (is_incomplete_sequence (first ∷ [])) }
+    ensures { IsFirstCharacter (first ∷ later.now) result }
+{
+    match later {
+        [] => None,
+        [second, later @ ..] => match of_two(first, *second) {
+            Form::WellFormed(c) => Some(c),
+            Form::Incomplete => after_two(first, *second, later),
+            Form::IllFormed => None,
+        },
+    }
+}
+
+/// The character of these two bytes and the later ones.
+#[inline]
+fn after_two(first: u8, second: u8, later: &[u8]) -> Option<char>
+    requires { IsTrue (is_incomplete_sequence (first ∷ second ∷ [])) }
+    ensures { IsFirstCharacter (first ∷ second ∷ later.now) result }
+{
+    match later {
+        [] => None,
+        [third, later @ ..] => match of_three(first, second, *third) {
+            Form::WellFormed(c) => Some(c),
+            Form::Incomplete => after_three(first, second, *third, later),
+            Form::IllFormed => None,
+        },
+    }
+}
+
+/// The character of these three bytes and the later ones.
+#[inline]
+fn after_three(first: u8, second: u8, third: u8, later: &[u8]) -> Option<char>
+    requires { IsTrue (is_incomplete_sequence (first ∷ second ∷ third ∷ [])) }
+    ensures { IsFirstCharacter (first ∷ second ∷ third ∷ later.now) result }
+{
+    match later {
+        [] => None,
+        [fourth, ..] => match of_four(first, second, third, *fourth) {
+            Form::WellFormed(c) => Some(c),
+            _ => None,
+        },
+    }
+}
