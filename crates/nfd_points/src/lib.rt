@@ -4,11 +4,13 @@
 //! before them. It stands on the decompositions and classes of `unicode_normalization`.
 #![tactic(auto)]
 
+pub use crate::character::points_of_character;
 pub use crate::faults::PointFault;
 pub use crate::limits::{MOST_DECOMPOSITION, MOST_GIVEN, MOST_WAITING};
 pub use crate::points::Point;
 pub use crate::reordering::Reorder;
 
+mod character;
 mod decomposing;
 mod faults;
 pub mod laws;

@@ -10,7 +10,7 @@ use crate::laws::{
     laws_of_decompositions, laws_of_faults, laws_of_ordering, laws_of_points, laws_of_reordering,
     laws_of_runs, limits,
 };
-use crate::{MOST_GIVEN, Point, PointFault, Reorder};
+use crate::{MOST_GIVEN, Point, PointFault, Reorder, points_of_character};
 use arrayvec::ArrayVec;
 use std::alloc::Global;
 use std::test::Fail;
@@ -74,6 +74,31 @@ fn points(alloc: Global, text: &str) -> Result<Vec<Point>, Fail> {
 #[test]
 fn a_blank_point(rt: HostRuntime) {
     assert_eq!(rt; Point::default(), point(0, 0, 0, false));
+}
+
+#[test]
+fn points_of_characters(rt: HostRuntime) {
+    assert_eq!(rt;
+        points_of_character('a', 7).as_slice(),
+        [point(0x61, 0, 7, true)].as_slice()
+    );
+    assert_eq!(rt;
+        points_of_character('\u{20AC}', 7).as_slice(),
+        [point(0x20AC, 0, 7, true)].as_slice()
+    );
+    let parts = [
+        point(0x65, 0, 7, true),
+        point(0x323, 220, 7, false),
+        point(0x302, 230, 7, false),
+    ];
+    assert_eq!(rt;
+        points_of_character('\u{1EC7}', 7).as_slice(),
+        parts.as_slice()
+    );
+    assert_eq!(rt;
+        points_of_character('\u{301}', 7).as_slice(),
+        [point(0x301, 230, 7, true)].as_slice()
+    );
 }
 
 #[test]
