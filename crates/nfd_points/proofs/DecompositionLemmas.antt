@@ -158,6 +158,9 @@ decomposition-decompose c = ap canonical_order (append-nil (decompose Nfd c)) �
 pub length-decomposition : (c : ℕ) → length (decomposition c) ≤ 4
 length-decomposition c = subst (λ ds. length ds ≤ 4) (sym (decomposition-decompose c)) (IsDecomposition-decompose c).fit.few
 
+pub is_ordered-decomposition : (c : ℕ) → is_ordered (decomposition c) ≡ true
+is_ordered-decomposition c = ap is_ordered (decomposition-decompose c) ∙ (IsDecomposition-decompose c).fit.in_order
+
 pub decomposition-ascii : (c : ℕ) → c < 128 → decomposition c ≡ c ∷ []
 decomposition-ascii c h = normalize-ascii Nfd (c ∷ []) (All-cons (λ x. x < 128) c [] h (All-nil _))
 

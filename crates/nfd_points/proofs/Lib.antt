@@ -1,3 +1,4 @@
+pub mod AnewLemmas
 pub mod Computing
 pub mod CutLemmas
 pub mod DecompositionLemmas

@@ -1,5 +1,5 @@
 -- Laws of the points of a list of code points: two parts, a shift of offsets, the code points and classes, ASCII.
-use Rattle.std.proofs.Common.{◌≡◌, ℕ, ◌+◌, ◌<◌, ◌≤◌, Bool, true, false, List, [], ◌∷◌, ◌++◌, length, map, flat_map, encode_utf8, encode_utf8_all, All, refl, sym, ap, ap₂, ◌∙◌, arith, inl, inr, add-zero, zero-add, length-append, add_assoc}
+use Rattle.std.proofs.Common.{◌≡◌, ℕ, ◌+◌, ◌<◌, ◌≤◌, Bool, true, false, not, ◌&&◌, List, [], ◌∷◌, ◌++◌, length, map, flat_map, encode_utf8, encode_utf8_all, All, refl, sym, ap, ap₂, ◌∙◌, arith, inl, inr, add-zero, zero-add, length-append, add_assoc}
 use borrow.Table.Char.{scalar_below}
 use Rattle.std.proofs.lemmas.Bool.{cases_Bool, and_parts}
 use Rattle.std.specs.List.{list_all}
@@ -11,14 +11,14 @@ use Rattle.ucd_normal.specs.declared.forms.Form.TheVariants.{Nfd}
 use Rattle.unicode_normalization.specs.Decompose.{decompose}
 use Rattle.unicode_normalization.specs.Forms.{nfd, decomposed, normalize}
 use Rattle.unicode_normalization.specs.Lookups.{canonical_combining_class}
-use Rattle.unicode_normalization.specs.Order.{canonical_order, sink as sink_code, is_reorderable as is_reorderable_code}
+use Rattle.unicode_normalization.specs.Order.{canonical_order, is_ordered, sink as sink_code, is_reorderable as is_reorderable_code}
 use Rattle.unicode_normalization.proofs.DecomposeLemmas.{IsFull-decompose, decompose-final}
 use Rattle.unicode_normalization.proofs.TableFacts.{is_final}
 use Rattle.unicode_normalization.proofs.OrderLemmas.{sink-past as sink-past_code, sink-stays as sink-stays_code}
 use Rattle.nfd_points.specs.declared.points.Point.{Point}
-use Rattle.nfd_points.specs.Points.{IsPlain, decomposition, byte_len, points_at, points_of, points_from, shifted, is_reorderable, sink, ordered, points, begins_with_starter}
+use Rattle.nfd_points.specs.Points.{IsPlain, decomposition, byte_len, points_at, points_of, points_from, shifted, is_reorderable, is_in_order, sink, ordered, points, begins_with_starter}
 use Rattle.nfd_points.specs.Reordering.{code_points, IsSoundPoint}
-use Rattle.nfd_points.proofs.DecompositionLemmas.{decomposition-decompose, decomposition-scalars, ascii-plain}
+use Rattle.nfd_points.proofs.DecompositionLemmas.{decomposition-decompose, decomposition-scalars, is_ordered-decomposition, ascii-plain}
 use Rattle.nfd_points.proofs.OrderingLemmas.{ordered-nil, ordered-cons, ordered-parts, sink-past, sink-stays, All-ordered}
 
 -- ---- bytes
@@ -70,6 +70,15 @@ pub code_points-points_at : (start : ℕ) (is_first : Bool) (ds : List ℕ) → 
 unfolding points_at
 code_points-points_at start is_first [] = refl
 code_points-points_at start is_first (d ∷ ds) = ap (λ l. d ∷ l) (code_points-points_at start false ds)
+
+is_in_order-points_at : (start : ℕ) (is_first : Bool) (ds : List ℕ) → is_in_order (points_at start is_first ds) ≡ is_ordered ds
+unfolding points_at is_in_order is_reorderable is_ordered is_reorderable_code
+is_in_order-points_at start is_first [] = refl
+is_in_order-points_at start is_first (d ∷ []) = refl
+is_in_order-points_at start is_first (d ∷ e ∷ ds) = ap (λ r. not (is_reorderable_code d e) && r) (is_in_order-points_at start false (e ∷ ds))
+
+pub is_in_order-points_of : (start c : ℕ) → is_in_order (points_of start c) ≡ true
+is_in_order-points_of start c = is_in_order-points_at start true (decomposition c) ∙ is_ordered-decomposition c
 
 abbrev pub HasClass : Point → Type 0
 HasClass p = p.ccc ≡ canonical_combining_class p.cp

@@ -63,7 +63,7 @@ short-here start run c cs good =
       | inr long ↦ let clash = sym good ∙ fault_from-here start run c 32 cs (fault_of_code_point-run run c long) in cc
     ]
 
-short-good : (start run : ℕ) (cs : List ℕ) → fault_from start run cs ≡ None → has_short_runs run (flat_map decomposition cs) ≡ true
+pub short-good : (start run : ℕ) (cs : List ℕ) → fault_from start run cs ≡ None → has_short_runs run (flat_map decomposition cs) ≡ true
 short-good start run [] good = short-nil run
 short-good start run (c ∷ cs) good =
     let short = short-here start run c cs good in

@@ -30,6 +30,9 @@ OthersAreStarters = (c : ℕ) → ¬ (IsScalar c) → (decomposition c ≡ c ∷
 abbrev pub AsciiIsItself : Type 0
 AsciiIsItself = (start c : ℕ) → c < 128 → points_of start c ≡ ascii_point start c ∷ []
 
+abbrev pub DecompositionsAreInOrder : Type 0
+DecompositionsAreInOrder = (start c : ℕ) → is_in_order (points_of start c) ≡ true
+
 -- ---- points
 
 abbrev pub CodesAreNfd : Type 0
@@ -151,6 +154,15 @@ GoodRunsAreShort = (cs : List ℕ) → point_fault cs ≡ None → has_short_run
 -- and where no more than 30 non-starters follow each other in the joined decompositions, there is no fault
 abbrev pub ShortRunsAreGood : Type 0
 ShortRunsAreGood = (cs : List ℕ) → has_short_runs 0 (flat_map decomposition cs) ≡ true → point_fault cs ≡ None
+
+-- a text of no more points than may wait has no fault
+abbrev pub FewPointsAreGood : Type 0
+FewPointsAreGood = (cs : List ℕ) → length (flat_map decomposition cs) ≤ MOST_WAITING → point_fault cs ≡ None
+
+-- where the second text begins with a starter, its runs are its own
+abbrev pub StartersBeginAnew : Type 0
+StartersBeginAnew =
+    (xs ys : List ℕ) → begins_with_starter (points_from 0 ys) ≡ true → point_fault xs ≡ None → point_fault ys ≡ None → point_fault (xs ++ ys) ≡ None
 
 -- the fault is at the first code point whose decomposition, joined to those before it, brings a longer run
 abbrev pub LongRunsAreFaults : Type 0

@@ -1,7 +1,7 @@
 //! Laws of points and of their faults, each the promise of a function that does nothing.
 //!
 //! They hold for every list of code points, also for numbers that are no scalar values.
-ghost use Rattle.nfd_points.specs.Laws.{Limits, DecompositionsAreShort, OthersAreStarters, AsciiIsItself, CodesAreNfd, PointsAreSound, PointsAreDecomposed, AsciiIsSound, BytesAreCounted, BytesOfParts, PointsOfParts, PointsAreShifted, OffsetsAreWithin, TextsPart, TextsAreCut, OrderingIsInOrder, OrderedStays, OrderingOfPrefixes, OrderingStopsAtStarters, StartersStay, OrderingIsShifted, OrderingKeeps, OrderingAddsNone, OrderingCounts, ShortRunsJoin, FaultAfter, FaultInPrefix, FaultsAreRuns, GoodRunsAreShort, ShortRunsAreGood, LongRunsAreFaults, GivenAreFinal, GivenBegin, WaitingAreOthers, AsciiIsGiven};
+ghost use Rattle.nfd_points.specs.Laws.{Limits, DecompositionsAreShort, OthersAreStarters, AsciiIsItself, DecompositionsAreInOrder, CodesAreNfd, PointsAreSound, PointsAreDecomposed, AsciiIsSound, BytesAreCounted, BytesOfParts, PointsOfParts, PointsAreShifted, OffsetsAreWithin, TextsPart, TextsAreCut, OrderingIsInOrder, OrderedStays, OrderingOfPrefixes, OrderingStopsAtStarters, StartersStay, OrderingIsShifted, OrderingKeeps, OrderingAddsNone, OrderingCounts, ShortRunsJoin, FaultAfter, FaultInPrefix, FaultsAreRuns, GoodRunsAreShort, ShortRunsAreGood, FewPointsAreGood, StartersBeginAnew, LongRunsAreFaults, GivenAreFinal, GivenBegin, WaitingAreOthers, AsciiIsGiven};
 
 /// The most points that wait, of one decomposition, and that one call gives.
 pub fn limits()
@@ -13,6 +13,7 @@ pub fn laws_of_decompositions()
     ensures short { DecompositionsAreShort }
     ensures others { OthersAreStarters }
     ensures ascii { AsciiIsItself }
+    ensures in_order { DecompositionsAreInOrder }
 {}
 
 /// The points of a text are its NFD, and what they are of two parts.
@@ -55,6 +56,8 @@ pub fn laws_of_faults()
     ensures runs { FaultsAreRuns }
     ensures short { GoodRunsAreShort }
     ensures good { ShortRunsAreGood }
+    ensures few { FewPointsAreGood }
+    ensures anew { StartersBeginAnew }
     ensures long { LongRunsAreFaults }
 {}
 

@@ -1,3 +1,4 @@
+use Rattle.nfd_points.proofs.AnewLemmas.{few-good, starters-anew}
 use Rattle.nfd_points.proofs.RunLemmas.{fault_from-good, fault_from-prefix, fault_of_code_point-kind}
 use Rattle.nfd_points.proofs.ShortRunLemmas.{short-points, good-short, fault-long}
 use Rattle.nfd_points.proofs.laws.laws_of_faults.Goals as goal
@@ -19,3 +20,9 @@ returns-clause-good c = good-short
 
 pub returns-clause-long : goal.returns-clause-long
 returns-clause-long c = fault-long
+
+pub returns-clause-few : goal.returns-clause-few
+returns-clause-few c = few-good
+
+pub returns-clause-anew : goal.returns-clause-anew
+returns-clause-anew c = starters-anew
