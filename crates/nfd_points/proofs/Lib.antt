@@ -1,3 +1,4 @@
+pub mod AfreshLemmas
 pub mod AnewLemmas
 pub mod Computing
 pub mod CutLemmas

@@ -62,14 +62,14 @@ HasReordered-nil w none = record {
   run = run_after-nil 0 ∙ sym (ap length none);
 }
 
-byte_len-more : (taken : List ℕ) (c : ℕ) → byte_len (taken ++ c ∷ []) ≡ byte_len taken + len_utf8 c
+pub byte_len-more : (taken : List ℕ) (c : ℕ) → byte_len (taken ++ c ∷ []) ≡ byte_len taken + len_utf8 c
 byte_len-more taken c = omega (arith, byte_len-append taken (c ∷ []), byte_len-cons c [], byte_len-nil)
 
 flat_map-more : (taken : List ℕ) (c : ℕ) → flat_map decomposition (taken ++ c ∷ []) ≡ flat_map decomposition taken ++ decomposition c
 flat_map-more taken c =
     flat_map-append decomposition taken (c ∷ []) ∙ ap (λ l. flat_map decomposition taken ++ l) (append-nil (decomposition c))
 
-run-more : (taken : List ℕ) (c : ℕ) → run_after 0 (flat_map decomposition (taken ++ c ∷ [])) ≡ run_after (run_after 0 (flat_map decomposition taken)) (decomposition c)
+pub run-more : (taken : List ℕ) (c : ℕ) → run_after 0 (flat_map decomposition (taken ++ c ∷ [])) ≡ run_after (run_after 0 (flat_map decomposition taken)) (decomposition c)
 run-more taken c = ap (run_after 0) (flat_map-more taken c) ∙ run_after-append 0 (flat_map decomposition taken) (decomposition c)
 
 -- the first fault after what was taken

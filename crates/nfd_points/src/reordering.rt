@@ -2,7 +2,7 @@
 ghost use Rattle.std.specs.Prelude.{◌≡◌, ◌↔◌, ℕ, ◌+◌, ◌<◌, ◌≤◌, nat_le, true, take_while, List, [], ◌∷◌, ◌++◌, length, All, None, Some, OnOk, OnErr, IfErr, MatchResult, Ok, IsTrue};
 ghost use Rattle.arrayvec.specs.ArrayVec.{array_vec_len};
 ghost use Rattle.unicode_normalization.specs.StreamSafe.{has_short_runs};
-ghost use Rattle.nfd_points.specs.Points.{ascii_point, byte_len, points_at, points_of, points, ordered};
+ghost use Rattle.nfd_points.specs.Points.{ascii_point, begins_with_starter, byte_len, points_at, points_of, points, ordered};
 ghost use Rattle.nfd_points.specs.PointFaults.{run_after, fault_of_code_point, point_fault};
 ghost use Rattle.nfd_points.specs.Reordering.{Waiting, code_points, IsSoundPoint, IsHeld, is_closed, HasReordered, rises_from};
 
@@ -78,6 +78,12 @@ impl Reorder {
         ensures carries { (taken : List ℕ) (given : List Point) →
             HasReordered self.old taken given → offset ≡ byte_len taken →
             OnOk result (HasReordered self.new (taken ++ c ∷ []) (given ++ out.new.items)) }
+        // where none waits no code point is at fault
+        ensures none_waits { self.old.held ≡ [] → result ≡ Ok tt }
+        // and one whose points begin with a starter begins anew, whatever came before it
+        ensures afresh { (taken : List ℕ) → self.old.held ≡ [] → offset ≡ byte_len taken →
+            begins_with_starter (points_of offset c) ≡ true → point_fault taken ≡ None →
+            OnOk result (HasReordered self.new (taken ++ c ∷ []) (points taken ++ out.new.items)) }
         // the fault is the first one of the text, however it goes on
         ensures stops { (taken : List ℕ) (given : List Point) (rest : List ℕ) → HasReordered self.old taken given →
             IfErr result (λ f. point_fault (taken ++ c ∷ rest) ≡ Some (byte_len taken, f.kind)) }

@@ -10,6 +10,7 @@ use Rattle.nfd_points.proofs.DecompositionLemmas.{decomposition-decompose}
 use Rattle.nfd_points.proofs.RunLemmas.{fault_of_code_point-parts, short-nil}
 use Rattle.nfd_points.proofs.ReorderingLemmas.{is_closed-nil, stops}
 use Rattle.nfd_points.proofs.PushLemmas.{IsPushed, IsPushed-parts, IsPushed-all, IsPushed-carries, plain-pushed, plain-given, plain-short, plain-fault, plain-sound}
+use Rattle.nfd_points.proofs.AfreshLemmas.{afresh, first-good}
 use Rattle.nfd_points.proofs.GivenRunLemmas.{short-given}
 use Rattle.nfd_points.proofs.reordering.Reorder.push.Goals as goal
 
@@ -56,6 +57,9 @@ returns-then-is_plain-clause-short c =
     short-given c.args.self.now.held c.take.new.self.held c.take.new.out.items c.args.offset c.args.c (subst (λ w. IsHeld w.held) c.self.view_is c.self.invariant) (plain_pushed c)
     (plain-fault (length c.args.self.now.held) c.args.c (c.is_plain.ensures.plain c.if-is_plain.true))
 
+pub returns-then-is_plain-clause-afresh : goal.returns-then-is_plain-clause-afresh
+returns-then-is_plain-clause-afresh c = afresh c.args.self.now c.take.new.self c.take.new.out.items c.args.offset c.args.c (plain_pushed c)
+
 -- ---- any other code point
 
 -- what the code finds of its decomposition is what stands at the code point
@@ -66,6 +70,9 @@ pub returns-in-Some-clause-fault : goal.returns-in-Some-clause-fault
 returns-in-Some-clause-fault c =
     sym (at_code_point c.len-run.result (length c.args.self.now.held) c.args.c c.decomposition-parts.result.now (c.len-run.ensures.value ∙ ap (λ w. length w.held) c.self.view_is) c.decomposition-parts.ensures.value)
     ∙ sym c.in-Some.ensures
+
+pub returns-in-Some-clause-none_waits : goal.returns-in-Some-clause-none_waits
+returns-in-Some-clause-none_waits c none = let clash = sym (returns-in-Some-clause-fault c) ∙ first-good c.args.self.now.held c.args.c none in cc
 
 pub returns-in-Some-clause-closed : goal.returns-in-Some-clause-closed
 returns-in-Some-clause-closed c = ap is_closed c.empty.ensures ∙ is_closed-nil
@@ -104,3 +111,9 @@ returns-clause-carries c =
     (IsPushed-parts c.args.self.now.held c.take_all.new.self.held c.empty.new.out.items c.take_all.new.out.items c.decomposition-parts.result.now c.args.offset c.args.c
     c.empty.ensures (c.decomposition-parts.ensures.value ∙ sym (decomposition-decompose c.args.c)) c.take_all.ensures.held c.take_all.ensures.moved c.take_all.ensures.closed c.take_all.ensures.run)
     (returns-clause-fault c)
+
+pub returns-clause-afresh : goal.returns-clause-afresh
+returns-clause-afresh c =
+    afresh c.args.self.now c.take_all.new.self c.take_all.new.out.items c.args.offset c.args.c
+    (IsPushed-parts c.args.self.now.held c.take_all.new.self.held c.empty.new.out.items c.take_all.new.out.items c.decomposition-parts.result.now c.args.offset c.args.c
+    c.empty.ensures (c.decomposition-parts.ensures.value ∙ sym (decomposition-decompose c.args.c)) c.take_all.ensures.held c.take_all.ensures.moved c.take_all.ensures.closed c.take_all.ensures.run)
