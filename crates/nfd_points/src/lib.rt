@@ -1,7 +1,8 @@
 //! Points: the code points of a text in NFD (UAX #15), each with the byte offset where it comes from.
 //!
 //! A `Reorder` takes the code points of a text one at a time and gives its points as soon as no later code point can go
-//! before them. It stands on the decompositions and classes of `unicode_normalization`.
+//! before them. `points_of_character` gives those of one code point by itself. Both stand on the decompositions and
+//! classes of `unicode_normalization`.
 #![tactic(auto)]
 
 pub use crate::character::points_of_character;

@@ -3,8 +3,9 @@
 //!
 //! A [`Cut`] takes bytes in pieces of any size and gives each character as its last byte comes,
 //! with the offset of its first one. It holds at most three bytes. [`front`] gives the same text
-//! and the same fault for a whole slice. No call takes memory. Offsets and counts are in bytes,
-//! from 0 at the first byte that was pushed, or at the slice's start.
+//! and the same fault for a whole slice, [`first_character`] the character at the front of one. No
+//! call takes memory. Offsets and counts are in bytes, from 0 at the first byte that was pushed, or
+//! at the slice's start.
 //!
 //! It stands on `simdutf8`, which tests a slice, and on `arrayvec`, which holds the bytes.
 //!
