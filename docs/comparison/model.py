@@ -90,21 +90,35 @@ def code_points(points):
     return tuple(point[0] for point in points)
 
 
+def longest_string(rows):
+    return max(map(len, rows))
+
+
+def prefix_length(rows, points):
+    """How many points the longest mapped string in front has, or 1 where none is one."""
+    lengths = range(1, min(longest_string(rows), len(points)) + 1)
+    return max((n for n in lengths if code_points(points[:n]) in rows), default=1)
+
+
+def first_unit(rows, points):
+    """The unit in front, and the points that it leaves."""
+    length = prefix_length(rows, points)
+    unit, rest = points[:length], points[length:]
+    place = 0
+    while place < len(rest) and rest[place][1]:
+        mark = rest[place]
+        is_blocked = any(other[1] >= mark[1] for other in rest[:place])
+        if not is_blocked and code_points(unit + [mark]) in rows:
+            unit, rest = unit + [mark], rest[:place] + rest[place + 1 :]
+        else:
+            place += 1
+    return unit, rest
+
+
 def units(rows, points):
     rest, found = list(points), []
-    most = max(map(len, rows))
     while rest:
-        lengths = [n for n in range(1, min(most, len(rest)) + 1) if code_points(rest[:n]) in rows]
-        longest = max(lengths, default=1)
-        unit, rest = rest[:longest], rest[longest:]
-        place = 0
-        while place < len(rest) and rest[place][1]:
-            mark = rest[place]
-            is_blocked = any(other[1] >= mark[1] for other in rest[:place])
-            if not is_blocked and code_points(unit + [mark]) in rows:
-                unit, rest = unit + [mark], rest[:place] + rest[place + 1 :]
-            else:
-                place += 1
+        unit, rest = first_unit(rows, rest)
         found.append(unit)
     return found
 
@@ -162,13 +176,14 @@ def sort_key(table, strength, is_shifted, characters):
 # ---- matches
 
 
+def begins_cluster(table, unit):
+    _, combining, _, is_first = unit[0]
+    return is_first and combining == 0 and elements_of_unit(table, unit)[0][1] > 0
+
+
 def boundaries(table, characters, length):
-    places = {0, length}
-    for unit in units(table[0], points_of(characters)):
-        _, combining, offset, is_first = unit[0]
-        if is_first and combining == 0 and elements_of_unit(table, unit)[0][1]:
-            places.add(offset)
-    return sorted(places)
+    found = units(table[0], points_of(characters))
+    return sorted({0, length} | {unit[0][2] for unit in found if begins_cluster(table, unit)})
 
 
 def part(characters, start, end):
@@ -223,16 +238,20 @@ def fault_line(kind, place):
     return 2, "", f"colfind: fault {kind} at {place}\n"
 
 
-def printed(table, strength, is_shifted, output, is_chain, pattern, data):
-    """The status, and what goes to standard output and standard error."""
+def answer(table, strength, is_shifted, is_chain, pattern, data):
+    """The ranges that are handed out, and the first fault of the text as its kind and offset."""
     key = sort_key(table, strength, is_shifted, good_front(pattern)[0])
     characters, fault = good_front(data)
     length = sum(len(chr(c).encode()) for c, _ in characters)
     found = matches(table, strength, is_shifted, key, characters, length)
     if fault:
         found = [r for r in found if r[1] < length]
-    if is_chain:
-        found = chain(found)
+    return chain(found) if is_chain else found, fault
+
+
+def printed(table, strength, is_shifted, output, is_chain, pattern, data):
+    """The status, and what goes to standard output and standard error."""
+    found, fault = answer(table, strength, is_shifted, is_chain, pattern, data)
     lines = lines_of(found, output)
     if fault:
         return 2, lines, fault_line(*fault)[2]
