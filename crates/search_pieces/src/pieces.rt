@@ -1,4 +1,8 @@
 //! A search that is saved, dropped and resumed after each piece of its text.
+ghost use Rattle.std.specs.Prelude.{◌≡◌, ◌++◌, ◌∷◌, [], IfOk, false};
+ghost use Rattle.collation_search.specs.Feeding.{Feeds};
+ghost use Rattle.collation_search.specs.State.{words_of};
+
 use anyhow::Result;
 use collation_pattern::Pattern;
 use collation_search::{Found, Search, Select, TextFault};
@@ -15,7 +19,9 @@ struct Ranges {
 }
 
 impl Ranges {
-    fn new(alloc: Global) -> Ranges {
+    fn new(alloc: Global) -> Ranges
+        ensures { (result.items.items ≡ []) × (result.is_refused ≡ false) }
+    {
         Ranges {
             items: Vec::new(alloc),
             is_refused: false,
@@ -23,7 +29,10 @@ impl Ranges {
     }
 
     /// Puts a range after the others, if no allocation was refused so far.
-    fn put(&mut self, start: u64, end: u64) {
+    fn put(&mut self, start: u64, end: u64)
+        ensures put { self.new.is_refused ≡ false → self.new.items.items ≡ self.old.items.items ++ (start, end) ∷ [] }
+        ensures refused { self.new.is_refused ≡ false → self.old.is_refused ≡ false }
+    {
         if !self.is_refused {
             self.is_refused = self.items.push((start, end)).is_err();
         }
@@ -74,7 +83,9 @@ fn feed<W: Weights>(
     alloc: Global,
     search: &mut Search<'_, W>,
     piece: &[u8],
-) -> Result<Vec<(u64, u64)>, AllocError> {
+) -> Result<Vec<(u64, u64)>, AllocError>
+    ensures fed { IfOk result (λ ranges. (answer : _) × Feeds search.old piece.now answer ranges.items search.new) }
+{
     let mut ranges = Ranges::new(alloc);
     let _fault = search.feed(piece, &mut |start, end| ranges.put(start, end));
     if ranges.is_refused {
@@ -84,7 +95,9 @@ fn feed<W: Weights>(
 }
 
 /// The words of a search, which is dropped.
-fn saved<W: Weights>(alloc: Global, search: Search<'_, W>) -> Result<Vec<u64>, AllocError> {
+fn saved<W: Weights>(alloc: Global, search: Search<'_, W>) -> Result<Vec<u64>, AllocError>
+    ensures saved { IfOk result (λ words. words.items ≡ words_of search.entry) }
+{
     let mut words = Vec::new(alloc);
     search.save(&mut words)?;
     Ok(words)
