@@ -96,8 +96,9 @@ def longest_string(rows):
 
 def prefix_length(rows, points):
     """How many points the longest mapped string in front has, or 1 where none is one."""
-    lengths = range(1, min(longest_string(rows), len(points)) + 1)
-    return max((n for n in lengths if code_points(points[:n]) in rows), default=1)
+    most = min(longest_string(rows), len(points))
+    key = code_points(points[:most])
+    return next((n for n in range(most, 0, -1) if key[:n] in rows), 1)
 
 
 def first_unit(rows, points):
@@ -123,11 +124,13 @@ def units(rows, points):
     return found
 
 
+@functools.cache
 def is_core_ideograph(c):
     others = (0xFA0E, 0xFA0F, 0xFA11, 0xFA13, 0xFA14, 0xFA1F, 0xFA21, 0xFA23, 0xFA24, 0xFA27, 0xFA28, 0xFA29)
     return 0x4E00 <= c <= 0x9FFF or c in others
 
 
+@functools.cache
 def is_other_ideograph(c):
     blocks = ((0x3400, 0x4DBF), (0x20000, 0x2A6DF), (0x2A700, 0x2EE5F), (0x30000, 0x323AF))
     return any(first <= c <= last for first, last in blocks)
