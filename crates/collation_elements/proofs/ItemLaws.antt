@@ -90,6 +90,27 @@ after_units-push : (T : TableMap) (v : Variable) (after : Bool) (us : List (List
 after_units-push T v after [] unit = refl
 after_units-push T v after (u ∷ us) unit = after_units-push T v (after_unit T v after u) us unit
 
+items-append : (T : TableMap) (s : Strength) (v : Variable) (after : Bool) (us vs : List (List Point)) → items T s v after (us ++ vs) ≡ items T s v after us ++ items T s v (after_units T v after us) vs
+items-append T s v after [] vs = refl
+items-append T s v after (u ∷ us) vs =
+    ap (λ rest. unit_items T s v after u ++ rest) (items-append T s v (after_unit T v after u) us vs)
+    ∙ sym (append_assoc (unit_items T s v after u) (items T s v (after_unit T v after u) us) (items T s v (after_units T v (after_unit T v after u) us) vs))
+
+after_units-append : (T : TableMap) (v : Variable) (after : Bool) (us vs : List (List Point)) → after_units T v after (us ++ vs) ≡ after_units T v (after_units T v after us) vs
+after_units-append T v after [] vs = refl
+after_units-append T v after (u ∷ us) vs = after_units-append T v (after_unit T v after u) us vs
+
+-- a weigher goes on with further units
+pub weigher_goes_on : (T : TableMap) (w : Weigher) (us vs : List (List Point)) (given more : List Item) (after : Bool) → items T w.strength w.variable w.after_variable vs ≡ more →
+    after_units T w.variable w.after_variable vs ≡ after → WeigherStandsFor T w us given → WeigherStandsFor T (weigher w.strength w.variable after) (us ++ vs) (given ++ more)
+weigher_goes_on T w us vs given more after gives leaves stands = record {
+  items =
+      ap (λ xs. given ++ xs) (sym gives) ∙ ap (λ xs. xs ++ items T w.strength w.variable w.after_variable vs) stands.items
+      ∙ ap (λ b. items T w.strength w.variable false us ++ items T w.strength w.variable b vs) stands.after
+      ∙ sym (items-append T w.strength w.variable false us vs);
+  after = sym leaves ∙ ap (λ b. after_units T w.variable b vs) stands.after ∙ sym (after_units-append T w.variable false us vs);
+}
+
 -- the items of a unit, from its value alone
 pub unit_items-value : (T : TableMap) (w : Weigher) (points : List Point) (unit : UnitValue) → IsUnitOf T points unit → unit_items T w.strength w.variable w.after_variable points ≡ value_items w unit
 unit_items-value T w points unit is =

@@ -1,5 +1,5 @@
 //! Laws about the definitions: each is the contract of a function that does nothing.
-ghost use Rattle.std.specs.Prelude.{◌≡◌, List, [], ◌∷◌, ◌++◌, true, false, All};
+ghost use Rattle.std.specs.Prelude.{◌≡◌, Bool, List, [], ◌∷◌, ◌++◌, true, false, All};
 ghost use Rattle.nfd_points.specs.declared.points.Point.{Point};
 ghost use Rattle.nfd_points.specs.Points.{is_starter};
 ghost use Rattle.nfd_points.specs.Reordering.{is_closed};
@@ -8,7 +8,10 @@ ghost use Rattle.collation_elements.specs.declared.settings.Strength.{Strength};
 ghost use Rattle.collation_elements.specs.declared.settings.Variable.{Variable};
 ghost use Rattle.collation_elements.specs.Units.{units};
 ghost use Rattle.collation_elements.specs.Keys.{keys};
+ghost use Rattle.collation_elements.specs.declared.keys.Item.{Item};
+ghost use Rattle.collation_elements.specs.declared.weigher.Weigher.{Weigher};
 ghost use Rattle.collation_elements.specs.Items.{items};
+ghost use Rattle.collation_elements.specs.Weighing.{weigher, after_units, WeigherStandsFor};
 ghost use Rattle.collation_elements.specs.ItemParts.{item_keys, item_starts};
 ghost use Rattle.collation_elements.specs.Boundaries.{cluster_starts};
 
@@ -43,4 +46,11 @@ pub fn units_stay_apart()
         → units table (ps ++ more) ≡ units table ps ++ units table more }
     ensures before { (table : TableMap) (ps : List Point) (d : Point) (more : List Point) → is_starter d ≡ true
         → ContinuesNoString table d.cp → units table (ps ++ d ∷ more) ≡ units table ps ++ units table (d ∷ more) }
+{}
+
+/// A weigher goes on with further units: what it gives is the items of those before and then those of the further ones.
+pub fn weighers_go_on()
+    ensures { (table : TableMap) (w : Weigher) (us vs : List (List Point)) (given more : List Item) (after : Bool)
+        → items table w.strength w.variable w.after_variable vs ≡ more → after_units table w.variable w.after_variable vs ≡ after
+        → WeigherStandsFor table w us given → WeigherStandsFor table (weigher w.strength w.variable after) (us ++ vs) (given ++ more) }
 {}

@@ -35,6 +35,7 @@ pub use crate::context::{clusters_are_parts, clusters_begin_afresh, parts_join};
 pub use crate::keys::{Item, Key};
 pub use crate::laws::{
     closed_points_append, items_are_keys_and_starts, lone_points_are_units, units_stay_apart,
+    weighers_go_on,
 };
 pub use crate::lone::LoneItems;
 pub use crate::settings::{Strength, Variable};

@@ -2,7 +2,7 @@
 ghost use Rattle.std.specs.Prelude.{◌≡◌, ℕ, ◌+◌, ◌≤◌, ◌<◌, List, [], ◌∷◌, ◌++◌, true, false, length, map};
 ghost use Rattle.std.specs.Option.{option_to_list, ForSome};
 ghost use Rattle.nfd_points.specs.declared.points.Point.{Point};
-ghost use Rattle.nfd_points.specs.Points.{ascii_point, is_starter};
+ghost use Rattle.nfd_points.specs.Points.{ascii_point, is_starter, shifted};
 ghost use Rattle.arrayvec.specs.ArrayVec.{array_vec_len};
 ghost use Rattle.collation_table.specs.declared.elements.Element.{Element as CollationElement};
 ghost use Rattle.collation_table.specs.Table.{TableMap};
@@ -11,9 +11,12 @@ ghost use Rattle.collation_table.specs.WellFormed.{is_lead};
 ghost use Rattle.collation_elements.specs.Keys.{element_keys, pair_key, second_at, third_at};
 ghost use Rattle.collation_elements.specs.UnitValues.{IsUnitOf};
 ghost use Rattle.collation_elements.specs.Items.{key_items};
+ghost use Rattle.collation_elements.specs.Units.{units as units_of};
 ghost use Rattle.collation_elements.specs.Lone.{AreItemsOf, items_at};
+ghost use Rattle.collation_elements.specs.CharacterItems.{AreItemsOfPoints, character_items};
 ghost use Rattle.collation_elements.specs.Weighing.{weigher, weigher_after, is_after_variable, weighted_element, after_element, value_items, WeigherStandsFor};
 
+use crate::character::CharacterItems;
 use crate::keys::{Item, Key};
 use crate::lone::LoneItems;
 use crate::settings::{Strength, Variable};
@@ -98,6 +101,18 @@ impl Weigher {
             → WeigherStandsFor table self.new (units ++ (ascii_point start cp ∷ []) ∷ []) (given ++ items_at lone.now start) }
     {
         *self = Weigher::restore(self.strength, self.variable, lone.after_variable);
+    }
+
+    /// Takes the units of a character at once, of which these are the items.
+    #[inline(always)]
+    pub fn take_character(&mut self, items: &CharacterItems)
+        ensures after { self.new ≡ weigher self.old.strength self.old.variable items.now.after_variable }
+        ensures stands { (table : TableMap) (start : ℕ) (points : List Point) (units : List (List Point)) (given : List Item)
+            → AreItemsOfPoints table self.old points items.now
+            → WeigherStandsFor table self.old units given
+            → WeigherStandsFor table self.new (units ++ units_of table (map (shifted start) points)) (given ++ character_items items.now start) }
+    {
+        *self = Weigher::restore(self.strength, self.variable, items.after_variable);
     }
 
     #[inline(always)]

@@ -36,22 +36,22 @@ not_false : (b : Bool) → false ≡ not b → b ≡ true
 not_false true h = refl
 not_false false h = cc
 
--- what a search stands for after a run
-pub searched-ascii : (table : TableMap) (pattern : Compiled) (old new : CutState) (finder later : Finder) (fault : Option TextFault) (u run : List ℕ) (n : ℕ) (handed ranges : List (ℕ × ℕ)) →
-    Searched table pattern old finder fault u handed → n ≡ length run → old.count + n ≤ most_bytes → new ≡ between_characters (old.count + n) →
-    StandsFor new (u ++ run) (characters u ++ with_offsets old.count run) →
-    FinderStandsFor table pattern later (chars (whole u) ++ run) (handed ++ ranges) → Searched table pattern new later fault (u ++ run) (handed ++ ranges)
-searched-ascii table pattern old new finder later fault u run n handed ranges h long fits state stands found =
-    let codes = next_codes u run old.count run (sym stands.characters_given) in
-    let sum = length-append u run in
+-- what a search stands for after bytes that are whole characters
+pub searched-text : (table : TableMap) (pattern : Compiled) (old new : CutState) (finder later : Finder) (fault : Option TextFault) (u text cs : List ℕ) (n : ℕ) (handed ranges : List (ℕ × ℕ)) →
+    Searched table pattern old finder fault u handed → n ≡ length text → old.count + n ≤ most_bytes → new ≡ between_characters (old.count + n) →
+    StandsFor new (u ++ text) (characters u ++ with_offsets old.count cs) →
+    FinderStandsFor table pattern later (chars (whole u) ++ cs) (handed ++ ranges) → Searched table pattern new later fault (u ++ text) (handed ++ ranges)
+searched-text table pattern old new finder later fault u text cs n handed ranges h long fits state stands found =
+    let codes = next_codes u text old.count cs (sym stands.characters_given) in
+    let sum = length-append u text in
     let count = h.cut_stands.count in
-    let short : length (u ++ run) ≤ most_bytes = omega (arith, sum, count, long, fits) in
+    let short : length (u ++ text) ≤ most_bytes = omega (arith, sum, count, long, fits) in
     let sound : false ≡ new.is_bad = ap (λ cut. cut.is_bad) (sym state) in
-    let formed : is_utf8_prefix (u ++ run) ≡ true = not_false (is_utf8_prefix (u ++ run)) (sound ∙ stands.bad) in
+    let formed : is_utf8_prefix (u ++ text) ≡ true = not_false (is_utf8_prefix (u ++ text)) (sound ∙ stands.bad) in
     record {
-      cut_stands = subst (λ t. StandsFor new (u ++ run) t) stands.characters_given stands;
-      found = subst (λ cs. FinderStandsFor table pattern later cs (handed ++ ranges)) (sym codes) found;
-      open_bytes = open_from (u ++ run) short formed (ap point_fault codes ∙ found.reordered.good);
+      cut_stands = subst (λ t. StandsFor new (u ++ text) t) stands.characters_given stands;
+      found = subst (λ cs'. FinderStandsFor table pattern later cs' (handed ++ ranges)) (sym codes) found;
+      open_bytes = open_from (u ++ text) short formed (ap point_fault codes ∙ found.reordered.good);
       no_fault = h.no_fault;
       some_key = h.some_key;
     }

@@ -1,5 +1,5 @@
 -- The starts of minimal ranges rise strictly, and none is after the end of the text.
-use Rattle.std.proofs.Common.{◌≡◌, ℕ, suc, ◌+◌, ◌<◌, ◌≤◌, Bool, true, List, [], ◌∷◌, length, take, filter, nat_lt, Option, Some, None, refl, sym, ap, subst, arith, inl, inr}
+use Rattle.std.proofs.Common.{◌≡◌, ℕ, suc, ◌+◌, ◌<◌, ◌≤◌, List, [], ◌∷◌, length, take, nat_lt, Option, Some, None, refl, ap, arith, inl, inr}
 use Rattle.std.proofs.lemmas.List.{length-take}
 use Rattle.collation_table.specs.Table.{TableMap}
 use Rattle.collation_elements.specs.declared.settings.Strength.{Strength}
@@ -10,7 +10,7 @@ use Rattle.collation_elements.specs.Boundaries.{boundaries, offsets_to, is_bound
 use Rattle.collation_pattern.specs.SortKey.{text_sort_key}
 use Rattle.collation_search.specs.Answer.{answer, answer_at}
 use Rattle.collation_search.specs.GoodPrefix.{fault, good_prefix, prefix_at}
-use Rattle.collation_search.specs.Matches.{ranges_among, ranges_with_sort_key, is_within, minimal, matches, settled}
+use Rattle.collation_search.specs.Matches.{ranges_among, ranges_with_sort_key, minimal, matches, settled}
 use Rattle.collation_search.specs.declared.faults.TextFault.{TextFault}
 use Rattle.collation_search.proofs.BridgeLists.{In, Rising, in_filter, rising_filter}
 use Rattle.collation_search.proofs.BridgeMatches.{below_offsets, rising_boundaries}

@@ -43,3 +43,8 @@ pub mod AsciiUnitLemmas
 pub mod LoneLemmas
 pub mod RunWindowLemmas
 pub mod PassedLemmas
+pub mod ApartLaws
+pub mod ApartLemmas
+pub mod PauseLemmas
+pub mod CharacterUnitLemmas
+pub mod CharacterLemmas

@@ -3,16 +3,13 @@ use Rattle.std.specs.Option.{ForSome, IfSome, OnSome}
 use Rattle.std.specs.List.{Contains}
 use Rattle.std.proofs.lemmas.List.Elements.{All-same, All-tail}
 use Rattle.collation_search.proofs.MatchingLemmas.{among-pushed}
-use Rattle.std.proofs.Common.{◌≡◌, ◌∙◌, ℕ, zero, suc, ◌<◌, length, get_or, arith, cond, ltb, ltb-true, Bool, true, false, not, ◌||◌, List, [], ◌∷◌, ◌++◌, take, drop, slice_get, Option, Some, None, refl, sym, ap, ap₂, subst, append_assoc}
-use Rattle.std.proofs.lemmas.Option.{none-some, same_Some}
+use Rattle.std.proofs.Common.{◌≡◌, ◌∙◌, ℕ, zero, suc, ◌<◌, length, get_or, arith, cond, ltb, ltb-true, Bool, true, false, not, ◌||◌, List, [], ◌∷◌, ◌++◌, slice_get, Option, Some, None, refl, sym, ap, subst, append_assoc}
 use Rattle.nfd_points.specs.declared.points.Point.{Point}
 use Rattle.nfd_points.specs.Points.{ascii_point, is_starter}
 use Rattle.collation_table.specs.Table.{TableMap, BeginsNoLongerString, ContinuesNoString}
 use Rattle.collation_elements.specs.declared.keys.Item.{Item}
 use Rattle.collation_elements.specs.declared.lone.LoneItems.{LoneItems}
 use Rattle.collation_elements.specs.declared.weigher.Weigher.{Weigher}
-use Rattle.collation_elements.specs.declared.settings.Strength.{Strength}
-use Rattle.collation_elements.specs.declared.settings.Variable.{Variable}
 use Rattle.collation_elements.specs.Units.{units}
 use Rattle.collation_elements.specs.Windows.{Held}
 use Rattle.collation_elements.specs.Weighing.{weigher, WeigherStandsFor}

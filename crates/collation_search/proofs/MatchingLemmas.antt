@@ -17,13 +17,10 @@ use Rattle.collation_elements.specs.ItemParts.{item_starts}
 use Rattle.collation_elements.specs.UnitValues.{UnitValue}
 use Rattle.collation_elements.specs.Weighing.{value_items}
 use Rattle.std.proofs.lemmas.List.{append-nil}
-use Rattle.collation_elements.specs.Items.{items}
-use Rattle.collation_elements.specs.Units.{units}
 use Rattle.collation_elements.specs.Windows.{Held}
 use Rattle.collation_pattern.specs.Compiled.{Compiled}
 use Rattle.collation_search.specs.declared.walk.Walk.{Walk}
 use Rattle.collation_search.specs.Matching.{HasMatched}
-use Rattle.collation_search.specs.Walks.{WalksOver}
 
 pub item_starts-append : (xs ys : List Item) → item_starts (xs ++ ys) ≡ item_starts xs ++ item_starts ys
 item_starts-append [] ys = refl
@@ -68,19 +65,6 @@ pub matched-first : (table : TableMap) (pattern : Compiled) (window : Held) (wei
     first ≡ [] → HasMatched table pattern window weigher walk ps ranges → HasMatched table pattern window weigher walk ps (ranges ++ first)
 matched-first table pattern window weigher walk ps ranges first none h =
     subst (HasMatched table pattern window weigher walk ps) (sym (ap (λ t. ranges ++ t) none ∙ append-nil ranges)) h
-
--- the window holds nothing any more: all units were cut
-pub matched-all : (table : TableMap) (pattern : Compiled) (window : Held) (weigher : Weigher) (walk : Walk) (ps : List Point) (ranges : List (ℕ × ℕ)) →
-    HasMatched table pattern window weigher walk ps ranges → window.points ≡ [] →
-    WalksOver pattern.keys (items table pattern.strength pattern.variable false (units table ps)) ranges walk
-matched-all table pattern window weigher walk ps ranges h none =
-    let all = h.cut.continues [] (λ e. refl) in
-    let after : units table (window.points ++ []) ≡ [] = ap (λ qs. units table (qs ++ [])) none in
-    let cut : units table ps ≡ h.units = ap (units table) (sym (append-nil ps)) ∙ all ∙ ap (λ us. h.units ++ us) after ∙ append-nil h.units in
-    let listed : h.items ≡ items table pattern.strength pattern.variable false (units table ps) =
-    h.weighed.items ∙ ap (λ s. items table s weigher.variable false h.units) h.strength ∙ ap (λ v. items table pattern.strength v false h.units) h.variable
-    ∙ ap (λ us. items table pattern.strength pattern.variable false us) (sym cut) in
-    subst (λ (t : List Item). WalksOver pattern.keys t ranges walk) listed h.walked
 
 -- a range is handed out at a start only
 pub few_at_start : (item : Item) (range : Option (ℕ × ℕ)) → IfSome range (λ r. item ≡ ClusterStart r.1) → length (option_to_list range) ≤ length (item_starts (item ∷ []))

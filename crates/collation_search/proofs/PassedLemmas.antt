@@ -1,12 +1,12 @@
 -- Characters that are passed by where no key of the pattern waits.
 use Rattle.std.specs.Str.{IsAscii}
 use Rattle.std.specs.List.{All}
-use Rattle.std.proofs.Common.{◌≡◌, ◌∙◌, ℕ, zero, suc, ◌+◌, ◌-◌, ◌<◌, ◌≤◌, Bool, true, false, List, [], ◌∷◌, ◌++◌, length, map, take, drop, get_or, refl, sym, ap, ap₂, subst, arith, append_assoc}
+use Rattle.std.proofs.Common.{◌≡◌, ◌∙◌, ℕ, zero, suc, ◌+◌, ◌-◌, ◌<◌, ◌≤◌, Bool, true, false, not, List, [], ◌∷◌, ◌++◌, length, map, drop, get_or, refl, sym, ap, ap₂, subst, arith, append_assoc}
 use Rattle.std.proofs.Math.Seq.{drop-length}
 use Rattle.std.proofs.lemmas.Bool.{ne_eqb}
 use Rattle.std.proofs.lemmas.List.{append-nil, length-drop, get_or-drop}
 use Rattle.std.proofs.lemmas.Str.{IsAscii-drop}
-use Rattle.std.proofs.lemmas.List.Elements.{All-head}
+use Rattle.std.proofs.lemmas.List.Elements.{All-head, All-tail}
 use Rattle.circular_buffer.specs.Buffer.{Buffer, keep_last}
 use Rattle.nfd_points.specs.declared.points.Point.{Point}
 use Rattle.nfd_points.specs.Points.{ascii_point}
@@ -27,12 +27,12 @@ use Rattle.collation_search.specs.AsciiUnits.{keys_alone, IsPassed, AreWalked}
 use Rattle.collation_search.specs.Walks.{WalksOver}
 use Rattle.collation_search.specs.Selecting.{remembered}
 use Rattle.collation_search.proofs.SelectingLemmas.{selected_after-nil}
-use Rattle.collation_search.proofs.WalkSteps.{walks-start, walks-key, walks-end_short, walks-select, keep_last-all}
+use Rattle.collation_search.proofs.WalkSteps.{walks-start, walks-key, walks-end_short, walks-select}
 use Rattle.collation_search.proofs.RunWindowLemmas.{walked-one, walked-append}
 
 -- ---- the walk
 
-abbrev Stays : List Key → Key → Type 0
+abbrev pub Stays : List Key → Key → Type 0
 Stays pattern key = (ks : List Key) → border pattern ks ≡ 0 → border pattern (ks ++ key ∷ []) ≡ 0
 
 none_kept : (n : ℕ) (xs : List KeyPlace) → n ≡ 0 → keep_last n xs ≡ []
@@ -57,12 +57,27 @@ walks-at_none pattern items ranges v places h none capacity few =
       last_end = h.last_end;
     }
 
+-- further keys of a cluster that has some
+walks-stay : (pattern : List Key) (items : List Item) (ranges : List (ℕ × ℕ)) (w : Walk) (keys : List Key) → WalksOver pattern items ranges w → w.state ≡ 0 → w.has_keys ≡ true →
+    All (Stays pattern) keys → WalksOver pattern (items ++ map (λ key. Element key) keys) ranges w
+walks-stay pattern items ranges w [] h none some stay = subst (λ (is : List Item). WalksOver pattern is ranges w) (sym (append-nil items)) h
+walks-stay pattern items ranges w (k ∷ ks) h none some stay =
+    let place : KeyPlace = record { start = w.start; is_first = not w.has_keys } in
+    let more : Buffer KeyPlace = record { items = keep_last w.places.capacity (w.places.items ++ place ∷ []); capacity = w.places.capacity } in
+    let keyed : Walk = record w { places = more } in
+    let one : WalksOver pattern (items ++ Element k ∷ []) (ranges ++ []) keyed =
+    walks-key pattern items ranges k w keyed h refl some (λ ls e. none ∙ sym (All-head (Stays pattern) k ks stay ls (e ∙ none))) refl refl refl refl in
+    let here = walks-at_none pattern (items ++ Element k ∷ []) (ranges ++ []) keyed w.places one none h.capacity h.few in
+    let there : WalksOver pattern (items ++ Element k ∷ []) ranges w =
+    subst (λ (rs : List (ℕ × ℕ)). WalksOver pattern (items ++ Element k ∷ []) rs w) (append-nil ranges) here in
+    subst (λ (is : List Item). WalksOver pattern is ranges w) (append_assoc items (Element k ∷ []) (map (λ key. Element key) ks))
+    (walks-stay pattern (items ++ Element k ∷ []) ranges w ks there none some (All-tail (Stays pattern) k ks stay))
+
 pub walks-passed : (pattern : List Key) (items : List Item) (ranges : List (ℕ × ℕ)) (w : Walk) (s : ℕ) (keys : List Key) → WalksOver pattern items ranges w → w.state ≡ 0 →
-    1 ≤ length pattern → 0 < s → length keys ≡ 1 → All (Stays pattern) keys →
+    1 ≤ length pattern → 0 < s → 1 ≤ length keys → All (Stays pattern) keys →
     WalksOver pattern (items ++ (ClusterStart s ∷ map (λ key. Element key) keys)) (ranges ++ []) (record w { start = s; has_keys = true })
 walks-passed pattern items ranges w s [] h none some after one stay = absurd (omega (arith, one))
-walks-passed pattern items ranges w s (k ∷ l ∷ ks) h none some after one stay = absurd (omega (arith, one))
-walks-passed pattern items ranges w s (k ∷ []) h none some after one stay =
+walks-passed pattern items ranges w s (k ∷ ks) h none some after one stay =
     let begun : Walk = record w { start = s; has_keys = false } in
     let ended = walks-end_short pattern items ranges w s (λ e. omega (arith, e, none, some)) h in
     let nothing = selected_after-nil w.select w.last_end in
@@ -75,10 +90,13 @@ walks-passed pattern items ranges w s (k ∷ []) h none some after one stay =
     let keyed : Walk = record w { start = s; has_keys = true; places = more } in
     let second : WalksOver pattern ((items ++ ClusterStart s ∷ []) ++ Element k ∷ []) ((ranges ++ []) ++ []) keyed =
     walks-key pattern (items ++ ClusterStart s ∷ []) (ranges ++ []) k begun keyed first refl refl
-    (λ ks e. none ∙ sym (All-head (Stays pattern) k [] stay ks (e ∙ none))) refl refl refl refl in
-    subst (λ (rs : List (ℕ × ℕ)). WalksOver pattern (items ++ (ClusterStart s ∷ Element k ∷ [])) rs (record w { start = s; has_keys = true })) (append-nil (ranges ++ []))
-    (subst (λ (is : List Item). WalksOver pattern is ((ranges ++ []) ++ []) (record w { start = s; has_keys = true })) (append_assoc items (ClusterStart s ∷ []) (Element k ∷ []))
-    (walks-at_none pattern ((items ++ ClusterStart s ∷ []) ++ Element k ∷ []) ((ranges ++ []) ++ []) keyed w.places second none h.capacity h.few))
+    (λ ls e. none ∙ sym (All-head (Stays pattern) k ks stay ls (e ∙ none))) refl refl refl refl in
+    let later : Walk = record w { start = s; has_keys = true } in
+    let third = walks-at_none pattern ((items ++ ClusterStart s ∷ []) ++ Element k ∷ []) ((ranges ++ []) ++ []) keyed w.places second none h.capacity h.few in
+    let rest = map (λ key. Element key) ks in
+    subst (λ (rs : List (ℕ × ℕ)). WalksOver pattern (items ++ (ClusterStart s ∷ Element k ∷ rest)) rs later) (append-nil (ranges ++ []))
+    (subst (λ (is : List Item). WalksOver pattern is ((ranges ++ []) ++ []) later) (append_assoc (items ++ ClusterStart s ∷ []) (Element k ∷ []) rest ∙ append_assoc items (ClusterStart s ∷ []) (Element k ∷ rest))
+    (walks-stay pattern ((items ++ ClusterStart s ∷ []) ++ Element k ∷ []) ((ranges ++ []) ++ []) later ks third none refl (All-tail (Stays pattern) k ks stay)))
 
 -- ---- the weigher
 
@@ -118,7 +136,7 @@ passed-one T pattern held s cs w walk before none some after held_some room low 
     walked-one T pattern held s cs w w walk (record walk { start = s; has_keys = true }) (ClusterStart s ∷ map (λ key. Element key) (keys_alone T pattern c)) [] held_some room
     (passed.apart (get_or cs 1 0) (low 1))
     (λ strength variable us items h. weighs-passed T pattern w c s us items passed before strength variable h) refl refl
-    (λ items rs h. walks-passed pattern.keys items rs walk s (keys_alone T pattern c) h none some after passed.one_key passed.stays)
+    (λ items rs h. walks-passed pattern.keys items rs walk s (keys_alone T pattern c) h none some after (omega (arith, passed.one_key)) passed.stays)
 
 pub passed-walked : (T : TableMap) (pattern : Compiled) (held n s : ℕ) (cs : List ℕ) (w : Weigher) (walk : Walk) → w.after_variable ≡ false → walk.state ≡ 0 → 1 ≤ length pattern.keys → 0 < s →
     1 ≤ held → (n + 1) + held ≤ length cs → IsAscii cs → ((k : ℕ) → k < n + 1 → IsPassed T pattern (get_or cs k 0)) →

@@ -1,16 +1,14 @@
 -- The answer to a text, from what a search has found in it.
 use Rattle.std.specs.Str.{chars, IsUtf8}
-use Rattle.std.proofs.Common.{◌≡◌, ◌∙◌, ◌<◌, ◌≤◌, ℕ, List, [], ◌∷◌, ◌++◌, false, length, take, Some, None, refl, sym, ap, subst, arith}
+use Rattle.std.proofs.Common.{◌≡◌, ◌∙◌, ◌<◌, ◌≤◌, ℕ, List, ◌++◌, false, length, take, Some, None, refl, sym, ap, subst, arith}
 use Rattle.std.proofs.lemmas.List.{take-append-le}
 use Rattle.utf8_cut.specs.Characters.{characters_end}
 use Rattle.nfd_points.specs.Points.{points}
-use Rattle.collation_table.specs.Table.{TableMap}
 use Rattle.collation_elements.specs.declared.keys.Key.{Key}
 use Rattle.collation_elements.specs.declared.keys.Item.{Item}
 use Rattle.collation_elements.specs.Clusters.{Cluster, clusters, clusters_from}
 use Rattle.collation_elements.specs.Items.{items}
 use Rattle.collation_elements.specs.Units.{units}
-use Rattle.collation_pattern.specs.Compiled.{Compiled}
 use Rattle.collation_pattern.specs.Levels.{text_keys}
 use Rattle.collation_search.specs.declared.faults.TextFault.{TextFault}
 use Rattle.collation_search.specs.declared.walk.Walk.{Walk}

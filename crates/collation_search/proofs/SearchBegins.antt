@@ -1,20 +1,15 @@
 -- Whatever bytes follow, the ranges that a search has handed out begin those of the answer.
 use Rattle.std.specs.Str.{chars, IsUtf8}
-use Rattle.std.proofs.Common.{◌≡◌, ◌∙◌, ◌+◌, ◌<◌, ◌≤◌, ℕ, Bool, true, false, List, [], ◌∷◌, ◌++◌, length, take, drop, Some, None, refl, sym, ap, subst, arith, inl, inr}
-use Rattle.std.proofs.lemmas.Bool.{false_from_ne_true}
+use Rattle.std.proofs.Common.{◌≡◌, ◌∙◌, ◌≤◌, ℕ, true, false, List, [], ◌++◌, length, take, drop, sym, ap, subst, inl, inr}
 use Rattle.utf8_cut.specs.Characters.{characters_end}
-use Rattle.nfd_points.specs.declared.points.Point.{Point}
 use Rattle.nfd_points.specs.Points.{points, points_from, byte_len, ordered}
 use Rattle.collation_elements.specs.declared.keys.Key.{Key}
 use Rattle.collation_elements.specs.declared.keys.Item.{Item}
-use Rattle.collation_elements.specs.Clusters.{Cluster, clusters, clusters_from}
+use Rattle.collation_elements.specs.Clusters.{clusters, clusters_from}
 use Rattle.collation_elements.specs.Items.{items}
 use Rattle.collation_elements.specs.Units.{units}
 use Rattle.collation_elements.specs.Weighing.{after_units}
-use Rattle.collation_pattern.specs.Levels.{text_keys}
-use Rattle.collation_search.specs.declared.faults.TextFault.{TextFault}
 use Rattle.collation_search.specs.declared.finder.Finder.{Finder}
-use Rattle.collation_search.specs.declared.walk.Walk.{Walk}
 use Rattle.collation_search.specs.Answer.{Answer, answer, answer_at}
 use Rattle.collation_search.specs.ByClusters.{text_begin, found, found_before_last}
 use Rattle.collation_search.specs.ByClustersLaws.{matches_are_found, settled_are_found, items_give_ranges}
@@ -23,7 +18,6 @@ use Rattle.collation_search.specs.GoodPrefix.{fault, good_prefix, prefix_at, who
 use Rattle.collation_search.specs.Matches.{matches, settled}
 use Rattle.collation_search.specs.Search.{Sought, IsCompiledFrom, answer_to}
 use Rattle.collation_search.specs.Selecting.{selected}
-use Rattle.collation_search.specs.Walks.{WalksOver}
 use Rattle.collation_search.proofs.LagRanges.{items-append}
 use Rattle.collation_search.proofs.LagTexts.{TextLaws, BeginsWith, begins-append, begins-take, begins-chars, fault_after, no_fault_text}
 use Rattle.collation_search.proofs.SearchAnswers.{items_in, has_key}

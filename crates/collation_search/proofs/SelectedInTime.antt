@@ -1,5 +1,5 @@
 -- A range that is handed out of an answer is handed out of the part of it that was found early, if it is one of that.
-use Rattle.std.proofs.Common.{◌≡◌, ℕ, ◌<◌, Bool, true, false, cond, nat_le, List, [], ◌∷◌, ◌++◌, subst, sym, ap, arith, inl, inr, ◌∙◌}
+use Rattle.std.proofs.Common.{◌≡◌, ℕ, nat_le, List, [], ◌∷◌, ◌++◌, subst, ap, arith, inl, inr, ◌∙◌}
 use Rattle.std.proofs.lemmas.Bool.{cases_Bool}
 use Rattle.collation_search.specs.declared.select.Select.{Select}
 use Rattle.collation_search.specs.declared.select.Select.TheVariants.{All, Chain}

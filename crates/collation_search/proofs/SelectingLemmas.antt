@@ -1,11 +1,9 @@
 -- How a selection goes on: with ranges after others, by what has to be remembered of those that were handed out.
-use Rattle.std.specs.Prelude.{Contains}
-use Rattle.std.proofs.Common.{◌≡◌, ℕ, ◌≤◌, ◌<◌, Bool, true, false, nat_le, List, [], ◌∷◌, ◌++◌, refl, sym, ap, ◌∙◌, subst, arith, inl, inr, cond}
-use Rattle.std.proofs.lemmas.Bool.{cases_Bool, cond-true, cond-false, le-leb, leb-true, leb-false}
-use Rattle.std.proofs.lemmas.List.{append-nil}
+use Rattle.std.proofs.Common.{◌≡◌, ℕ, ◌≤◌, ◌<◌, true, false, nat_le, List, [], ◌∷◌, ◌++◌, refl, sym, ap, ◌∙◌, arith, inl, inr}
+use Rattle.std.proofs.lemmas.Bool.{cases_Bool, cond-true, cond-false, le-leb, leb-true}
 use Rattle.collation_search.specs.declared.select.Select.{Select}
 use Rattle.collation_search.specs.declared.select.Select.TheVariants.{All, Chain}
-use Rattle.collation_search.specs.Selecting.{chain_after, chain, selected, end_after, remembered}
+use Rattle.collation_search.specs.Selecting.{chain_after, selected, end_after, remembered}
 
 -- ---- a chain
 

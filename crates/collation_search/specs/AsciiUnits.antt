@@ -1,10 +1,9 @@
 -- What a search keeps of the ASCII characters, and what it has done with a run of them.
-use Rattle.std.specs.Prelude.{◌≡◌, ℕ, ◌+◌, ◌<◌, Bool, true, false, List, [], ◌∷◌, ◌++◌, length, map, take, drop, All}
+use Rattle.std.specs.Prelude.{◌≡◌, ℕ, ◌+◌, ◌<◌, true, false, List, [], ◌∷◌, ◌++◌, length, map, take, drop, All}
 use Rattle.std.specs.Option.{ForSome}
 use Rattle.collation_table.specs.Table.{TableMap, BeginsNoLongerString, ContinuesNoString}
 use Rattle.nfd_points.specs.declared.points.Point.{Point}
 use Rattle.nfd_points.specs.Points.{ascii_point}
-use Rattle.collation_elements.specs.declared.lone.LoneItems.{LoneItems}
 use Rattle.collation_elements.specs.declared.keys.Item.TheVariants.{ClusterStart, Element}
 use Rattle.collation_elements.specs.Units.{units}
 use Rattle.collation_elements.specs.Items.{unit_items, after_unit}

@@ -21,3 +21,5 @@ pub mod Saving
 pub mod WorkedRows
 pub mod Lag
 pub mod AsciiUnits
+pub mod Characters
+pub mod Apart

@@ -43,7 +43,8 @@ impl<'a, W: Weights> Search<'a, W> {
             return Err(fault);
         }
         let mut found = Found::new();
-        let mut at = self.take_run(piece, &mut found, sink);
+        let reach = self.reach(piece);
+        let mut at = self.take_at_once(piece, reach, &mut found, sink);
         while at < piece.len() {
             match self.step(piece[at], &mut found) {
                 Ok(()) => hand_out(found.as_slice(), sink),
@@ -53,7 +54,7 @@ impl<'a, W: Weights> Search<'a, W> {
                 }
             }
             at += 1;
-            at += self.take_run(&piece[at..], &mut found, sink);
+            at += self.take_at_once(&piece[at..], reach.saturating_sub(at), &mut found, sink);
         }
         Ok(())
     }

@@ -12,7 +12,7 @@ use arrayvec::ArrayVec;
 use collation_elements::{Item, MOST_ITEMS, Weigher, Window, closed_points_append};
 use collation_pattern::Pattern;
 use collation_table::{MOST_STRING_POINTS, Weights};
-use nfd_points::laws::{laws_of_faults, laws_of_runs};
+use nfd_points::laws::{laws_of_decompositions, laws_of_faults, laws_of_ordering, laws_of_runs};
 use nfd_points::{MOST_GIVEN, Point, PointFault, Reorder};
 use std::alloc::{AllocError, Global};
 
@@ -40,13 +40,14 @@ pub(crate) struct Finder {
 }
 
 impl Finder {
-    ghost use Rattle.std.specs.Prelude.{◌≡◌, ℕ, ◌+◌, ◌<◌, ◌≤◌, List, [], ◌∷◌, ◌++◌, length, IfOk, OnOk, OnErr, IfErr, Ok, Some, false};
+    ghost use Rattle.std.specs.Prelude.{◌≡◌, ℕ, ◌+◌, ◌<◌, ◌≤◌, List, [], ◌∷◌, ◌++◌, length, IfOk, OnOk, OnErr, IfErr, Ok, Some, None, true, false};
     ghost use Rattle.arrayvec.specs.ArrayVec.{array_vec_len};
-    ghost use Rattle.nfd_points.specs.Points.{byte_len, points};
+    ghost use Rattle.nfd_points.specs.Points.{byte_len, points, points_of, begins_with_starter};
     ghost use Rattle.nfd_points.specs.PointFaults.{point_fault};
     ghost use Rattle.collation_table.specs.Table.{longest_mapped as longest_key_of};
     ghost use Rattle.collation_elements.specs.Units.{units};
     ghost use Rattle.collation_elements.specs.Items.{items as items_of_units};
+    ghost use Rattle.collation_search.specs.Apart.{HasWalked, IsPausedBefore};
     ghost use Rattle.collation_search.specs.Finding.{FinderStandsFor};
     ghost use Rattle.collation_elements.specs.Clusters.{clusters_from};
     ghost use Rattle.collation_search.specs.ByClusters.{text_begin, found as all_found};
@@ -103,6 +104,12 @@ impl Finder {
             → OnErr result (FinderStandsFor (W.table table.now) pattern.now self.new taken ranges) }
         ensures fault { (taken rest : List ℕ) (ranges : List _) → FinderStandsFor (W.table table.now) pattern.now self.old taken ranges
             → IfErr result (λ f. point_fault (taken ++ c ∷ rest) ≡ Some (byte_len taken, f.kind)) }
+        // after a pause, in which none waits, it goes on with a character that begins with a starter
+        ensures afresh { (taken : List ℕ) (ranges : List _)
+            → IsPausedBefore (W.table table.now) pattern.now self.old.reorder self.old.window self.old.weigher self.old.walk taken ranges c
+            → offset ≡ byte_len taken → begins_with_starter (points_of offset c) ≡ true
+            → OnOk result (FinderStandsFor (W.table table.now) pattern.now self.new (taken ++ c ∷ []) (ranges ++ found.new.items)) }
+        ensures apart { self.old.reorder.held ≡ [] → result ≡ Ok tt }
         ensures kind { IfErr result (λ f. f.kind ≡ 32) }
         ensures ascii { c < 128 → result ≡ Ok tt }
         ensures none { OnErr result (found.new.items ≡ []) }
@@ -113,7 +120,9 @@ impl Finder {
         ensures select { self.new.walk.select ≡ self.old.walk.select }
     {
         closed_points_append();
+        laws_of_decompositions();
         laws_of_faults();
+        laws_of_ordering();
         laws_of_runs();
         self.reorder.push(c, offset, &mut self.given)?;
         push_points(&mut self.window, self.given.as_slice());
@@ -139,6 +148,12 @@ impl Finder {
             → WalksOver pattern.now.keys
             (items_of_units (W.table table.now) pattern.now.strength pattern.now.variable false (units (W.table table.now) (points taken)))
             (ranges ++ found.new.items) self.new.walk }
+        ensures walked { (taken : List ℕ) (ranges : List _) → FinderStandsFor (W.table table.now) pattern.now self.old taken ranges
+            → HasWalked (W.table table.now) pattern.now self.new.weigher self.new.walk (units (W.table table.now) (points taken)) (ranges ++ found.new.items) }
+        ensures good { (taken : List ℕ) (ranges : List _) → FinderStandsFor (W.table table.now) pattern.now self.old taken ranges
+            → point_fault taken ≡ None }
+        ensures none_waits { self.new.reorder.held ≡ [] }
+        ensures none_left { self.new.window.points ≡ [] }
         ensures few { array_vec_len found.new ≤ longest_key_of (W.table table.now) + 30 }
         ensures longest { self.new.longest_key ≡ self.old.longest_key }
         ensures pattern_len { self.new.pattern_len ≡ self.old.pattern_len }

@@ -13,9 +13,13 @@
 //! a text in any pieces, with a search that is saved, dropped and resumed after each.
 #![tactic(auto)]
 
+mod apart;
 mod ascii;
 mod ascii_units;
+mod at_once;
 mod bridge;
+mod character_units;
+mod characters;
 mod faults;
 mod feed;
 mod few_ranges;

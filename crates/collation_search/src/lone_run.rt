@@ -145,7 +145,7 @@ fn walk_lone(walk: &mut Walk, pattern: &Pattern, lone: &LoneItems, start: u64) -
 
 /// Walks over the start of a cluster, if one begins.
 #[inline(always)]
-fn walk_start(walk: &mut Walk, pattern: &Pattern, begins: bool, start: u64) -> Option<(u64, u64)>
+pub(crate) fn walk_start(walk: &mut Walk, pattern: &Pattern, begins: bool, start: u64) -> Option<(u64, u64)>
     requires { walk.old.state ≤ length pattern.now.keys }
     ensures walks { (before : List Item) (ranges : List (ℕ × ℕ)) → WalksOver pattern.now.keys before ranges walk.old
         → WalksOver pattern.now.keys (before ++ (if begins then Item.ClusterStart start ∷ [] else [])) (ranges ++ option_to_list result) walk.new }
@@ -161,7 +161,7 @@ fn walk_start(walk: &mut Walk, pattern: &Pattern, begins: bool, start: u64) -> O
 
 /// Walks over a key, if there is one.
 #[inline(always)]
-fn walk_key(walk: &mut Walk, pattern: &Pattern, key: Option<Key>)
+pub(crate) fn walk_key(walk: &mut Walk, pattern: &Pattern, key: Option<Key>)
     requires { walk.old.state ≤ length pattern.now.keys }
     ensures walks { (before : List Item) (ranges : List (ℕ × ℕ)) → WalksOver pattern.now.keys before ranges walk.old
         → WalksOver pattern.now.keys (before ++ map (λ k. Item.Element k) (option_to_list key)) ranges walk.new }
@@ -175,7 +175,7 @@ fn walk_key(walk: &mut Walk, pattern: &Pattern, key: Option<Key>)
 
 /// Calls the sink for a range, if there is one.
 #[inline(always)]
-fn call<F: FnMut(u64, u64)>(range: Option<(u64, u64)>, sink: &mut F)
+pub(crate) fn call<F: FnMut(u64, u64)>(range: Option<(u64, u64)>, sink: &mut F)
     requires { F.IsAlwaysCallable sink.old }
     ensures called { FoldsTo (λ f range g. F.step f range.0 range.1 tt g) sink.old (option_to_list range) sink.new }
     ensures callable { F.IsAlwaysCallable sink.new }

@@ -9,6 +9,7 @@ ghost use Rattle.collation_search.specs.Resuming.{sizes_of, IsRestored};
 ghost use Rattle.collation_search.specs.Restoring.{last_end_in};
 ghost use Rattle.collation_search.specs.StateTests as tests;
 
+use crate::characters::Characters;
 use crate::faults::{StateFault, TextFault};
 use crate::finder::Finder;
 use crate::matching::push_points;
@@ -268,11 +269,13 @@ impl<'a, W: Weights> Search<'a, W> {
         else {
             return Ok(None);
         };
+        let characters = Characters::new(alloc, table)?;
         Ok(Some(Search {
             query: Query::new(table, pattern),
             cut: Cut::restore(head.taken, held.as_slice()),
             finder,
             fault: None,
+            characters,
         }))
     }
 

@@ -3,10 +3,12 @@ ghost use Rattle.std.specs.Prelude.{◌≡◌, ℕ, ◌+◌, ◌<◌, ◌≤◌,
 ghost use Rattle.std.specs.Option.{ForSome};
 ghost use Rattle.collation_table.specs.Table.{longest_mapped as longest_key_of};
 ghost use Rattle.collation_search.specs.AsciiUnits.{IsAsciiUnit, IsPassed};
+ghost use Rattle.collation_search.specs.Characters.{IsRight};
 ghost use Rattle.collation_search.specs.GoodPrefix.{most_bytes};
 
 use crate::ascii_units::AsciiUnit;
 use crate::bridge::matches_by_clusters;
+use crate::characters::Characters;
 use crate::faults::TextFault;
 use crate::finder::Finder;
 use crate::lag::answers_in_time;
@@ -45,6 +47,9 @@ pub struct Search<'a, W: Weights> {
     pub(crate) finder: Finder,
     /// The fault at which the text counts as ended.
     pub(crate) fault: Option<TextFault>,
+    /// What is kept of the characters that it met. It is no part of a state: it is found out anew.
+    pub(crate) characters: Characters,
+    ghost right: { IsRight (W.table query.table.now) query.pattern.now characters },
     ghost longest: { finder.longest_key ≡ query.longest_key },
     ghost pattern_len: { finder.pattern_len ≡ length query.pattern.now.keys },
     ghost open: { fault ≡ None → finder.window.has_ended ≡ false },
@@ -93,12 +98,14 @@ impl<'a, W: Weights> Search<'a, W> {
     {
         let _some = pattern.len();
         let finder = Finder::new(alloc, table, pattern, select)?;
+        let characters = Characters::new(alloc, table)?;
         let query = Query::new(table, pattern);
         Ok(Search {
             query,
             cut: Cut::new(),
             finder,
             fault: None,
+            characters,
         })
     }
 
@@ -211,6 +218,7 @@ impl<'a, W: Weights> Search<'a, W> {
             cut,
             mut finder,
             fault,
+            ..
         } = self;
         if let Some(fault) = fault {
             return Err(fault);

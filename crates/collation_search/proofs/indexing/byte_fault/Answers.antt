@@ -1,4 +1,4 @@
-use Rattle.std.proofs.Common.{◌≡◌, ◌≤◌, ◌<◌, false, ◌&&◌, nat_lt, length, ap, subst, sym, arith}
+use Rattle.std.proofs.Common.{◌≡◌, false, ◌&&◌, nat_lt, length, ap, arith}
 use Rattle.utf8_cut.specs.Characters.{is_utf8_prefix}
 use Rattle.collation_search.specs.GoodPrefix.{most_bytes, seen}
 use Rattle.collation_search.proofs.IndexLemmas.{short_not, closed_not, ill_bytes, good_bytes}

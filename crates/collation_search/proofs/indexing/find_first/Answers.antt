@@ -1,7 +1,7 @@
 use Rattle.std.specs.Str.{chars}
 use Rattle.std.specs.Char.{encode_utf8}
 use Rattle.std.specs.Str.Iter.{char_indices_rest, char_indices_offset}
-use Rattle.std.proofs.Common.{◌≡◌, ◌∙◌, ◌+◌, ◌<◌, ℕ, List, [], ◌++◌, length, sym, ap, subst, arith, length-append}
+use Rattle.std.proofs.Common.{◌∙◌, ℕ, List, [], ◌++◌, length, ap, subst, arith, length-append}
 use Rattle.std.proofs.lemmas.Str.{IsUtf8-past_char}
 use Rattle.collation_search.specs.Indexing.{HasRead}
 use Rattle.collation_search.proofs.IndexLemmas.{text_len, reads-next, next-offset, fault-of_text, some_found, none_found, no_nil}

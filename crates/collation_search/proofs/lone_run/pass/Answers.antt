@@ -1,10 +1,7 @@
-use Rattle.std.specs.Str.{IsAscii}
-use Rattle.std.proofs.Common.{◌≡◌, ◌∙◌, ℕ, ◌+◌, ◌-◌, ◌<◌, true, length, take, get_or, sym, subst, arith, []}
+use Rattle.std.proofs.Common.{◌≡◌, ◌∙◌, ◌+◌, ◌-◌, ◌<◌, true, length, sym, subst, arith, []}
 use Rattle.std.proofs.lemmas.List.{get_or-take, length-take-le}
 use Rattle.std.proofs.lemmas.Str.{IsAscii-take}
-use Rattle.collation_search.specs.declared.walk.Walk.{Walk}
 use Rattle.collation_search.specs.AsciiUnits.{IsPassed, AreWalked}
-use Rattle.collation_search.proofs.RunWindowLemmas.{walked-none}
 use Rattle.collation_search.proofs.PassedLemmas.{passed-walked}
 use Rattle.collation_search.proofs.lone_run.pass.Goals as goal
 

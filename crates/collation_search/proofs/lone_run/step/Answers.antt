@@ -1,5 +1,5 @@
 use Rattle.std.specs.Option.{option_to_list}
-use Rattle.std.proofs.Common.{◌≡◌, ◌∙◌, ℕ, Bool, List, [], get_or, refl, sym, ap, ap₂, subst}
+use Rattle.std.proofs.Common.{Bool, [], get_or, refl, sym, ap, ap₂, subst}
 use Rattle.collation_elements.specs.declared.settings.Strength.{Strength}
 use Rattle.collation_elements.specs.declared.settings.Variable.{Variable}
 use Rattle.collation_elements.specs.declared.weigher.Weigher.{Weigher}

@@ -1,5 +1,4 @@
-use Rattle.std.specs.List.{FoldsTo}
-use Rattle.std.proofs.Common.{◌≡◌, ◌∙◌, ℕ, ◌+◌, ◌-◌, Bool, cond, List, [], ◌++◌, length, take, drop, refl, sym, ap, subst, arith}
+use Rattle.std.proofs.Common.{◌≡◌, ◌∙◌, ℕ, ◌+◌, Bool, cond, List, [], ◌++◌, length, drop, refl, ap, subst, arith}
 use Rattle.std.proofs.lemmas.List.{append-nil, take_rest, length-drop}
 use Rattle.collation_search.specs.AsciiUnits.{AreWalked}
 use Rattle.collation_search.proofs.FeedLemmas.{folds-append}

@@ -1,4 +1,4 @@
-use Rattle.std.proofs.Common.{◌∙◌, List, [], ◌∷◌, ◌++◌, length, refl, sym, ap, subst, arith}
+use Rattle.std.proofs.Common.{◌∙◌, [], ◌∷◌, ◌++◌, refl, sym, ap, subst, arith}
 use Rattle.nfd_points.specs.Reordering.{IsSoundPoint}
 use Rattle.collation_elements.specs.Weighing.{value_items}
 use Rattle.collation_elements.specs.Windows.{next_cut}

@@ -1,5 +1,4 @@
-use Rattle.std.proofs.Common.{◌≡◌, ◌∙◌, ℕ, List, [], ◌∷◌, ◌++◌, length, ap, subst, arith}
-use Rattle.nfd_points.specs.declared.points.Point.{Point}
+use Rattle.std.proofs.Common.{◌∙◌, List, [], ◌∷◌, ◌++◌, length, ap, subst, arith}
 use Rattle.collation_elements.specs.declared.keys.Item.{Item}
 use Rattle.collation_elements.specs.ItemParts.{item_starts}
 use Rattle.collation_elements.specs.Weighing.{WeigherStandsFor}

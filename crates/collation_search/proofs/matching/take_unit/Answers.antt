@@ -1,5 +1,4 @@
-use Rattle.std.proofs.Common.{◌≡◌, ◌∙◌, ℕ, List, [], ◌∷◌, ◌++◌, sym, ap, subst, append_assoc}
-use Rattle.nfd_points.specs.declared.points.Point.{Point}
+use Rattle.std.proofs.Common.{◌∙◌, List, [], ◌∷◌, ◌++◌, sym, ap, subst, append_assoc}
 use Rattle.collation_elements.specs.declared.keys.Item.{Item}
 use Rattle.collation_elements.specs.declared.weigher.Weigher.{Weigher}
 use Rattle.collation_elements.specs.Weighing.{WeigherStandsFor, value_items}

@@ -1,4 +1,4 @@
-use Rattle.std.proofs.Common.{◌≡◌, ◌∙◌, ℕ, List, [], ◌∷◌, ◌++◌, map, sym, ap, subst}
+use Rattle.std.proofs.Common.{◌∙◌, ℕ, List, ◌++◌, map, sym, ap, subst}
 use Rattle.std.specs.Option.{option_to_list}
 use Rattle.std.proofs.lemmas.List.{append-nil}
 use Rattle.collation_elements.specs.declared.keys.Item.{Item}

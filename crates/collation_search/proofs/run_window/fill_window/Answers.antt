@@ -1,9 +1,8 @@
-use Rattle.std.proofs.Common.{◌≡◌, ◌∙◌, ◌+◌, List, [], ◌∷◌, ◌++◌, length, take, get_or, sym, ap, arith}
+use Rattle.std.proofs.Common.{◌∙◌, ◌+◌, List, [], ◌∷◌, ◌++◌, length, take, get_or, ap, arith}
 use Rattle.std.proofs.lemmas.List.{length-take-le}
 use Rattle.nfd_points.specs.declared.points.Point.{Point}
 use Rattle.nfd_points.specs.Points.{ascii_point}
 use Rattle.collation_elements.specs.Windows.{Held}
-use Rattle.collation_search.specs.AsciiUnits.{ascii_points}
 use Rattle.collation_search.proofs.RunWindowLemmas.{points-length, points-more}
 use Rattle.collation_search.proofs.run_window.fill_window.Goals as goal
 

@@ -1,4 +1,4 @@
-use Rattle.std.proofs.Common.{◌≡◌, ◌∙◌, ◌+◌, List, [], ◌∷◌, ◌++◌, take, get_or, sym, ap, ap₂}
+use Rattle.std.proofs.Common.{◌∙◌, List, [], ◌∷◌, ◌++◌, ap₂}
 use Rattle.nfd_points.specs.declared.points.Point.{Point}
 use Rattle.collation_search.proofs.RunWindowLemmas.{points-more, taken-more}
 use Rattle.collation_search.proofs.run_window.is_run_window.Goals as goal

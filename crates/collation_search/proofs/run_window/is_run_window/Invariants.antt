@@ -1,4 +1,4 @@
-use Rattle.std.proofs.Common.{◌≡◌, ◌+◌, length, take}
+use Rattle.std.proofs.Common.{◌≡◌, take}
 use Rattle.collation_search.specs.AsciiUnits.{ascii_points}
 use Rattle.collation_search.proofs.run_window.is_run_window.Given as goal
 

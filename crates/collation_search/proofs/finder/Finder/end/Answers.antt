@@ -1,14 +1,15 @@
-use Rattle.std.proofs.Common.{◌∙◌, List, ◌++◌, length, false, sym, ap, subst, arith}
+use Rattle.std.proofs.Common.{◌∙◌, List, ◌++◌, length, sym, ap, subst, arith}
 use Rattle.nfd_points.specs.declared.points.Point.{Point}
 use Rattle.nfd_points.specs.Reordering.{IsSoundPoint, code_points, is_closed}
 use Rattle.std.proofs.lemmas.List.Elements.{All-same, All-nil}
 use Rattle.std.specs.List.{Contains}
 use Rattle.unicode_normalization.specs.StreamSafe.{has_short_runs}
-use Rattle.collation_elements.specs.Items.{items}
+use Rattle.nfd_points.specs.Points.{points}
 use Rattle.collation_elements.specs.Units.{units}
 use Rattle.collation_search.specs.Matching.{HasMatched}
-use Rattle.collation_search.specs.Walks.{WalksOver}
-use Rattle.collation_search.proofs.MatchingLemmas.{matched-first, matched-all, among-pushed}
+use Rattle.collation_search.specs.Apart.{HasWalked}
+use Rattle.collation_search.proofs.MatchingLemmas.{matched-first, among-pushed}
+use Rattle.collation_search.proofs.PauseLemmas.{walked-all, walked-items}
 use Rattle.collation_search.proofs.finder.Finder.end.Goals as goal
 
 pub invariant_of-self : goal.invariant_of-self
@@ -25,8 +26,8 @@ invariant_of-self g c =
       state = omega (arith, c.cut_units.ensures.state, c.requires.pattern_len);
     }
 
-pub returns-clause-ended : goal.returns-clause-ended
-returns-clause-ended g c = λ taken ranges h.
+pub returns-clause-walked : goal.returns-clause-walked
+returns-clause-walked g c = λ taken ranges h.
     let table = g.W.Weights.table c.args.table.now in
     let pattern = c.args.pattern.now in
     let out = c.finish.new.out.items in
@@ -38,7 +39,18 @@ returns-clause-ended g c = λ taken ranges h.
     c.as_slice.ensures.value
     (record { units = h.matched.units; items = h.matched.items; cut = cut; weighed = h.matched.weighed; walked = h.matched.walked; strength = h.matched.strength; variable = h.matched.variable; kept = kept }) in
     let before = matched-first table pattern c.end.new.self c.args.self.now.weigher c.args.self.now.walk (h.points ++ out) ranges c.args.found.now.items c.requires.empty pushed in
-    let all = matched-all table pattern c.cut_units.new.window c.cut_units.new.weigher c.cut_units.new.walk (h.points ++ out) (ranges ++ c.cut_units.new.found.items)
+    let all = walked-all table pattern c.cut_units.new.window c.cut_units.new.weigher c.cut_units.new.walk (h.points ++ out) (ranges ++ c.cut_units.new.found.items)
     (c.cut_units.ensures.stands (h.points ++ out) ranges before) none in
-    subst (λ ps. WalksOver pattern.keys (items table pattern.strength pattern.variable false (units table ps)) (ranges ++ c.cut_units.new.found.items) c.cut_units.new.walk)
+    subst (λ ps. HasWalked table pattern c.cut_units.new.weigher c.cut_units.new.walk (units table ps) (ranges ++ c.cut_units.new.found.items))
     (sym (c.finish.ensures.rest taken h.points h.reordered)) all
+
+pub returns-clause-ended : goal.returns-clause-ended
+returns-clause-ended g c = λ taken ranges h.
+    let table = g.W.Weights.table c.args.table.now in
+    walked-items table c.args.pattern.now c.cut_units.new.weigher c.cut_units.new.walk (units table (points taken)) (ranges ++ c.cut_units.new.found.items) (returns-clause-walked g c taken ranges h)
+
+pub returns-clause-good : goal.returns-clause-good
+returns-clause-good g c = λ taken ranges h. h.reordered.good
+
+pub returns-clause-none_left : goal.returns-clause-none_left
+returns-clause-none_left g c = c.cut_units.ensures.all (ap (λ w. w.has_ended) c.end.ensures.ended)

@@ -1,4 +1,4 @@
-use Rattle.std.proofs.Common.{◌≡◌, ◌∙◌, ◌++◌, List, sym, ap, append_assoc}
+use Rattle.std.proofs.Common.{◌∙◌, ◌++◌, sym, ap, append_assoc}
 use Rattle.std.specs.Option.{option_to_list}
 use Rattle.collation_search.proofs.finder.Finder.last.Goals as goal
 

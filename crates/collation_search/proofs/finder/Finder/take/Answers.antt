@@ -1,11 +1,15 @@
-use Rattle.std.proofs.Common.{◌∙◌, List, ◌++◌, ap, subst, arith}
+use Rattle.std.proofs.Common.{◌∙◌, List, ◌++◌, sym, ap, subst, arith}
 use Rattle.nfd_points.specs.declared.points.Point.{Point}
+use Rattle.nfd_points.specs.Points.{points, points_of, begins_with_starter, ordered}
 use Rattle.nfd_points.specs.Reordering.{IsSoundPoint, code_points, is_closed}
 use Rattle.std.proofs.lemmas.List.Elements.{All-same, All-append}
 use Rattle.std.specs.List.{Contains}
 use Rattle.unicode_normalization.specs.StreamSafe.{has_short_runs}
 use Rattle.collation_search.specs.Matching.{HasMatched}
 use Rattle.collation_search.proofs.MatchingLemmas.{matched-first, all-among, among-pushed}
+use Rattle.collation_search.specs.Apart.{EndsBefore}
+use Rattle.collation_search.proofs.ApartLemmas.{begun, ends_here}
+use Rattle.collation_search.proofs.PauseLemmas.{first_given, matched-afresh}
 use Rattle.collation_search.proofs.finder.Finder.take.Goals as goal
 
 pub invariant_of-self-2 : goal.invariant_of-self-2
@@ -50,4 +54,26 @@ returns-clause-stands g c = λ taken ranges h offset.
       points = h.points ++ out;
       reordered = c.in_ok-push.ensures.carries taken h.points h.reordered offset;
       matched = c.cut_units.ensures.stands (h.points ++ out) ranges before;
+    }
+
+pub returns-clause-afresh : goal.returns-clause-afresh
+returns-clause-afresh g c = λ taken ranges p offset begins.
+    let table = g.W.Weights.table c.args.table.now in
+    let pattern = c.args.pattern.now in
+    let out = c.push.new.out.items in
+    let at = c.args.offset in
+    let old = c.args.self.now in
+    let b = begun c.laws_of_decompositions.ensures.short at c.args.c in
+    let all = c.in_ok-push.ensures.pushed ∙ ap (λ (hs : List Point). ordered (hs ++ points_of at c.args.c)) p.paused.none_waits
+    ∙ c.laws_of_ordering.ensures.stays (points_of at c.args.c) (c.laws_of_decompositions.ensures.in_order at c.args.c) ∙ b.is in
+    let starter = ap begins_with_starter (sym b.is) ∙ begins in
+    let given = first_given out c.push.new.self.held b.others b.first all starter c.in_ok-push.ensures.held.non_starters in
+    let ends = ends_here table (points taken) at c.args.c b (subst (λ k. EndsBefore table (points taken) k c.args.c) (sym offset) p.ends) in
+    let held = ap (λ w. w.points) c.push_points.ensures.points ∙ ap (λ (ps : List Point). ps ++ c.as_slice.result.now) p.paused.none_left ∙ c.as_slice.ensures.value in
+    let first = matched-afresh table pattern c.push_points.new.window old.weigher old.walk (points taken) out given.0 b.first ranges given.1 ends p.paused.walked held in
+    let before = matched-first table pattern c.push_points.new.window old.weigher old.walk (points taken ++ out) ranges c.args.found.now.items c.requires.empty first in
+    record {
+      points = points taken ++ out;
+      reordered = c.in_ok-push.ensures.afresh taken p.paused.none_waits offset begins p.paused.good;
+      matched = c.cut_units.ensures.stands (points taken ++ out) ranges before;
     }

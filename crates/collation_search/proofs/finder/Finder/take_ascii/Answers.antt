@@ -1,5 +1,4 @@
-use Rattle.std.specs.List.{FoldsTo}
-use Rattle.std.proofs.Common.{◌≡◌, ◌∙◌, ◌+◌, ℕ, List, [], ◌++◌, length, take, drop, refl, sym, ap, subst, arith, append_assoc}
+use Rattle.std.proofs.Common.{◌≡◌, ◌∙◌, ◌+◌, ℕ, List, [], ◌++◌, take, drop, refl, sym, ap, subst, arith, append_assoc}
 use Rattle.std.proofs.Math.Seq.{take-add}
 use Rattle.std.proofs.lemmas.List.{append-nil, length-take-le, take_all}
 use Rattle.std.proofs.lemmas.Str.{IsAscii-take}

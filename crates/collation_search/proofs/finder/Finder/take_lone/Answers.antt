@@ -1,12 +1,11 @@
 use Rattle.std.specs.Str.{IsAscii}
-use Rattle.std.specs.List.{FoldsTo}
-use Rattle.std.proofs.Common.{◌≡◌, ◌∙◌, ◌+◌, ◌-◌, ◌≤◌, ℕ, Bool, List, [], ◌∷◌, ◌++◌, length, take, drop, refl, sym, ap, ap₂, subst, arith}
+use Rattle.std.proofs.Common.{◌≡◌, ◌∙◌, ◌+◌, ◌-◌, ◌≤◌, ℕ, Bool, List, [], ◌++◌, length, take, drop, refl, sym, ap, ap₂, subst, arith}
 use Rattle.std.proofs.lemmas.List.{append-nil, take_rest, drop-drop, length-drop, length-take-le}
 use Rattle.std.proofs.lemmas.List.Elements.{All-same}
 use Rattle.std.proofs.lemmas.Str.{IsAscii-take, IsAscii-drop}
 use Rattle.nfd_points.specs.declared.points.Point.{Point}
 use Rattle.nfd_points.specs.Points.{byte_len}
-use Rattle.nfd_points.specs.Reordering.{HasReordered, IsSoundPoint, code_points, is_closed}
+use Rattle.nfd_points.specs.Reordering.{IsSoundPoint, code_points, is_closed}
 use Rattle.unicode_normalization.specs.StreamSafe.{has_short_runs}
 use Rattle.collation_elements.specs.Windows.{Held}
 use Rattle.collation_search.specs.AsciiUnits.{ascii_points, run_window}

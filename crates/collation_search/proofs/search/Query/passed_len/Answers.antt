@@ -1,5 +1,4 @@
-use Rattle.std.proofs.Common.{◌≡◌, ◌+◌, ℕ, Bool, true, false, List, [], ◌∷◌, length, get_or, slice_get, Some, arith, refl, sym, ◌∙◌, ap, subst, zero, suc, ◌<◌}
-use Rattle.std.proofs.lemmas.Bool.{cases_lt}
+use Rattle.std.proofs.Common.{◌≡◌, ℕ, Bool, true, false, List, [], ◌∷◌, get_or, slice_get, Some, refl, ap, zero, suc}
 use Rattle.std.proofs.Common.{below_more}
 use Rattle.collation_search.proofs.search.Query.passed_len.Goals as goal
 

@@ -30,7 +30,20 @@ returns-in-Err-clause-fed g c =
       subst (λ t. Feeds c.args.self.now t (Err c.in-Err.fault) (before.0 ++ found) c.step.new.self) whole all,
     )
 
--- a byte, and the run after it
+pub loop-at-init : goal.loop-at-init
+loop-at-init g c =
+    let first = c.take_at_once-at.ensures.fed in
+    record {
+      callable = c.take_at_once-at.ensures.callable;
+      within = c.take_at_once-at.ensures.within;
+      fed = (
+        first.0,
+        first.1,
+        feeds-append c.args.self.now c.reach-reach.new.self c.take_at_once-at.new.self [] (take c.take_at_once-at.result c.args.piece.now) (Ok tt) [] first.0 c.reach-reach.ensures first.2,
+      );
+    }
+
+-- a byte, and what follows it
 pub loop-at-preserved : goal.loop-at-preserved
 loop-at-preserved g c =
     let i = c.loop-at.at in
@@ -39,9 +52,9 @@ loop-at-preserved g c =
     let before = c.loop-at.invariant.fed in
     let step = c.in-Ok.ensures in
     let found = c.step.new.found.items in
-    let n = c.take_run-at-in-loop-at.result in
-    let run = c.take_run-at-in-loop-at.ensures.fed in
-    let last = c.take_run-at-in-loop-at.new.self in
+    let n = c.take_at_once-at-in-loop-at.result in
+    let run = c.take_at_once-at-in-loop-at.ensures.fed in
+    let last = c.take_at_once-at-in-loop-at.new.self in
     let others = take_rest piece (i + 1) in
     let taken = subst (λ (t : List ℕ). Feeds c.step.new.self (take n t) (Ok tt) run.0 last) others run.2 in
     let byte = feeds-byte c.loop-at.self c.step.new.self b (Ok tt) found step.stands step.answer step.closed step.reported step.again step.none step.memory step.sought in
@@ -51,11 +64,11 @@ loop-at-preserved g c =
     let calls = subst (λ (t : List (ℕ × ℕ)). FoldsTo (λ f range t'. goal.F-step g f range.0 range.1 tt t') c.loop-at.sink t c.hand_out.new.sink) c.as_slice.ensures.value c.hand_out.ensures.called in
     let so_far = folds-append (λ f range t. goal.F-step g f range.0 range.1 tt t) c.args.sink.now before.0 found c.loop-at.sink c.hand_out.new.sink before.1 calls in
     record {
-      callable = c.take_run-at-in-loop-at.ensures.callable;
-      within = let left = ap length others ∙ length-drop (i + 1) piece in let few = c.take_run-at-in-loop-at.ensures.within in let less = c.loop-at-test.true in omega (arith, left, few, less);
+      callable = c.take_at_once-at-in-loop-at.ensures.callable;
+      within = let left = ap length others ∙ length-drop (i + 1) piece in let few = c.take_at_once-at-in-loop-at.ensures.within in let less = c.loop-at-test.true in omega (arith, left, few, less);
       fed = (
         (before.0 ++ found) ++ run.0,
-        folds-append (λ f range t. goal.F-step g f range.0 range.1 tt t) c.args.sink.now (before.0 ++ found) run.0 c.hand_out.new.sink c.take_run-at-in-loop-at.new.sink so_far run.1,
+        folds-append (λ f range t. goal.F-step g f range.0 range.1 tt t) c.args.sink.now (before.0 ++ found) run.0 c.hand_out.new.sink c.take_at_once-at-in-loop-at.new.sink so_far run.1,
         subst (λ t. Feeds c.args.self.now t (Ok tt) ((before.0 ++ found) ++ run.0) last) (sym (take-add (i + 1) n piece)) all,
       );
     }

@@ -1,8 +1,7 @@
 use Rattle.std.specs.Str.{chars}
-use Rattle.std.proofs.Common.{◌≡◌, ◌∙◌, ℕ, List, [], ◌++◌, Some, sym, ap}
+use Rattle.std.proofs.Common.{◌∙◌, [], ◌++◌, sym, ap}
 use Rattle.std.proofs.lemmas.List.{append-nil}
-use Rattle.utf8_cut.specs.Characters.{characters, characters_end}
-use Rattle.collation_search.specs.declared.faults.TextFault.{TextFault}
+use Rattle.utf8_cut.specs.Characters.{characters}
 use Rattle.collation_search.specs.GoodPrefix.{fault, whole}
 use Rattle.collation_elements.specs.Clusters.{clusters_from}
 use Rattle.collation_search.specs.ByClusters.{text_begin, found}

@@ -6,7 +6,6 @@ use Rattle.collation_elements.specs.declared.keys.Key.{Key}
 use Rattle.collation_elements.specs.declared.keys.Item.{Item}
 use Rattle.collation_elements.specs.Clusters.{clusters_from}
 use Rattle.collation_elements.specs.Items.{items}
-use Rattle.collation_pattern.specs.Levels.{text_keys}
 use Rattle.collation_search.specs.ByClusters.{text_begin, found}
 use Rattle.collation_search.specs.GoodPrefix.{whole}
 use Rattle.collation_search.specs.Lag.{IsUnderWay}

@@ -15,10 +15,13 @@ returns-clause-stands g c =
     let finder = c.in_ok-finder.finder in
     let keys = ap (λ (p : Compiled). length p.keys) query.pattern in
     record {
-      cut_stands = c.new-2.ensures.stands_for;
+      cut_stands = c.new-3.ensures.stands_for;
       found = subst (λ (p : Compiled). FinderStandsFor (g.W.Weights.table c.new-query.result.table.now) p finder [] []) (sym query.pattern)
           (subst (λ (t : TableMap). FinderStandsFor t c.args.pattern.now finder [] []) (sym query.table) c.in_ok-finder.ensures.stands);
       open_bytes = refl;
       no_fault = refl;
       some_key = omega (arith, c.len-some.ensures.keys, c.len-some.ensures.some, keys);
     }
+
+pub invariant_of-result-clause-right : goal.invariant_of-result-clause-right
+invariant_of-result-clause-right g c = c.in_ok-characters.ensures.right (g.W.Weights.table c.new-query.result.table.now) c.new-query.result.pattern.now

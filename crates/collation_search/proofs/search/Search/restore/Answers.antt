@@ -118,8 +118,11 @@ returns-clause-goes_on g c =
     subst (λ i. IsRestored s (head words) i (drop n words) finder) c.last_end_in-last_end.ensures
     (subst (λ l. IsRestored s (head words) last_end l finder) tail (subst (λ (h : Head). IsRestored s h last_end slice finder) e there)) in
     let value : c.as_slice.result.now ≡ c.in-Some.held.items = c.as_slice.ensures.value in
-    let same = ap₂ (λ (t : TableMap) (p : Compiled). let u : Sought = record { table = t; pattern = p; select = finder.walk.select } in u) c.new.ensures.table c.new.ensures.pattern
+    let same = ap₂ (λ (t : TableMap) (p : Compiled). let u : Sought = record { table = t; pattern = p; select = finder.walk.select } in u) c.new-2.ensures.table c.new-2.ensures.pattern
     ∙ ap (λ (x : Select). let u : Sought = record { table = s.table; pattern = s.pattern; select = x } in u) there.select in
     open-goes_on laws _ s words c.in-Some.held.items same refl (sym (ap (λ (h : Head). h.kind) e) ∙ c.if-head-ne0.false) restored
     (c.in-Some.ensures.bytes ∙ ap (λ (h : Head). bytes_in h.held_len h.held) e)
     (λ cut bytes given stands good held count. c.restore-2.ensures.stands_for cut bytes given stands good (held ∙ sym value) (count ∙ sym (ap (λ (h : Head). h.taken) e)))
+
+pub invariant_of-result-clause-right : goal.invariant_of-result-clause-right
+invariant_of-result-clause-right g c = c.in_ok-characters.ensures.right (g.W.Weights.table c.new-2.result.table.now) c.new-2.result.pattern.now

@@ -1,5 +1,5 @@
 use Rattle.std.specs.Str.{chars}
-use Rattle.std.proofs.Common.{◌≡◌, ◌<◌, ◌≤◌, ◌∙◌, ℕ, List, [], ◌∷◌, ◌++◌, length, true, Some, Err, sym, ap, subst, arith, refl}
+use Rattle.std.proofs.Common.{◌≡◌, ◌<◌, ◌≤◌, ◌∙◌, ℕ, List, [], ◌∷◌, ◌++◌, length, true, Some, sym, ap, subst, arith, refl}
 use Rattle.std.proofs.lemmas.List.{append-nil}
 use Rattle.utf8_cut.specs.Characters.{characters}
 use Rattle.utf8_cut.specs.State.{StandsFor}
@@ -7,13 +7,11 @@ use Rattle.nfd_points.specs.Points.{byte_len}
 use Rattle.nfd_points.specs.PointFaults.{point_fault}
 use Rattle.collation_table.specs.Table.{TableMap}
 use Rattle.collation_pattern.specs.Compiled.{Compiled}
-use Rattle.collation_search.specs.declared.faults.TextFault.{TextFault}
-use Rattle.collation_search.specs.declared.finder.Finder.{Finder}
-use Rattle.collation_search.specs.GoodPrefix.{most_bytes, seen, whole}
+use Rattle.collation_search.specs.GoodPrefix.{most_bytes, whole}
 use Rattle.collation_search.specs.Finding.{FinderStandsFor}
 use Rattle.collation_search.specs.Searching.{Searched}
-use Rattle.collation_search.proofs.TextCheckLemmas.{fault_by_length, not_open_by_length, open_good, same_codes, next_code, next_offset, still_open, Begins, code_at_fault, fault_by_code, not_open_by_code, IsIllAfter, ill_after, fault_ill, not_open_ill}
-use Rattle.collation_search.proofs.ByteLemmas.{CharacterCame, came, character-at_fault}
+use Rattle.collation_search.proofs.TextCheckLemmas.{fault_by_length, not_open_by_length, open_good, same_codes, still_open, fault_by_code, not_open_by_code, IsIllAfter, ill_after, fault_ill, not_open_ill}
+use Rattle.collation_search.proofs.ByteLemmas.{came, character-at_fault}
 use Rattle.collation_search.proofs.search.Search.take.Given.{Over}
 use Rattle.collation_search.proofs.search.Search.take.Goals as goal
 use Rattle.collation_search.proofs.search.Search.take.Goals.{In-Bad}

@@ -7,7 +7,7 @@ use Rattle.collation_search.specs.GoodPrefix.{whole}
 use Rattle.collation_search.specs.Feeding.{Feeds}
 use Rattle.collation_search.specs.Search.{Sought}
 use Rattle.collation_search.proofs.FeedLemmas.{feeds-none, feeds-good, none_or_some}
-use Rattle.collation_search.proofs.AsciiRunLemmas.{searched-ascii, offset-ascii}
+use Rattle.collation_search.proofs.AsciiRunLemmas.{searched-text, offset-ascii}
 use Rattle.collation_search.proofs.search.Search.take_run.Goals as goal
 
 pub returns-else-len-gt0-clause-fed : goal.returns-else-len-gt0-clause-fed
@@ -35,8 +35,8 @@ returns-then-len-gt0-clause-fed g c =
           (λ u handed h.
           let at = offset-ascii (g.W.Weights.table search.query.table.now) search.query.pattern.now search.cut search.finder search.fault u handed h between
           (c.whole_characters_are_the_longest_text.ensures.text u) (c.whole_characters_are_the_longest_text.ensures.within u) in
-          searched-ascii (g.W.Weights.table search.query.table.now) search.query.pattern.now search.cut c.take_ascii-then-len-gt0.new.self search.finder c.take_ascii.new.self search.fault
-          u run n handed taken.0 h long c.ascii_run-len.ensures.fits cut.state
+          searched-text (g.W.Weights.table search.query.table.now) search.query.pattern.now search.cut c.take_ascii-then-len-gt0.new.self search.finder c.take_ascii.new.self search.fault
+          u run run n handed taken.0 h long c.ascii_run-len.ensures.fits cut.state
           (cut.stands_for u run (characters u) h.cut_stands (sym long) c.ascii_run-len.ensures.ascii)
           (taken.2 (chars (whole u)) handed h.found (c.count-offset.ensures.value ∙ at))),
     )

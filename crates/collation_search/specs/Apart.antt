@@ -1,0 +1,69 @@
+-- A search that takes characters at once: all units so far were cut, as if the text ended there, and no unit reaches into or out of
+-- the next character.
+use Rattle.std.specs.Prelude.{◌≡◌, ℕ, ◌+◌, true, None, List, [], ◌∷◌, ◌++◌, slice_get}
+use Rattle.std.specs.Option.{ForSome}
+use Rattle.collation_table.specs.Table.{TableMap}
+use Rattle.nfd_points.specs.declared.points.Point.{Point}
+use Rattle.nfd_points.specs.Points.{byte_len, points_of, points_from, points, begins_with_starter, ordered}
+use Rattle.nfd_points.specs.PointFaults.{point_fault}
+use Rattle.nfd_points.specs.Reordering.{Waiting}
+use Rattle.collation_elements.specs.declared.keys.Item.{Item}
+use Rattle.collation_elements.specs.declared.weigher.Weigher.{Weigher}
+use Rattle.collation_elements.specs.Units.{units}
+use Rattle.collation_elements.specs.Weighing.{WeigherStandsFor}
+use Rattle.collation_elements.specs.Windows.{Held}
+use Rattle.collation_pattern.specs.Compiled.{Compiled}
+use Rattle.collation_search.specs.declared.walk.Walk.{Walk}
+use Rattle.collation_search.specs.Walks.{WalksOver}
+
+-- ---- where units end
+
+-- no unit reaches from these points to the character c that stands after them, at an offset
+abbrev pub EndsBefore : TableMap → List Point → ℕ → ℕ → Type 0
+EndsBefore table ps at c =
+    ForSome (slice_get (points_of at c) 0) (λ x. (more : List Point) → units table (ps ++ x ∷ more) ≡ units table ps ++ units table (x ∷ more))
+
+-- What is known of characters in a row, of which the first stands at an offset, that are taken before the character that follows:
+-- they are in canonical order and without a fault, it begins with a starter, and no unit reaches to it.
+pub record IsNext (table : TableMap) (at : ℕ) (cs : List ℕ) (next : ℕ) : Type 0 where
+  pub in_order : ordered (points_from at cs) ≡ points_from at cs
+  pub good : point_fault cs ≡ None
+  pub begins : begins_with_starter (points_of (at + byte_len cs) next) ≡ true
+  pub ends : EndsBefore table (points_from at cs) (at + byte_len cs) next
+
+-- Characters of a text, of which the first stands at an offset, that can be taken at once: they begin with a starter, so that
+-- canonical ordering does not cross their beginning, and the same holds of them.
+pub record AreApart (table : TableMap) (start : ℕ) (cs : List ℕ) (next : ℕ) : Type 0 where
+  pub begins : begins_with_starter (points_from start (cs ++ next ∷ [])) ≡ true
+  pub next_begins : begins_with_starter (points_of (start + byte_len cs) next) ≡ true
+  pub in_order : ordered (points_from start cs) ≡ points_from start cs
+  pub good : point_fault cs ≡ None
+  pub ends : EndsBefore table (points_from start cs) (start + byte_len cs) next
+
+-- ---- what was walked over
+
+-- the units went through a weigher and a walk, and the ranges came out
+pub record HasWalked (table : TableMap) (pattern : Compiled) (weigher : Weigher) (walk : Walk) (us : List (List Point)) (ranges : List (ℕ × ℕ)) : Type 0 where
+  pub items : List Item
+  pub weighed : WeigherStandsFor table weigher us items
+  pub walked : WalksOver pattern.keys items ranges walk
+  pub strength : weigher.strength ≡ pattern.strength
+  pub variable : weigher.variable ≡ pattern.variable
+
+-- further units went through, and further ranges came out
+abbrev pub HasWalkedOn : TableMap → Compiled → Weigher → Walk → Weigher → Walk → List (List Point) → List (ℕ × ℕ) → Type 0
+HasWalkedOn table pattern weigher walk weigher_now walk_now us found =
+    (before : List (List Point)) (ranges : List (ℕ × ℕ)) → HasWalked table pattern weigher walk before ranges
+    → HasWalked table pattern weigher_now walk_now (before ++ us) (ranges ++ found)
+
+-- all units of the text `taken` were cut, as if it ended there
+pub record IsPaused (table : TableMap) (pattern : Compiled) (waiting : Waiting) (window : Held) (weigher : Weigher) (walk : Walk) (taken : List ℕ) (ranges : List (ℕ × ℕ)) : Type 0 where
+  pub walked : HasWalked table pattern weigher walk (units table (points taken)) ranges
+  pub none_waits : waiting.held ≡ []
+  pub none_left : window.points ≡ []
+  pub good : point_fault taken ≡ None
+
+-- and no unit reaches from them to the character that follows
+pub record IsPausedBefore (table : TableMap) (pattern : Compiled) (waiting : Waiting) (window : Held) (weigher : Weigher) (walk : Walk) (taken : List ℕ) (ranges : List (ℕ × ℕ)) (next : ℕ) : Type 0 where
+  pub paused : IsPaused table pattern waiting window weigher walk taken ranges
+  pub ends : EndsBefore table (points taken) (byte_len taken) next

@@ -1,0 +1,52 @@
+-- What a search keeps of a character.
+use Rattle.std.specs.Prelude.{◌≡◌, ℕ, ◌≤◌, true, false, List, [], ◌∷◌, ◌++◌, length, map, slice_get, All}
+use Rattle.std.specs.Option.{ForSome}
+use Rattle.collation_table.specs.Table.{TableMap, BeginsNoLongerString, ContinuesNoString}
+use Rattle.nfd_points.specs.declared.points.Point.{Point}
+use Rattle.nfd_points.specs.Points.{points_of, is_starter, begins_with_starter, shifted}
+use Rattle.collation_elements.specs.declared.keys.Key.{Key}
+use Rattle.collation_elements.specs.declared.keys.Item.TheVariants.{ClusterStart, Element}
+use Rattle.collation_elements.specs.Units.{units}
+use Rattle.collation_elements.specs.Items.{items as items_of}
+use Rattle.collation_elements.specs.ItemParts.{item_keys}
+use Rattle.collation_elements.specs.Weighing.{weigher, after_units}
+use Rattle.collation_elements.specs.CharacterItems.{AreItemsOfPoints}
+use Rattle.collation_pattern.specs.Border.{border}
+use Rattle.collation_pattern.specs.Compiled.{Compiled}
+use Rattle.collation_search.specs.declared.characters.CharacterUnit.{CharacterUnit}
+use Rattle.collation_search.specs.declared.characters.KeptItems.{KeptItems}
+use Rattle.collation_search.specs.declared.characters.Characters.{Characters}
+
+-- the units of a character alone that begins at an offset
+abbrev pub units_alone : TableMap → ℕ → ℕ → List (List Point)
+units_alone table start c = units table (map (shifted start) (points_of 0 c))
+
+-- its keys, where the last element that was variable or primary was not variable
+abbrev pub keys_alone : TableMap → Compiled → ℕ → List Key
+keys_alone table pattern c = item_keys (items_of table pattern.strength pattern.variable false (units_alone table 0 c))
+
+-- What a search passes by where no key of the pattern waits, and the last element that was variable or primary was not variable: a
+-- character that begins a cluster and has keys, of which none is the pattern's first; nor is it variable after the character.
+pub record IsPassedBy (table : TableMap) (pattern : Compiled) (c : ℕ) : Type 0 where
+  pub items : (start : ℕ) → items_of table pattern.strength pattern.variable false (units_alone table start c) ≡ ClusterStart start ∷ map (λ key. Element key) (keys_alone table pattern c)
+  pub after : (start : ℕ) → after_units table pattern.variable false (units_alone table start c) ≡ false
+  pub some_key : 1 ≤ length (keys_alone table pattern c)
+  pub stays : All (λ key. (ks : List Key) → border pattern.keys ks ≡ 0 → border pattern.keys (ks ++ key ∷ []) ≡ 0) (keys_alone table pattern c)
+
+-- What is kept of a character is right wherever it stands: whether its decomposition begins with a starter, whether none of its
+-- points begins a longer mapped string, whether its first point is a starter that stands in no mapped string after the first
+-- place, and whether it is passed by.
+pub record IsCharacterUnit (table : TableMap) (pattern : Compiled) (unit : CharacterUnit) : Type 0 where
+  pub starter : unit.begins_with_starter ≡ true → (start : ℕ) → begins_with_starter (points_of start unit.code_point) ≡ true
+  pub alone : unit.is_alone ≡ true → (start : ℕ) → All (λ p. BeginsNoLongerString table p.cp) (points_of start unit.code_point)
+  pub apart : unit.begins_apart ≡ true → (start : ℕ) → ForSome (slice_get (points_of start unit.code_point) 0) (λ p. (is_starter p ≡ true) × ContinuesNoString table p.cp)
+  pub passed : unit.is_passed ≡ true → IsPassedBy table pattern unit.code_point
+
+-- the items of its units, where the last element that was variable or primary was not variable, and where it was
+pub record AreKeptItems (table : TableMap) (pattern : Compiled) (kept : KeptItems) : Type 0 where
+  pub items : ForSome kept.items (AreItemsOfPoints table (weigher pattern.strength pattern.variable false) (points_of 0 kept.code_point))
+  pub items_after_variable : ForSome kept.items_after_variable (AreItemsOfPoints table (weigher pattern.strength pattern.variable true) (points_of 0 kept.code_point))
+
+-- what is kept is right
+abbrev pub IsRight : TableMap → Compiled → Characters → Type 0
+IsRight table pattern kept = All (IsCharacterUnit table pattern) kept.units.items × All (AreKeptItems table pattern) kept.items.items

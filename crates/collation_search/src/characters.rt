@@ -1,0 +1,193 @@
+//! What a search keeps of the characters that it met, so that their points, units and items are not looked for again. Characters share
+//! places; each place holds what is known of the last one that came there.
+ghost use Rattle.std.specs.Prelude.{◌≡◌, ◌≤◌, [], length, false};
+ghost use Rattle.collation_search.specs.declared.characters.TheConstants.{UNIT_PLACES, ITEM_PLACES};
+
+use crate::character_units::{character_unit, is_passed};
+use collation_elements::{CharacterItems, Weigher, Window};
+use collation_pattern::Pattern;
+use collation_table::Weights;
+use nfd_points::laws::{laws_of_decompositions, laws_of_points};
+use nfd_points::points_of_character;
+use std::alloc::{AllocError, Global};
+
+/// How many places there are for what decides whether a character is taken at once.
+const UNIT_PLACES: usize = 16_384;
+
+/// How many places there are for the items of characters.
+const ITEM_PLACES: usize = 1_024;
+
+/// What decides whether a character is taken at once.
+#[derive(Clone, Copy)]
+pub(crate) struct CharacterUnit {
+    pub(crate) code_point: u32,
+    /// Whether its decomposition begins with a starter.
+    pub(crate) begins_with_starter: bool,
+    /// Whether none of its points begins a mapped string of two or more code points.
+    pub(crate) is_alone: bool,
+    /// Whether its first point is a starter that stands in no mapped string after the first place.
+    pub(crate) begins_apart: bool,
+    /// Whether it is passed by where no key of the pattern waits.
+    pub(crate) is_passed: bool,
+}
+
+/// The items of a character's units.
+#[derive(Clone, Copy)]
+pub(crate) struct KeptItems {
+    pub(crate) code_point: u32,
+    /// Those where the last element that was variable or primary was not variable, if there are three keys at most.
+    pub(crate) items: Option<CharacterItems>,
+    /// And where it was variable.
+    pub(crate) items_after_variable: Option<CharacterItems>,
+}
+
+/// Of a place where no character came: nothing is known of this code point, which is none.
+const NO_UNIT: CharacterUnit = CharacterUnit {
+    code_point: 0x11_0000,
+    begins_with_starter: false,
+    is_alone: false,
+    begins_apart: false,
+    is_passed: false,
+};
+
+/// And no items.
+const NO_ITEMS: KeptItems = KeptItems {
+    code_point: 0x11_0000,
+    items: None,
+    items_after_variable: None,
+};
+
+/// What is kept of the characters.
+#[derive(Drop)]
+pub(crate) struct Characters {
+    pub(crate) units: Vec<CharacterUnit>,
+    pub(crate) items: Vec<KeptItems>,
+    /// Room for the points of one character.
+    window: Window,
+    ghost unit_places: { length units.items ≡ UNIT_PLACES },
+    ghost item_places: { length items.items ≡ ITEM_PLACES },
+    ghost empty: { window.points ≡ [] },
+    ghost open: { window.has_ended ≡ false },
+    ghost room: { 4 ≤ window.capacity },
+}
+
+impl Characters {
+    ghost use Rattle.std.specs.Prelude.{◌≡◌, IfOk, IfSome, true};
+    ghost use Rattle.collation_table.specs.Table.{TableMap};
+    ghost use Rattle.nfd_points.specs.Points.{points_of};
+    ghost use Rattle.collation_elements.specs.CharacterItems.{AreItemsOfPoints};
+    ghost use Rattle.collation_elements.specs.Weighing.{weigher};
+    ghost use Rattle.collation_pattern.specs.Compiled.{Compiled};
+    ghost use Rattle.collation_search.specs.Characters.{IsCharacterUnit, IsPassedBy, AreKeptItems, IsRight};
+
+    /// Nothing is known yet.
+    ///
+    /// # Errors
+    ///
+    /// Only where memory was refused.
+    pub(crate) fn new<W: Weights>(alloc: Global, table: &W) -> Result<Characters, AllocError>
+        ensures right { IfOk result (λ c. (table : TableMap) (pattern : Compiled) → IsRight table pattern c) }
+    {
+        Ok(Characters {
+            units: vec![in alloc; NO_UNIT; UNIT_PLACES]?,
+            items: vec![in alloc; NO_ITEMS; ITEM_PLACES]?,
+            window: Window::with_capacity(alloc, table.longest_key())?,
+        })
+    }
+
+    /// What decides whether a character is taken at once.
+    #[inline(always)]
+    pub(crate) fn unit_of<W: Weights>(&mut self, table: &W, pattern: &Pattern, c: char) -> CharacterUnit
+        requires { IsRight (W.table table.now) pattern.now self.old }
+        ensures right { IsRight (W.table table.now) pattern.now self.new }
+        ensures unit { IsCharacterUnit (W.table table.now) pattern.now result }
+        ensures code_point { result.code_point ≡ c }
+    {
+        let kept = self.units[c as usize % UNIT_PLACES];
+        if kept.code_point == c as u32 {
+            return kept;
+        }
+        self.find_unit(table, pattern, c)
+    }
+
+    /// The items of a character, if there are three keys at most, where the last element that was variable or primary was variable
+    /// or was not.
+    #[inline(always)]
+    pub(crate) fn items_of<W: Weights>(&mut self, table: &W, pattern: &Pattern, c: char, after_variable: bool) -> Option<CharacterItems>
+        requires { IsRight (W.table table.now) pattern.now self.old }
+        ensures right { IsRight (W.table table.now) pattern.now self.new }
+        ensures items { IfSome result (λ it.
+            AreItemsOfPoints (W.table table.now) (weigher pattern.now.strength pattern.now.variable after_variable) (points_of 0 c) it) }
+    {
+        let kept = self.kept_items(table, pattern, c);
+        if after_variable {
+            kept.items_after_variable
+        } else {
+            kept.items
+        }
+    }
+
+    #[inline(always)]
+    fn kept_items<W: Weights>(&mut self, table: &W, pattern: &Pattern, c: char) -> KeptItems
+        requires { IsRight (W.table table.now) pattern.now self.old }
+        ensures right { IsRight (W.table table.now) pattern.now self.new }
+        ensures items { AreKeptItems (W.table table.now) pattern.now result }
+        ensures code_point { result.code_point ≡ c }
+    {
+        let kept = self.items[c as usize % ITEM_PLACES];
+        if kept.code_point == c as u32 {
+            return kept;
+        }
+        self.find_items(table, pattern, c)
+    }
+
+    /// Finds out what decides whether a character is taken at once, and keeps it.
+    #[inline(never)]
+    fn find_unit<W: Weights>(&mut self, table: &W, pattern: &Pattern, c: char) -> CharacterUnit
+        requires { IsRight (W.table table.now) pattern.now self.old }
+        ensures right { IsRight (W.table table.now) pattern.now self.new }
+        ensures unit { IsCharacterUnit (W.table table.now) pattern.now result }
+        ensures code_point { result.code_point ≡ c }
+    {
+        let is_passed = self.is_passed(table, pattern, c);
+        let unit = character_unit(table, c, is_passed);
+        self.units[c as usize % UNIT_PLACES] = unit;
+        unit
+    }
+
+    /// Whether a character is passed by where no key of the pattern waits.
+    fn is_passed<W: Weights>(&mut self, table: &W, pattern: &Pattern, c: char) -> bool
+        requires { IsRight (W.table table.now) pattern.now self.old }
+        ensures right { IsRight (W.table table.now) pattern.now self.new }
+        ensures passed { result ≡ true → IsPassedBy (W.table table.now) pattern.now c }
+    {
+        match self.items_of(table, pattern, c, false) {
+            Some(items) => is_passed(pattern, &items),
+            None => false,
+        }
+    }
+
+    /// Finds out the items of a character, and keeps them.
+    #[inline(never)]
+    fn find_items<W: Weights>(&mut self, table: &W, pattern: &Pattern, c: char) -> KeptItems
+        requires { IsRight (W.table table.now) pattern.now self.old }
+        ensures right { IsRight (W.table table.now) pattern.now self.new }
+        ensures items { AreKeptItems (W.table table.now) pattern.now result }
+        ensures code_point { result.code_point ≡ c }
+    {
+        laws_of_points();
+        laws_of_decompositions();
+        let points = points_of_character(c, 0);
+        let points = points.as_slice();
+        let (strength, variable) = (pattern.strength(), pattern.variable());
+        let before = Weigher::restore(strength, variable, false);
+        let after = Weigher::restore(strength, variable, true);
+        let kept = KeptItems {
+            code_point: c as u32,
+            items: CharacterItems::of_points(table, &mut self.window, before, points),
+            items_after_variable: CharacterItems::of_points(table, &mut self.window, after, points),
+        };
+        self.items[c as usize % ITEM_PLACES] = kept;
+        kept
+    }
+}
