@@ -10,4 +10,3 @@ pub record Laws : Type 0 where
   pub parts : PointsOfParts
   pub at_starters : OrderingStopsAtStarters
   pub stays : OrderedStays
-

@@ -153,7 +153,7 @@ apart-more laws table start c next cs others more same h n =
           ∙ ap begins_with_starter (sym (append_assoc A (points_of at c) (points_from (at + len_utf8 c) others)))
           ∙ begins-append (A ++ points_of at c) (points_from (at + len_utf8 c) others) (begun_append A (points_of at c) (begun laws.short at c) (A ++ points_of at c) refl) (ap begins_with_starter (sym one) ∙ h.begins) in
           ap begins_with_starter joined ∙ begins-append (points_from start (cs ++ more)) (points_from (start + byte_len (cs ++ more)) (next ∷ []))
-              (begun_append A S b (points_from start (cs ++ more)) all) (ap begins_with_starter all ∙ first);
+          (begun_append A S b (points_from start (cs ++ more)) all) (ap begins_with_starter all ∙ first);
       next_begins = subst (λ i. begins_with_starter (points_of i next) ≡ true) (sym end) n.begins;
       in_order = ap ordered all ∙ laws.at_starters A S (begins_all laws at at c others more same h.next_begins) ∙ ap₂ (λ (s t : List Point). s ++ t) h.in_order n.in_order ∙ sym all;
       good = laws.anew cs more (begins_all laws at 0 c others more same h.next_begins) h.good n.good;

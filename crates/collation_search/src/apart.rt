@@ -84,7 +84,12 @@ fn can_begin<W: Weights>(
 
 /// Walks over the items of a character that starts at a byte offset, and hands out the range that became known, if there is one.
 #[inline(always)]
-fn walk_items(walk: &mut Walk, pattern: &Pattern, items: &CharacterItems, start: u64) -> Option<(u64, u64)>
+fn walk_items(
+    walk: &mut Walk,
+    pattern: &Pattern,
+    items: &CharacterItems,
+    start: u64,
+) -> Option<(u64, u64)>
     requires { walk.old.state ≤ length pattern.now.keys }
     ensures walks { (before : List Item) (ranges : List (ℕ × ℕ)) → WalksOver pattern.now.keys before ranges walk.old
         → WalksOver pattern.now.keys (before ++ character_items items.now start) (ranges ++ option_to_list result) walk.new }

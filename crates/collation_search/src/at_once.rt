@@ -32,12 +32,18 @@ fn reach<W: Weights>(query: &Query<'_, W>, characters: &mut Characters, piece: &
 }
 
 /// Whether a character that begins with a starter stands at the front of some bytes.
-fn begins_with_starter<W: Weights>(query: &Query<'_, W>, characters: &mut Characters, bytes: &[u8]) -> bool
+fn begins_with_starter<W: Weights>(
+    query: &Query<'_, W>,
+    characters: &mut Characters,
+    bytes: &[u8],
+) -> bool
     requires { IsRight (W.table query.now.table.now) query.now.pattern.now characters.old }
     ensures { IsRight (W.table query.now.table.now) query.now.pattern.now characters.new }
 {
     match first_character(bytes) {
-        Some(c) => characters.unit_of(query.table, query.pattern, c).begins_with_starter,
+        Some(c) => characters
+            .unit_of(query.table, query.pattern, c)
+            .begins_with_starter,
         None => false,
     }
 }

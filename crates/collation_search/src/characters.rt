@@ -97,7 +97,12 @@ impl Characters {
 
     /// What decides whether a character is taken at once.
     #[inline(always)]
-    pub(crate) fn unit_of<W: Weights>(&mut self, table: &W, pattern: &Pattern, c: char) -> CharacterUnit
+    pub(crate) fn unit_of<W: Weights>(
+        &mut self,
+        table: &W,
+        pattern: &Pattern,
+        c: char,
+    ) -> CharacterUnit
         requires { IsRight (W.table table.now) pattern.now self.old }
         ensures right { IsRight (W.table table.now) pattern.now self.new }
         ensures unit { IsCharacterUnit (W.table table.now) pattern.now result }
@@ -113,7 +118,13 @@ impl Characters {
     /// The items of a character, if there are three keys at most, where the last element that was variable or primary was variable
     /// or was not.
     #[inline(always)]
-    pub(crate) fn items_of<W: Weights>(&mut self, table: &W, pattern: &Pattern, c: char, after_variable: bool) -> Option<CharacterItems>
+    pub(crate) fn items_of<W: Weights>(
+        &mut self,
+        table: &W,
+        pattern: &Pattern,
+        c: char,
+        after_variable: bool,
+    ) -> Option<CharacterItems>
         requires { IsRight (W.table table.now) pattern.now self.old }
         ensures right { IsRight (W.table table.now) pattern.now self.new }
         ensures items { IfSome result (λ it.

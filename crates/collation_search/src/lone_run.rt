@@ -145,7 +145,12 @@ fn walk_lone(walk: &mut Walk, pattern: &Pattern, lone: &LoneItems, start: u64) -
 
 /// Walks over the start of a cluster, if one begins.
 #[inline(always)]
-pub(crate) fn walk_start(walk: &mut Walk, pattern: &Pattern, begins: bool, start: u64) -> Option<(u64, u64)>
+pub(crate) fn walk_start(
+    walk: &mut Walk,
+    pattern: &Pattern,
+    begins: bool,
+    start: u64,
+) -> Option<(u64, u64)>
     requires { walk.old.state ≤ length pattern.now.keys }
     ensures walks { (before : List Item) (ranges : List (ℕ × ℕ)) → WalksOver pattern.now.keys before ranges walk.old
         → WalksOver pattern.now.keys (before ++ (if begins then Item.ClusterStart start ∷ [] else [])) (ranges ++ option_to_list result) walk.new }

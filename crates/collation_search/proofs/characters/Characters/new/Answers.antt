@@ -45,7 +45,8 @@ no_items table pattern = record {
 pub returns : goal.returns
 unfolding blank_unit blank_items
 returns g c = record {
-  right = λ table pattern.
-      (subst (All (IsCharacterUnit table pattern)) (sym (c.in_ok-vec.ensures.items_if_clones_equal (λ y h. h))) (All-replicate (IsCharacterUnit table pattern) 16384 blank_unit (no_unit table pattern)),
-      subst (All (AreKeptItems table pattern)) (sym (c.in_ok-vec-2.ensures.items_if_clones_equal (λ y h. h))) (All-replicate (AreKeptItems table pattern) 1024 blank_items (no_items table pattern)));
+  right = λ table pattern. (
+    subst (All (IsCharacterUnit table pattern)) (sym (c.in_ok-vec.ensures.items_if_clones_equal (λ y h. h))) (All-replicate (IsCharacterUnit table pattern) 16384 blank_unit (no_unit table pattern)),
+    subst (All (AreKeptItems table pattern)) (sym (c.in_ok-vec-2.ensures.items_if_clones_equal (λ y h. h))) (All-replicate (AreKeptItems table pattern) 1024 blank_items (no_items table pattern)),
+  );
 }
