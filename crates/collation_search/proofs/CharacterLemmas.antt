@@ -42,11 +42,10 @@ abbrev pub BeforeLaw : Type 0
 BeforeLaw =
     (table : TableMap) (ps : List Point) (d : Point) (more : List Point) → is_starter d ≡ true → ContinuesNoString table d.cp → units table (ps ++ d ∷ more) ≡ units table ps ++ units table (d ∷ more)
 
-pub next_from : Laws → AloneLaw → BeforeLaw → (table : TableMap) (pattern : Compiled) (at : ℕ) (unit following : CharacterUnit) → following.begins_with_starter ≡ true →
-    (unit.is_alone ≡ true ⊎ following.begins_apart ≡ true) → IsCharacterUnit table pattern unit → IsCharacterUnit table pattern following → IsNext table at (unit.code_point ∷ []) following.code_point
-next_from laws alone before table pattern at unit following starter which u f =
-    let c = unit.code_point in
-    next_of_one laws table at c following.code_point (f.starter starter (at + len_utf8 c))
+pub next_from : Laws → AloneLaw → BeforeLaw → (table : TableMap) (pattern : Compiled) (at c next : ℕ) (unit following : CharacterUnit) → following.begins_with_starter ≡ true →
+    (unit.is_alone ≡ true ⊎ following.begins_apart ≡ true) → IsCharacterUnit table pattern c unit → IsCharacterUnit table pattern next following → IsNext table at (c ∷ []) next
+next_from laws alone before table pattern at c next unit following starter which u f =
+    next_of_one laws table at c next (f.starter starter (at + len_utf8 c))
     (elim which [
       | inl lone ↦ λ x is more. alone table (points_of at c) (x ∷ more) (u.alone lone at)
       | inr apart ↦ λ x is more. let first = f.apart apart (at + len_utf8 c) x is in before table (points_of at c) x more first.0 first.1

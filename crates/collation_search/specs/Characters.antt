@@ -14,6 +14,7 @@ use Rattle.collation_elements.specs.CharacterItems.{AreItemsOfPoints}
 use Rattle.collation_pattern.specs.Border.{border}
 use Rattle.collation_pattern.specs.Compiled.{Compiled}
 use Rattle.collation_search.specs.declared.characters.CharacterUnit.{CharacterUnit}
+use Rattle.collation_search.specs.declared.characters.KeptUnit.{KeptUnit}
 use Rattle.collation_search.specs.declared.characters.KeptItems.{KeptItems}
 use Rattle.collation_search.specs.declared.characters.Characters.{Characters}
 
@@ -36,11 +37,15 @@ pub record IsPassedBy (table : TableMap) (pattern : Compiled) (c : ℕ) : Type 0
 -- What is kept of a character is right wherever it stands: whether its decomposition begins with a starter, whether none of its
 -- points begins a longer mapped string, whether its first point is a starter that stands in no mapped string after the first
 -- place, and whether it is passed by.
-pub record IsCharacterUnit (table : TableMap) (pattern : Compiled) (unit : CharacterUnit) : Type 0 where
-  pub starter : unit.begins_with_starter ≡ true → (start : ℕ) → begins_with_starter (points_of start unit.code_point) ≡ true
-  pub alone : unit.is_alone ≡ true → (start : ℕ) → All (λ p. BeginsNoLongerString table p.cp) (points_of start unit.code_point)
-  pub apart : unit.begins_apart ≡ true → (start : ℕ) → ForSome (slice_get (points_of start unit.code_point) 0) (λ p. (is_starter p ≡ true) × ContinuesNoString table p.cp)
-  pub passed : unit.is_passed ≡ true → IsPassedBy table pattern unit.code_point
+pub record IsCharacterUnit (table : TableMap) (pattern : Compiled) (c : ℕ) (unit : CharacterUnit) : Type 0 where
+  pub starter : unit.begins_with_starter ≡ true → (start : ℕ) → begins_with_starter (points_of start c) ≡ true
+  pub alone : unit.is_alone ≡ true → (start : ℕ) → All (λ p. BeginsNoLongerString table p.cp) (points_of start c)
+  pub apart : unit.begins_apart ≡ true → (start : ℕ) → ForSome (slice_get (points_of start c) 0) (λ p. (is_starter p ≡ true) × ContinuesNoString table p.cp)
+  pub passed : unit.is_passed ≡ true → IsPassedBy table pattern c
+
+-- and so is what is kept in a place
+abbrev pub IsKeptUnit : TableMap → Compiled → KeptUnit → Type 0
+IsKeptUnit table pattern kept = IsCharacterUnit table pattern kept.code_point kept.unit
 
 -- the items of its units, where the last element that was variable or primary was not variable, and where it was
 pub record AreKeptItems (table : TableMap) (pattern : Compiled) (kept : KeptItems) : Type 0 where
@@ -49,4 +54,4 @@ pub record AreKeptItems (table : TableMap) (pattern : Compiled) (kept : KeptItem
 
 -- what is kept is right
 abbrev pub IsRight : TableMap → Compiled → Characters → Type 0
-IsRight table pattern kept = All (IsCharacterUnit table pattern) kept.units.items × All (AreKeptItems table pattern) kept.items.items
+IsRight table pattern kept = All (IsKeptUnit table pattern) kept.units.items × All (AreKeptItems table pattern) kept.items.items

@@ -35,15 +35,16 @@ use utf8_cut::first_character;
 struct Walked {
     /// How many bytes it has.
     len: usize,
-    /// The character that follows.
+    /// The character that follows, and what is known of it.
     next: char,
+    unit: CharacterUnit,
 }
 
 /// Whether no unit reaches from a character to the one that follows it, and that begins with a starter, as far as is known.
 #[inline(always)]
 fn is_next(unit: &CharacterUnit, following: &CharacterUnit) -> bool
-    ensures { result ≡ true → (table : TableMap) (pattern : Compiled) (at : ℕ) → IsCharacterUnit table pattern unit.now
-        → IsCharacterUnit table pattern following.now → IsNext table at (unit.now.code_point ∷ []) following.now.code_point }
+    ensures { result ≡ true → (table : TableMap) (pattern : Compiled) (at c next : ℕ) → IsCharacterUnit table pattern c unit.now
+        → IsCharacterUnit table pattern next following.now → IsNext table at (c ∷ []) next }
 {
     units_stay_apart();
     laws_of_points();
@@ -53,8 +54,34 @@ fn is_next(unit: &CharacterUnit, following: &CharacterUnit) -> bool
     following.begins_with_starter && (unit.is_alone || following.begins_apart)
 }
 
-/// Whether the character `first` at the front of a piece can be taken so: no unit reaches to it or from it to the next one, which
-/// does not begin after `reach`.
+/// The character that follows `c` at the front of a piece, if no unit reaches to it.
+fn next_apart<W: Weights>(
+    query: &Query<'_, W>,
+    characters: &mut Characters,
+    piece: &[u8],
+    c: char,
+    unit: &CharacterUnit,
+) -> Option<Walked>
+    requires within { len_utf8 c ≤ length piece.now }
+    requires right { IsRight (W.table query.now.table.now) query.now.pattern.now characters.old }
+    ensures within { IfSome result (λ w. w.len + len_utf8 w.next ≤ length piece.now) }
+    ensures right { IsRight (W.table query.now.table.now) query.now.pattern.now characters.new }
+{
+    let len = c.len_utf8();
+    let next = first_character(&piece[len..])?;
+    let following = characters.unit_of(query.table, query.pattern, next);
+    if !is_next(unit, &following) {
+        return None;
+    }
+    Some(Walked {
+        len,
+        next,
+        unit: following,
+    })
+}
+
+/// Whether the character `first` at the front of a piece can be taken so: no unit reaches to it, the next one does not begin after
+/// `reach`, and no unit reaches from it or from the two that follow to the next one. For fewer it is not worth while.
 fn can_begin<W: Weights>(
     query: &Query<'_, W>,
     characters: &mut Characters,
@@ -67,19 +94,22 @@ fn can_begin<W: Weights>(
     ensures apart { result ≡ true → (start : ℕ) → ForSome (slice_get (points_of start first) 0) (λ p. (is_starter p ≡ true) × ContinuesNoString (W.table query.now.table.now) p.cp) }
     ensures right { IsRight (W.table query.now.table.now) query.now.pattern.now characters.new }
 {
-    let len = first.len_utf8();
-    if len > reach {
+    if first.len_utf8() > reach {
         return false;
     }
-    let Some(next) = first_character(&piece[len..]) else {
-        return false;
-    };
     let unit = characters.unit_of(query.table, query.pattern, first);
     if !unit.begins_apart {
         return false;
     }
-    let following = characters.unit_of(query.table, query.pattern, next);
-    is_next(&unit, &following)
+    let Some(second) = next_apart(query, characters, piece, first, &unit) else {
+        return false;
+    };
+    let piece = &piece[second.len..];
+    let Some(third) = next_apart(query, characters, piece, second.next, &second.unit) else {
+        return false;
+    };
+    let piece = &piece[third.len..];
+    next_apart(query, characters, piece, third.next, &third.unit).is_some()
 }
 
 /// Walks over the items of a character that starts at a byte offset, and hands out the range that became known, if there is one.
@@ -114,7 +144,7 @@ impl Finder {
     ghost use Rattle.collation_elements.specs.Weighing.{is_after_variable};
     ghost use Rattle.collation_table.specs.Table.{longest_mapped as longest_key_of};
     ghost use Rattle.collation_search.specs.Apart.{AreApart, IsNext, HasWalkedOn, IsPaused};
-    ghost use Rattle.collation_search.specs.Characters.{IsRight};
+    ghost use Rattle.collation_search.specs.Characters.{IsCharacterUnit, IsRight};
     ghost use Rattle.collation_search.specs.Finding.{FinderStandsFor};
     ghost use Rattle.collation_search.specs.GoodPrefix.{most_bytes};
 
@@ -229,17 +259,20 @@ impl Finder {
         laws_of_decompositions();
         let mut at = 0;
         let mut c = first;
+        let mut unit = characters.unit_of(query.table, query.pattern, first);
         while let Some(walked) = self.walk_some(
             query,
             characters,
             &piece[at..],
             c,
+            unit,
             reach.saturating_sub(at),
             offset + at as u64,
             sink,
         ) {
             at += walked.len;
             c = walked.next;
+            unit = walked.unit;
         }
         (at, c)
     }
@@ -264,11 +297,13 @@ impl Finder {
         characters: &mut Characters,
         piece: &[u8],
         c: char,
+        unit: CharacterUnit,
         reach: usize,
         start: u64,
         sink: &mut F,
     ) -> Option<Walked>
         requires c { (len_utf8 c ≤ length piece.now) × SpellsCharacter (take (len_utf8 c) piece.now) c }
+        requires unit { IsCharacterUnit (W.table query.now.table.now) query.now.pattern.now c unit }
         requires pattern_len { self.old.pattern_len ≡ length query.now.pattern.now.keys }
         requires right { IsRight (W.table query.now.table.now) query.now.pattern.now characters.old }
         requires callable { F.IsAlwaysCallable sink.old }
@@ -277,6 +312,7 @@ impl Finder {
         ensures some { IfSome result (λ w. 1 ≤ w.len) }
         ensures within { IfSome result (λ w. w.len + len_utf8 w.next ≤ length piece.now) }
         ensures next { IfSome result (λ w. SpellsCharacter (take (len_utf8 w.next) (drop w.len piece.now)) w.next) }
+        ensures unit { IfSome result (λ w. IsCharacterUnit (W.table query.now.table.now) query.now.pattern.now w.next w.unit) }
         ensures text { IfSome result (λ w. IsUtf8 (take w.len piece.now)) }
         ensures begun { IfSome result (λ w. (others : List ℕ) × (chars (take w.len piece.now) ≡ c ∷ others)) }
         ensures apart { IfSome result (λ w. IsNext (W.table query.now.table.now) start (chars (take w.len piece.now)) w.next) }
@@ -297,14 +333,17 @@ impl Finder {
         }
         let next = first_character(&piece[len..])?;
         let following = characters.unit_of(query.table, query.pattern, next);
-        let unit = characters.unit_of(query.table, query.pattern, c);
         if !is_next(&unit, &following) {
             return None;
         }
         if !self.walk_one(query, characters, &unit, c, start, sink) {
             return None;
         }
-        Some(Walked { len, next })
+        Some(Walked {
+            len,
+            next,
+            unit: following,
+        })
     }
 
     /// Walks over the units of a character by themselves, which stands at a byte offset, and says whether it did: not where it has
@@ -319,8 +358,7 @@ impl Finder {
         start: u64,
         sink: &mut F,
     ) -> bool
-        requires unit { IsCharacterUnit (W.table query.now.table.now) query.now.pattern.now unit.now }
-        requires code_point { unit.now.code_point ≡ c }
+        requires unit { IsCharacterUnit (W.table query.now.table.now) query.now.pattern.now c unit.now }
         requires pattern_len { self.old.pattern_len ≡ length query.now.pattern.now.keys }
         requires right { IsRight (W.table query.now.table.now) query.now.pattern.now characters.old }
         requires callable { F.IsAlwaysCallable sink.old }

@@ -19,14 +19,12 @@ use nfd_points::{Point, points_of_character};
 
 /// What the table says of a character.
 pub(crate) fn character_unit<W: Weights>(table: &W, c: char, is_passed: bool) -> CharacterUnit
-    ensures unit { (pattern : Compiled) → (is_passed ≡ true → IsPassedBy (W.table table.now) pattern c) → IsCharacterUnit (W.table table.now) pattern result }
-    ensures code_point { result.code_point ≡ c }
+    ensures { (pattern : Compiled) → (is_passed ≡ true → IsPassedBy (W.table table.now) pattern c) → IsCharacterUnit (W.table table.now) pattern c result }
 {
     laws_of_points();
     let points = points_of_character(c, 0);
     let points = points.as_slice();
     CharacterUnit {
-        code_point: c as u32,
         begins_with_starter: begins_with_starter(points),
         is_alone: are_alone(table, points),
         begins_apart: begins_apart(table, points),

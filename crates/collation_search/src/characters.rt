@@ -12,7 +12,7 @@ use nfd_points::points_of_character;
 use std::alloc::{AllocError, Global};
 
 /// How many places there are for what decides whether a character is taken at once.
-const UNIT_PLACES: usize = 16_384;
+const UNIT_PLACES: usize = 32_768;
 
 /// How many places there are for the items of characters.
 const ITEM_PLACES: usize = 1_024;
@@ -20,7 +20,6 @@ const ITEM_PLACES: usize = 1_024;
 /// What decides whether a character is taken at once.
 #[derive(Clone, Copy)]
 pub(crate) struct CharacterUnit {
-    pub(crate) code_point: u32,
     /// Whether its decomposition begins with a starter.
     pub(crate) begins_with_starter: bool,
     /// Whether none of its points begins a mapped string of two or more code points.
@@ -29,6 +28,13 @@ pub(crate) struct CharacterUnit {
     pub(crate) begins_apart: bool,
     /// Whether it is passed by where no key of the pattern waits.
     pub(crate) is_passed: bool,
+}
+
+/// The same with the character. What is handed out is the first part alone, for it is written and read as one word.
+#[derive(Clone, Copy)]
+pub(crate) struct KeptUnit {
+    pub(crate) code_point: u32,
+    pub(crate) unit: CharacterUnit,
 }
 
 /// The items of a character's units.
@@ -42,12 +48,14 @@ pub(crate) struct KeptItems {
 }
 
 /// Of a place where no character came: nothing is known of this code point, which is none.
-const NO_UNIT: CharacterUnit = CharacterUnit {
+const NO_UNIT: KeptUnit = KeptUnit {
     code_point: 0x11_0000,
-    begins_with_starter: false,
-    is_alone: false,
-    begins_apart: false,
-    is_passed: false,
+    unit: CharacterUnit {
+        begins_with_starter: false,
+        is_alone: false,
+        begins_apart: false,
+        is_passed: false,
+    },
 };
 
 /// And no items.
@@ -60,7 +68,7 @@ const NO_ITEMS: KeptItems = KeptItems {
 /// What is kept of the characters.
 #[derive(Drop)]
 pub(crate) struct Characters {
-    pub(crate) units: Vec<CharacterUnit>,
+    pub(crate) units: Vec<KeptUnit>,
     pub(crate) items: Vec<KeptItems>,
     /// Room for the points of one character.
     window: Window,
@@ -105,12 +113,11 @@ impl Characters {
     ) -> CharacterUnit
         requires { IsRight (W.table table.now) pattern.now self.old }
         ensures right { IsRight (W.table table.now) pattern.now self.new }
-        ensures unit { IsCharacterUnit (W.table table.now) pattern.now result }
-        ensures code_point { result.code_point ≡ c }
+        ensures unit { IsCharacterUnit (W.table table.now) pattern.now c result }
     {
         let kept = self.units[c as usize % UNIT_PLACES];
         if kept.code_point == c as u32 {
-            return kept;
+            return kept.unit;
         }
         self.find_unit(table, pattern, c)
     }
@@ -157,12 +164,14 @@ impl Characters {
     fn find_unit<W: Weights>(&mut self, table: &W, pattern: &Pattern, c: char) -> CharacterUnit
         requires { IsRight (W.table table.now) pattern.now self.old }
         ensures right { IsRight (W.table table.now) pattern.now self.new }
-        ensures unit { IsCharacterUnit (W.table table.now) pattern.now result }
-        ensures code_point { result.code_point ≡ c }
+        ensures unit { IsCharacterUnit (W.table table.now) pattern.now c result }
     {
         let is_passed = self.is_passed(table, pattern, c);
         let unit = character_unit(table, c, is_passed);
-        self.units[c as usize % UNIT_PLACES] = unit;
+        self.units[c as usize % UNIT_PLACES] = KeptUnit {
+            code_point: c as u32,
+            unit,
+        };
         unit
     }
 

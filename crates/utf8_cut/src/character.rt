@@ -9,7 +9,7 @@ use crate::sequence::{Form, of_four, of_one, of_three, of_two};
 
 /// The character at the front of a slice, if it is whole there: none where the slice is empty or begins
 /// with a sequence that is ill-formed or incomplete.
-#[inline]
+#[inline(always)]
 pub fn first_character(bytes: &[u8]) -> Option<char>
     ensures some { IfSome result (λ c. (len_utf8 c ≤ length bytes.now)
         × SpellsCharacter (take (len_utf8 c) bytes.now) c) }
@@ -26,7 +26,7 @@ pub fn first_character(bytes: &[u8]) -> Option<char>
 }
 
 /// The character of this first byte and the later ones.
-#[inline]
+#[inline(always)]
 fn after_one(first: u8, later: &[u8]) -> Option<char>
     requires { IsTrue (is_incomplete_sequence (first ∷ [])) }
     ensures { IsFirstCharacter (first ∷ later.now) result }
@@ -42,7 +42,7 @@ fn after_one(first: u8, later: &[u8]) -> Option<char>
 }
 
 /// The character of these two bytes and the later ones.
-#[inline]
+#[inline(always)]
 fn after_two(first: u8, second: u8, later: &[u8]) -> Option<char>
     requires { IsTrue (is_incomplete_sequence (first ∷ second ∷ [])) }
     ensures { IsFirstCharacter (first ∷ second ∷ later.now) result }

@@ -8,8 +8,8 @@ use Rattle.collation_search.proofs.ApartLemmas.{begins_anywhere}
 use Rattle.collation_search.proofs.CharacterUnitLemmas.{alone_anywhere, apart_anywhere}
 use Rattle.collation_search.proofs.character_units.character_unit.Goals as goal
 
-pub returns-clause-unit : goal.returns-clause-unit
-returns-clause-unit g c = λ pattern passed.
+pub returns : goal.returns
+returns g c = λ pattern passed.
     let table = g.W.Weights.table c.args.table.now in
     let ch = c.args.c in
     let value : c.as_slice-points.result.now ≡ points_of 0 ch = c.as_slice-points.ensures.value ∙ c.points_of_character-points.ensures.value in

@@ -3,9 +3,9 @@ use Rattle.std.proofs.lemmas.Option.{none-some}
 use Rattle.std.proofs.lemmas.List.Elements.{All-replicate}
 use Rattle.collation_table.specs.Table.{TableMap}
 use Rattle.collation_pattern.specs.Compiled.{Compiled}
-use Rattle.collation_search.specs.declared.characters.CharacterUnit.{CharacterUnit}
+use Rattle.collation_search.specs.declared.characters.KeptUnit.{KeptUnit}
 use Rattle.collation_search.specs.declared.characters.KeptItems.{KeptItems}
-use Rattle.collation_search.specs.Characters.{IsCharacterUnit, AreKeptItems}
+use Rattle.collation_search.specs.Characters.{IsKeptUnit, AreKeptItems}
 use Rattle.collation_search.proofs.characters.Characters.new.Goals as goal
 
 pub with_capacity-requires-clause-some : goal.with_capacity-requires-clause-some
@@ -16,14 +16,14 @@ pub with_capacity-requires-clause-few : goal.with_capacity-requires-clause-few
 with_capacity-requires-clause-few g c =
     let sizes = g.met.W.Weights.sizes c.args.table.now in omega (arith, sizes.string, c.longest_key.ensures)
 
-blank_unit : CharacterUnit
-blank_unit = record { code_point = 0x11_0000; begins_with_starter = false; is_alone = false; begins_apart = false; is_passed = false }
+blank_unit : KeptUnit
+blank_unit = record { code_point = 0x11_0000; unit = record { begins_with_starter = false; is_alone = false; begins_apart = false; is_passed = false } }
 
 not_true : false ≡ true → ⊥
 not_true h = cc
 
 -- of no character anything is right
-no_unit : (table : TableMap) (pattern : Compiled) → IsCharacterUnit table pattern blank_unit
+no_unit : (table : TableMap) (pattern : Compiled) → IsKeptUnit table pattern blank_unit
 unfolding blank_unit
 no_unit table pattern = record {
   starter = λ h. absurd (not_true h);
@@ -46,7 +46,7 @@ pub returns : goal.returns
 unfolding blank_unit blank_items
 returns g c = record {
   right = λ table pattern. (
-    subst (All (IsCharacterUnit table pattern)) (sym (c.in_ok-vec.ensures.items_if_clones_equal (λ y h. h))) (All-replicate (IsCharacterUnit table pattern) 16384 blank_unit (no_unit table pattern)),
+    subst (All (IsKeptUnit table pattern)) (sym (c.in_ok-vec.ensures.items_if_clones_equal (λ y h. h))) (All-replicate (IsKeptUnit table pattern) 32768 blank_unit (no_unit table pattern)),
     subst (All (AreKeptItems table pattern)) (sym (c.in_ok-vec-2.ensures.items_if_clones_equal (λ y h. h))) (All-replicate (AreKeptItems table pattern) 1024 blank_items (no_items table pattern)),
   );
 }

@@ -36,7 +36,8 @@ loop-walked-init g c =
     let none : points_from c.args.offset (chars (take 0 piece)) ≡ [] = ap (points_from c.args.offset) chars-nil ∙ from_none c.args.offset in
     record {
       callable = c.requires.callable;
-      right = c.requires.right;
+      right = c.unit_of-unit.ensures.right;
+      unit = c.unit_of-unit.ensures.unit;
       window = refl;
       reorder = refl;
       longest = refl;
@@ -86,6 +87,7 @@ loop-walked-preserved g c =
     record {
       callable = c.walk_some.ensures.callable;
       right = c.walk_some.ensures.right;
+      unit = e.unit;
       window = c.walk_some.ensures.window ∙ i.window;
       reorder = c.walk_some.ensures.reorder ∙ i.reorder;
       longest = c.walk_some.ensures.longest ∙ i.longest;

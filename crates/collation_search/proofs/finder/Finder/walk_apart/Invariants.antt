@@ -6,7 +6,7 @@ use Rattle.utf8_cut.specs.Sequences.{SpellsCharacter}
 use Rattle.nfd_points.specs.Points.{points_from}
 use Rattle.collation_elements.specs.Units.{units}
 use Rattle.collation_search.specs.Apart.{AreApart, HasWalkedOn}
-use Rattle.collation_search.specs.Characters.{IsRight}
+use Rattle.collation_search.specs.Characters.{IsCharacterUnit, IsRight}
 use Rattle.collation_search.proofs.finder.Finder.walk_apart.Given as goal
 
 -- the characters so far were walked over, c follows them, and the sink was called for the ranges so far
@@ -19,6 +19,7 @@ invariant-loop-walked g l = record {
   longest : l.self.longest_key ≡ l.initial.self.longest_key;
   pattern_len : l.self.pattern_len ≡ l.initial.self.pattern_len;
   select : l.self.walk.select ≡ l.initial.self.walk.select;
+  unit : IsCharacterUnit (g.W.Weights.table l.query.table.now) l.query.pattern.now l.c l.unit;
   within : l.at + len_utf8 l.c ≤ length l.piece;
   next : SpellsCharacter (take (len_utf8 l.c) (drop l.at l.piece)) l.c;
   text : IsUtf8 (take l.at l.piece);

@@ -14,7 +14,7 @@ returns-then-may_pass-clause-walked g c = λ yes.
     let old = c.args.self.now in
     let keys = c.len-some.ensures.keys in
     let key = c.len-some.ensures.some in
-    let passed = subst (IsPassedBy table pattern) c.requires.code_point (c.requires.unit.passed (c.may_pass.ensures.passed c.if-may_pass.true)) in (
+    let passed : IsPassedBy table pattern c.args.c = c.requires.unit.passed (c.may_pass.ensures.passed c.if-may_pass.true) in (
       [],
       refl,
       passed-on c.laws_of_points.ensures.shifted c.weighers_go_on.ensures table pattern old.weigher old.walk c.args.start c.args.c passed (c.may_pass.ensures.after c.if-may_pass.true)

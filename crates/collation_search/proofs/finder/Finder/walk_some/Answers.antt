@@ -26,11 +26,8 @@ pub returns-clause-apart : goal.returns-clause-apart
 returns-clause-apart g c =
     let table = g.W.Weights.table c.args.query.now.table.now in
     let next = c.in_ok-next.next in
-    let known = c.is_next.ensures c.if-not-is_next.false table c.args.query.now.pattern.now c.args.start c.unit_of-unit.ensures.unit c.unit_of-following.ensures.unit in
-    let here : IsNext table c.args.start (c.args.c ∷ []) c.unit_of-following.result.code_point =
-    subst (λ k. IsNext table c.args.start (k ∷ []) c.unit_of-following.result.code_point) c.unit_of-unit.ensures.code_point known in
-    subst (λ (cs : List ℕ). IsNext table c.args.start cs next) (sym (one_taken c.args.piece.now c.len_utf8-len.result c.args.c c.len_utf8-len.ensures.value c.requires.c.1))
-    (subst (λ k. IsNext table c.args.start (c.args.c ∷ []) k) c.unit_of-following.ensures.code_point here)
+    let known = c.is_next.ensures c.if-not-is_next.false table c.args.query.now.pattern.now c.args.start c.args.c next c.requires.unit c.unit_of-following.ensures.unit in
+    subst (λ (cs : List ℕ). IsNext table c.args.start cs next) (sym (one_taken c.args.piece.now c.len_utf8-len.result c.args.c c.len_utf8-len.ensures.value c.requires.c.1)) known
 
 pub returns-clause-walked : goal.returns-clause-walked
 returns-clause-walked g c =
