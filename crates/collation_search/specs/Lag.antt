@@ -2,6 +2,7 @@
 use Rattle.std.specs.Prelude.{◌≡◌, ℕ, ◌+◌, ◌<◌, ◌≤◌, true, false, nat_le, Contains, List, ◌++◌, length, filter}
 use Rattle.std.specs.Str.{chars, IsUtf8}
 use Rattle.utf8_cut.specs.Characters.{with_offsets}
+use Rattle.nfd_points.specs.declared.limits.TheConstants.{MOST_WAITING}
 use Rattle.nfd_points.specs.declared.points.Point.{Point}
 use Rattle.nfd_points.specs.Reordering.{Waiting, HasReordered}
 use Rattle.collation_table.specs.Table.{TableMap, longest_mapped}
@@ -33,14 +34,14 @@ pub record IsUnderWay (table : TableMap) (strength : Strength) (variable : Varia
   pub clusters : (rest : List Item) → clusters_from text_begin (items table strength variable false units ++ rest) ≡ ended ++ clusters_from current rest
 
 -- However the text goes on, each of its ranges is among those of the clusters that have ended, once as many code points from
--- its end on were taken as the window holds points, and 31 more.
+-- its end on were taken as the window holds points, and one more than the most that wait.
 abbrev pub ranges_are_found_in_time : Type 0
 ranges_are_found_in_time =
     (table : TableMap) (strength : Strength) (variable : Variable) (pattern : List Key) (text taken more : List ℕ)
     (waiting : Waiting) (window : Held) (ended : List Cluster) (current : Cluster) (range : ℕ × ℕ) →
     IsUtf8 text → chars text ≡ taken ++ more →
     IsUnderWay table strength variable taken waiting window ended current →
-    length window.points + 31 ≤ code_points_from range.1 taken →
+    length window.points + (MOST_WAITING + 1) ≤ code_points_from range.1 taken →
     Contains (found pattern (clusters table strength variable text) (length text)) range →
     Contains (found pattern ended current.start) range
 
@@ -51,12 +52,13 @@ settled_ranges_are_found_in_time =
     (waiting : Waiting) (window : Held) (ended : List Cluster) (current : Cluster) (range : ℕ × ℕ) →
     IsUtf8 text → chars text ≡ taken ++ more →
     IsUnderWay table strength variable taken waiting window ended current →
-    length window.points + 31 ≤ code_points_from range.1 taken →
+    length window.points + (MOST_WAITING + 1) ≤ code_points_from range.1 taken →
     Contains (found_before_last pattern (clusters table strength variable text) (length text)) range →
     Contains (found pattern ended current.start) range
 
 -- Where the window holds at most as many points as the longest key, each minimal match of the text is among the ranges of the
--- clusters that have ended, once as many code points from its end on were taken as the longest key has points, and 31 more.
+-- clusters that have ended, once as many code points from its end on were taken as the longest key has points, and one more than the
+-- most that wait.
 abbrev pub matches_are_found_in_time : TableMap → Type 0
 matches_are_found_in_time table =
     (strength : Strength) (variable : Variable) (pattern text taken more : List ℕ)
@@ -65,7 +67,7 @@ matches_are_found_in_time table =
     IsUtf8 text → chars text ≡ taken ++ more →
     IsUnderWay table strength variable taken waiting window ended current →
     length window.points ≤ longest_mapped table →
-    longest_mapped table + 31 ≤ code_points_from range.1 taken →
+    longest_mapped table + (MOST_WAITING + 1) ≤ code_points_from range.1 taken →
     Contains (matches table strength variable pattern text) range →
     Contains (found (text_keys table strength variable pattern) ended current.start) range
 
@@ -79,6 +81,6 @@ answers_are_found_in_time table =
     is_good_so_far taken ≡ true →
     IsUnderWay table strength variable (chars (whole taken)) waiting window ended current →
     length window.points ≤ longest_mapped table →
-    longest_mapped table + 31 ≤ code_points_from range.1 (chars (whole taken)) →
+    longest_mapped table + (MOST_WAITING + 1) ≤ code_points_from range.1 (chars (whole taken)) →
     Contains (answer table strength variable pattern (taken ++ later)).ranges range →
     Contains (found (text_keys table strength variable pattern) ended current.start) range

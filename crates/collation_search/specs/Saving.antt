@@ -1,5 +1,6 @@
 -- How many words a state has, and what stands in a list of words that an append left unfinished.
 use Rattle.std.specs.Prelude.{◌≡◌, ℕ, ◌+◌, ◌*◌, ◌≤◌, List, ◌++◌, length}
+use Rattle.nfd_points.specs.declared.limits.TheConstants.{MOST_WAITING}
 use Rattle.collation_table.specs.Table.{longest_mapped}
 use Rattle.collation_search.specs.declared.select.Select.{Select}
 use Rattle.collation_search.specs.declared.select.Select.TheVariants.{All, Chain}
@@ -21,4 +22,4 @@ records_before Chain = 6
 -- how many records a state has at most: one for each key of the pattern, each code point of the longest key and each non-starter
 -- that waits, and those before
 abbrev pub most_records : Sought → ℕ
-most_records s = records_before s.select + length s.pattern.keys + longest_mapped s.table + 30
+most_records s = records_before s.select + length s.pattern.keys + longest_mapped s.table + MOST_WAITING

@@ -5,6 +5,7 @@ use lib.Utf8.{scalar}
 use Rattle.unicode_normalization.specs.Lookups.{canonical_combining_class}
 use Rattle.unicode_normalization.specs.StreamSafe.{has_short_runs}
 use Rattle.utf8_cut.specs.Characters.{is_incomplete_or_empty}
+use Rattle.nfd_points.specs.declared.limits.TheConstants.{MOST_WAITING}
 use Rattle.nfd_points.specs.declared.points.Point.{Point}
 use Rattle.nfd_points.specs.Points.{decomposition, is_in_order}
 use Rattle.nfd_points.specs.Reordering.{code_points, is_non_starter, is_closed}
@@ -104,7 +105,7 @@ may_match_wait r h words =
 -- as many records as the head says, no more of each kind than a search can hold
 abbrev pub has_records : Resumed → Head → List ℕ → Bool
 has_records r h words =
-    nat_le h.state r.pattern_len && (nat_le h.window_len r.longest_key && (nat_le h.waiting_len 30
+    nat_le h.state r.pattern_len && (nat_le h.window_len r.longest_key && (nat_le h.waiting_len MOST_WAITING
     && length words == head_len r.select + 4 * (h.state + (h.window_len + h.waiting_len))))
 
 -- a search that has met no fault

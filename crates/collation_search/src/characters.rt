@@ -1,6 +1,7 @@
 //! What a search keeps of the characters that it met, so that their points, units and items are not looked for again. Characters share
 //! places; each place holds what is known of the last one that came there.
 ghost use Rattle.std.specs.Prelude.{◌≡◌, ◌≤◌, [], length, false};
+ghost use Rattle.nfd_points.specs.declared.limits.TheConstants.{MOST_DECOMPOSITION};
 ghost use Rattle.collation_search.specs.declared.characters.TheConstants.{UNIT_PLACES, ITEM_PLACES};
 
 use crate::character_units::{character_unit, is_passed};
@@ -76,7 +77,7 @@ pub(crate) struct Characters {
     ghost item_places: { length items.items ≡ ITEM_PLACES },
     ghost empty: { window.points ≡ [] },
     ghost open: { window.has_ended ≡ false },
-    ghost room: { 4 ≤ window.capacity },
+    ghost room: { MOST_DECOMPOSITION ≤ window.capacity },
 }
 
 impl Characters {
@@ -145,6 +146,7 @@ impl Characters {
         }
     }
 
+    /// What is kept of a character's items, which are found out where they are not.
     #[inline(always)]
     fn kept_items<W: Weights>(&mut self, table: &W, pattern: &Pattern, c: char) -> KeptItems
         requires { IsRight (W.table table.now) pattern.now self.old }

@@ -2,7 +2,7 @@
 ghost use Rattle.std.specs.Prelude.{◌≡◌, ◌+◌, ◌≤◌, length, All, true};
 ghost use Rattle.unicode_normalization.specs.StreamSafe.{has_short_runs};
 ghost use Rattle.nfd_points.specs.Reordering.{IsSoundPoint, code_points, is_closed};
-ghost use Rattle.nfd_points.specs.declared.limits.TheConstants.{MOST_GIVEN};
+ghost use Rattle.nfd_points.specs.declared.limits.TheConstants.{MOST_GIVEN, MOST_WAITING};
 ghost use Rattle.collation_table.specs.declared.limits.TheConstants.{MOST_STRING_POINTS};
 
 use crate::matching::{Found, cut_units, keep, push_points};
@@ -154,7 +154,7 @@ impl Finder {
             → point_fault taken ≡ None }
         ensures none_waits { self.new.reorder.held ≡ [] }
         ensures none_left { self.new.window.points ≡ [] }
-        ensures few { array_vec_len found.new ≤ longest_key_of (W.table table.now) + 30 }
+        ensures few { array_vec_len found.new ≤ longest_key_of (W.table table.now) + MOST_WAITING }
         ensures longest { self.new.longest_key ≡ self.old.longest_key }
         ensures pattern_len { self.new.pattern_len ≡ self.old.pattern_len }
         ensures select { self.new.walk.select ≡ self.old.walk.select }

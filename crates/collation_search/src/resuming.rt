@@ -1,7 +1,7 @@
 //! Resumes a search from the words of a saved state.
 
 ghost use Rattle.std.specs.Prelude.{◌≡◌, ◌+◌, ◌*◌, ◌≤◌, length, false, All, is_some, IfOk, IfSome};
-ghost use Rattle.nfd_points.specs.declared.limits.TheConstants.{MOST_GIVEN};
+ghost use Rattle.nfd_points.specs.declared.limits.TheConstants.{MOST_GIVEN, MOST_WAITING};
 ghost use Rattle.nfd_points.specs.Reordering.{IsSoundPoint};
 ghost use Rattle.collation_table.specs.declared.limits.TheConstants.{MOST_STRING_POINTS};
 ghost use Rattle.collation_table.specs.Table.{longest_mapped};
@@ -101,7 +101,7 @@ impl Finder {
     ) -> Result<Option<Finder>, AllocError>
         requires state { head.now.state ≤ length pattern.now.keys }
         requires window { head.now.window_len ≤ longest_mapped (W.table table.now) }
-        requires waiting { head.now.waiting_len ≤ 30 }
+        requires waiting { head.now.waiting_len ≤ MOST_WAITING }
         requires held { head.now.held_len ≤ head.now.taken }
         requires records { 4 * (head.now.state + (head.now.window_len + head.now.waiting_len)) ≡ length words.now }
         ensures right { IfOk result (λ read. tests.has_open_tail head.now words.now ≡ is_some read) }

@@ -62,6 +62,7 @@ impl<'a, W: Weights> Search<'a, W> {
     ghost use Rattle.arrayvec.specs.ArrayVec.{array_vec_len};
     ghost use Rattle.std.specs.Str.{chars};
     ghost use Rattle.utf8_cut.specs.Characters.{characters_end};
+    ghost use Rattle.nfd_points.specs.declared.limits.TheConstants.{MOST_GIVEN, MOST_WAITING};
     ghost use Rattle.collation_table.specs.Table.{longest_mapped as longest_key_of};
     ghost use Rattle.collation_search.specs.declared.faults.TextFault.{TextFault};
     ghost use Rattle.collation_search.specs.Finding.{FinderStandsFor};
@@ -129,7 +130,7 @@ impl<'a, W: Weights> Search<'a, W> {
         ensures same { self.new.query ≡ self.old.query }
         ensures select { self.new.finder.walk.select ≡ self.old.finder.walk.select }
         ensures good { self.new.fault ≡ None }
-        ensures few { array_vec_len found.new ≤ longest_key_of (W.table self.old.query.table.now) + 34 }
+        ensures few { array_vec_len found.new ≤ longest_key_of (W.table self.old.query.table.now) + MOST_GIVEN }
     {
         any_bytes_may_follow();
         whole_characters_are_the_longest_text();
@@ -173,7 +174,7 @@ impl<'a, W: Weights> Search<'a, W> {
         ensures answer { (text u more : List ℕ) (handed : List _) → IsCompiledFrom (sought self.old) text → HasSearched self.old u handed
             → IfErr result (λ f. answer_to (sought self.old) text (u ++ byte ∷ more) ≡ record { ranges = handed ++ found.new.items; fault = Some f }) }
         ensures closed { (u more : List ℕ) (handed : List _) → HasSearched self.old u handed → OnErr result (is_good_so_far (u ++ byte ∷ more) ≡ false) }
-        ensures few { length found.new.items ≤ longest_key_of (sought self.old).table + 34 }
+        ensures few { length found.new.items ≤ longest_key_of (sought self.old).table + MOST_GIVEN }
         ensures reported { IfErr result (λ f. HasReported self.new f) }
         ensures again { (f : TextFault) → HasReported self.old f → (result ≡ Err f) × (found.new.items ≡ []) }
         ensures none { OnOk result (HasReportedNone self.new) }
@@ -264,7 +265,7 @@ impl<'a, W: Weights> Search<'a, W> {
         ensures begins { (text u later : List ℕ) (handed : List (ℕ × ℕ)) → IsCompiledFrom (sought self.now) text → HasSearched self.now u handed
             → (rest : List (ℕ × ℕ)) × ((answer_to (sought self.now) text (u ++ later)).ranges ≡ handed ++ rest) }
         ensures in_time { (text u later : List ℕ) (handed : List (ℕ × ℕ)) (range : ℕ × ℕ) → IsCompiledFrom (sought self.now) text → HasSearched self.now u handed
-            → longest_key_of (sought self.now).table + 31 ≤ code_points_from range.1 (chars (whole u))
+            → longest_key_of (sought self.now).table + (MOST_WAITING + 1) ≤ code_points_from range.1 (chars (whole u))
             → Contains (answer_to (sought self.now) text (u ++ later)).ranges range → Contains handed range }
     {
         matches_by_clusters(self.query.table);
