@@ -1,9 +1,9 @@
 -- What a search keeps of a character.
 use Rattle.std.specs.Prelude.{◌≡◌, ℕ, ◌≤◌, true, false, List, [], ◌∷◌, ◌++◌, length, map, slice_get, All}
-use Rattle.std.specs.Option.{ForSome}
+use Rattle.std.specs.Option.{ForSome, option_to_list}
 use Rattle.collation_table.specs.Table.{TableMap, BeginsNoLongerString, ContinuesNoString}
 use Rattle.nfd_points.specs.declared.points.Point.{Point}
-use Rattle.nfd_points.specs.Points.{points_of, is_starter, begins_with_starter, shifted}
+use Rattle.nfd_points.specs.Points.{points_of, points_from, is_starter, begins_with_starter, ordered, shifted}
 use Rattle.collation_elements.specs.declared.keys.Key.{Key}
 use Rattle.collation_elements.specs.declared.keys.Item.TheVariants.{ClusterStart, Element}
 use Rattle.collation_elements.specs.Units.{units}
@@ -11,9 +11,13 @@ use Rattle.collation_elements.specs.Items.{items as items_of}
 use Rattle.collation_elements.specs.ItemParts.{item_keys}
 use Rattle.collation_elements.specs.Weighing.{weigher, after_units}
 use Rattle.collation_elements.specs.CharacterItems.{AreItemsOfPoints}
+use Rattle.collation_elements.specs.declared.character.CharacterItems.{CharacterItems}
+use Rattle.collation_elements.specs.declared.weigher.Weigher.{Weigher}
 use Rattle.collation_pattern.specs.Border.{border}
 use Rattle.collation_pattern.specs.Compiled.{Compiled}
 use Rattle.collation_search.specs.declared.characters.CharacterUnit.{CharacterUnit}
+use Rattle.collation_search.specs.declared.combining.CombiningSequence.{CombiningSequence}
+use Rattle.collation_search.specs.declared.combining.KeptSequence.{KeptSequence}
 use Rattle.collation_search.specs.declared.characters.KeptUnit.{KeptUnit}
 use Rattle.collation_search.specs.declared.characters.KeptItems.{KeptItems}
 use Rattle.collation_search.specs.declared.characters.Characters.{Characters}
@@ -52,6 +56,19 @@ pub record AreKeptItems (table : TableMap) (pattern : Compiled) (kept : KeptItem
   pub items : ForSome kept.items (AreItemsOfPoints table (weigher pattern.strength pattern.variable false) (points_of 0 kept.code_point))
   pub items_after_variable : ForSome kept.items_after_variable (AreItemsOfPoints table (weigher pattern.strength pattern.variable true) (points_of 0 kept.code_point))
 
+-- the characters of a combining character sequence
+abbrev pub characters_of : CombiningSequence → List ℕ
+characters_of s = s.base ∷ s.mark ∷ option_to_list s.other
+
+-- the points of these characters are in canonical order, and these are the items of their units
+abbrev pub AreItemsOfCharacters : TableMap → Weigher → List ℕ → CharacterItems → Type 0
+AreItemsOfCharacters table w cs it = (ordered (points_from 0 cs) ≡ points_from 0 cs) × AreItemsOfPoints table w (points_from 0 cs) it
+
+-- the items of a sequence's units, where the last element that was variable or primary was not variable, and where it was
+pub record AreKeptForSequence (table : TableMap) (pattern : Compiled) (kept : KeptSequence) : Type 0 where
+  pub items : ForSome kept.items (AreItemsOfCharacters table (weigher pattern.strength pattern.variable false) (characters_of kept.sequence))
+  pub items_after_variable : ForSome kept.items_after_variable (AreItemsOfCharacters table (weigher pattern.strength pattern.variable true) (characters_of kept.sequence))
+
 -- what is kept is right
 abbrev pub IsRight : TableMap → Compiled → Characters → Type 0
-IsRight table pattern kept = All (IsKeptUnit table pattern) kept.units.items × All (AreKeptItems table pattern) kept.items.items
+IsRight table pattern kept = All (IsKeptUnit table pattern) kept.units.items × (All (AreKeptItems table pattern) kept.items.items × All (AreKeptForSequence table pattern) kept.sequences.items)

@@ -1,10 +1,11 @@
 //! What a search keeps of the characters that it met, so that their points, units and items are not looked for again. Characters share
 //! places; each place holds what is known of the last one that came there.
 ghost use Rattle.std.specs.Prelude.{◌≡◌, ◌≤◌, [], length, false};
-ghost use Rattle.nfd_points.specs.declared.limits.TheConstants.{MOST_DECOMPOSITION};
+ghost use Rattle.collation_search.specs.declared.combining.TheConstants.{MOST_SEQUENCE_POINTS, SEQUENCE_PLACES};
 ghost use Rattle.collation_search.specs.declared.characters.TheConstants.{UNIT_PLACES, ITEM_PLACES};
 
 use crate::character_units::{character_unit, is_passed};
+use crate::combining::{KeptSequence, NO_SEQUENCE, SEQUENCE_PLACES};
 use collation_elements::{CharacterItems, Weigher, Window};
 use collation_pattern::Pattern;
 use collation_table::Weights;
@@ -71,13 +72,15 @@ const NO_ITEMS: KeptItems = KeptItems {
 pub(crate) struct Characters {
     pub(crate) units: Vec<KeptUnit>,
     pub(crate) items: Vec<KeptItems>,
-    /// Room for the points of one character.
-    window: Window,
+    pub(crate) sequences: Vec<KeptSequence>,
+    /// Room for the points of one character or sequence.
+    pub(crate) window: Window,
     ghost unit_places: { length units.items ≡ UNIT_PLACES },
     ghost item_places: { length items.items ≡ ITEM_PLACES },
+    ghost sequence_places: { length sequences.items ≡ SEQUENCE_PLACES },
     ghost empty: { window.points ≡ [] },
     ghost open: { window.has_ended ≡ false },
-    ghost room: { MOST_DECOMPOSITION ≤ window.capacity },
+    ghost room: { MOST_SEQUENCE_POINTS ≤ window.capacity },
 }
 
 impl Characters {
@@ -100,6 +103,7 @@ impl Characters {
         Ok(Characters {
             units: vec![in alloc; NO_UNIT; UNIT_PLACES]?,
             items: vec![in alloc; NO_ITEMS; ITEM_PLACES]?,
+            sequences: vec![in alloc; NO_SEQUENCE; SEQUENCE_PLACES]?,
             window: Window::with_capacity(alloc, table.longest_key())?,
         })
     }

@@ -20,6 +20,7 @@ mod at_once;
 mod bridge;
 mod character_units;
 mod characters;
+mod combining;
 mod faults;
 mod feed;
 mod few_ranges;
