@@ -96,11 +96,14 @@ GoesOnLaw =
     (table : TableMap) (w : Weigher) (us vs : List (List Point)) (given more : List Item) (after : Bool) → items table w.strength w.variable w.after_variable vs ≡ more →
     after_units table w.variable w.after_variable vs ≡ after → WeigherStandsFor table w us given → WeigherStandsFor table (weigher w.strength w.variable after) (us ++ vs) (given ++ more)
 
--- the points of a character at an offset are those at 0, shifted
-points-shifted : PointsAreShifted → (start c : ℕ) → points_of start c ≡ map (shifted start) (points_of 0 c)
-points-shifted law start c =
-    let same : start ≡ start + 0 = omega arith in
-    sym (from_one start c) ∙ ap (λ i. points_from i (c ∷ [])) same ∙ law start 0 (c ∷ []) ∙ ap (λ (ps : List Point). map (shifted start) ps) (from_one 0 c)
+-- the points of characters from an offset on are those from 0 on, shifted
+pub points_are_shifted : PointsAreShifted → (start : ℕ) (cs : List ℕ) → points_from start cs ≡ map (shifted start) (points_from 0 cs)
+points_are_shifted law start cs =
+    let same : start ≡ start + 0 = omega arith in ap (λ i. points_from i cs) same ∙ law start 0 cs
+
+-- and those of one character
+pub points-shifted : PointsAreShifted → (start c : ℕ) → points_of start c ≡ map (shifted start) (points_of 0 c)
+points-shifted law start c = sym (from_one start c) ∙ points_are_shifted law start (c ∷ []) ∙ ap (λ (ps : List Point). map (shifted start) ps) (from_one 0 c)
 
 same-settings : (pattern : Compiled) (w : Weigher) → w.strength ≡ pattern.strength → w.variable ≡ pattern.variable → weigher pattern.strength pattern.variable w.after_variable ≡ w
 same-settings pattern w strength variable = ap₂ (λ (s : Strength) (v : Variable). weigher s v w.after_variable) (sym strength) (sym variable)
@@ -126,19 +129,19 @@ passed-on shift law table pattern w walk start c p none waits some_key after = �
       variable = h.variable;
     })
 
--- a character whose items were walked over
-pub walked-on : PointsAreShifted → (table : TableMap) (pattern : Compiled) (w w' : Weigher) (walk walk' : Walk) (start c : ℕ) (it : CharacterItems) (found : List (ℕ × ℕ)) →
-    AreItemsOfPoints table (weigher pattern.strength pattern.variable w.after_variable) (points_of 0 c) it →
-    ((us : List (List Point)) (given : List Item) → AreItemsOfPoints table w (points_of 0 c) it → WeigherStandsFor table w us given →
-    WeigherStandsFor table w' (us ++ units table (map (shifted start) (points_of 0 c))) (given ++ character_items it start)) →
+-- points whose items were walked over, from an offset on
+pub walked-on : (table : TableMap) (pattern : Compiled) (w w' : Weigher) (walk walk' : Walk) (start : ℕ) (ps here : List Point) (it : CharacterItems) (found : List (ℕ × ℕ)) → here ≡ map (shifted start) ps →
+    AreItemsOfPoints table (weigher pattern.strength pattern.variable w.after_variable) ps it →
+    ((us : List (List Point)) (given : List Item) → AreItemsOfPoints table w ps it → WeigherStandsFor table w us given →
+    WeigherStandsFor table w' (us ++ units table (map (shifted start) ps)) (given ++ character_items it start)) →
     w' ≡ weigher w.strength w.variable it.after_variable →
     ((before : List Item) (ranges : List (ℕ × ℕ)) → WalksOver pattern.keys before ranges walk → WalksOver pattern.keys (before ++ character_items it start) (ranges ++ found) walk') →
-    HasWalkedOn table pattern w walk w' walk' (units table (points_of start c)) found
-walked-on shift table pattern w w' walk walk' start c it found is weighs made walks = λ before ranges h.
-    subst (λ (ps : List Point). HasWalked table pattern w' walk' (before ++ units table ps) (ranges ++ found)) (sym (points-shifted shift start c))
+    HasWalkedOn table pattern w walk w' walk' (units table here) found
+walked-on table pattern w w' walk walk' start ps here it found same is weighs made walks = λ before ranges h.
+    subst (λ (qs : List Point). HasWalked table pattern w' walk' (before ++ units table qs) (ranges ++ found)) (sym same)
     (record {
       items = h.items ++ character_items it start;
-      weighed = weighs before h.items (subst (λ (v : Weigher). AreItemsOfPoints table v (points_of 0 c) it) (same-settings pattern w h.strength h.variable) is) h.weighed;
+      weighed = weighs before h.items (subst (λ (v : Weigher). AreItemsOfPoints table v ps it) (same-settings pattern w h.strength h.variable) is) h.weighed;
       walked = walks h.items ranges h.walked;
       strength = ap (λ v. v.strength) made ∙ h.strength;
       variable = ap (λ v. v.variable) made ∙ h.variable;

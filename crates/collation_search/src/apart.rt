@@ -23,6 +23,7 @@ use crate::finder::Finder;
 use crate::lone_run::{call, walk_key, walk_start};
 use crate::matching::Found;
 use crate::search::Query;
+use crate::sequences::read_sequence;
 use crate::walk::Walk;
 use collation_elements::{CharacterItems, units_stay_apart, weighers_go_on};
 use collation_pattern::Pattern;
@@ -32,12 +33,12 @@ use utf8_cut::first_character;
 
 /// What was walked over at once.
 #[derive(Clone, Copy)]
-struct Walked {
+pub(crate) struct Walked {
     /// How many bytes it has.
-    len: usize,
+    pub(crate) len: usize,
     /// The character that follows, and what is known of it.
-    next: char,
-    unit: CharacterUnit,
+    pub(crate) next: char,
+    pub(crate) unit: CharacterUnit,
 }
 
 /// Whether no unit reaches from a character to the one that follows it, and that begins with a starter, as far as is known.
@@ -62,14 +63,19 @@ fn next_apart<W: Weights>(
     c: char,
     unit: &CharacterUnit,
 ) -> Option<Walked>
-    requires within { len_utf8 c ≤ length piece.now }
+    requires c { (len_utf8 c ≤ length piece.now) × SpellsCharacter (take (len_utf8 c) piece.now) c }
     requires right { IsRight (W.table query.now.table.now) query.now.pattern.now characters.old }
     ensures within { IfSome result (λ w. w.len + len_utf8 w.next ≤ length piece.now) }
+    ensures next { IfSome result (λ w. SpellsCharacter (take (len_utf8 w.next) (drop w.len piece.now)) w.next) }
     ensures right { IsRight (W.table query.now.table.now) query.now.pattern.now characters.new }
 {
     let len = c.len_utf8();
     let next = first_character(&piece[len..])?;
     let following = characters.unit_of(query.table, query.pattern, next);
+    if !following.begins_with_starter {
+        let (_sequence, walked) = read_sequence(query, characters, piece, c, next)?;
+        return Some(walked);
+    }
     if !is_next(unit, &following) {
         return None;
     }
@@ -89,7 +95,7 @@ fn can_begin<W: Weights>(
     first: char,
     reach: usize,
 ) -> bool
-    requires within { len_utf8 first ≤ length piece.now }
+    requires first { (len_utf8 first ≤ length piece.now) × SpellsCharacter (take (len_utf8 first) piece.now) first }
     requires right { IsRight (W.table query.now.table.now) query.now.pattern.now characters.old }
     ensures apart { result ≡ true → (start : ℕ) → ForSome (slice_get (points_of start first) 0) (λ p. (is_starter p ≡ true) × ContinuesNoString (W.table query.now.table.now) p.cp) }
     ensures right { IsRight (W.table query.now.table.now) query.now.pattern.now characters.new }
@@ -114,7 +120,7 @@ fn can_begin<W: Weights>(
 
 /// Walks over the items of a character that starts at a byte offset, and hands out the range that became known, if there is one.
 #[inline(always)]
-fn walk_items(
+pub(crate) fn walk_items(
     walk: &mut Walk,
     pattern: &Pattern,
     items: &CharacterItems,
@@ -333,6 +339,9 @@ impl Finder {
         }
         let next = first_character(&piece[len..])?;
         let following = characters.unit_of(query.table, query.pattern, next);
+        if !following.begins_with_starter {
+            return self.walk_sequence(query, characters, piece, c, next, start, sink);
+        }
         if !is_next(&unit, &following) {
             return None;
         }

@@ -36,6 +36,7 @@ mod run_window;
 mod saving;
 mod search;
 mod select;
+mod sequences;
 mod state_points;
 #[cfg(test)]
 mod state_tests;

@@ -4,7 +4,7 @@ use Rattle.nfd_points.specs.Points.{points_of}
 use Rattle.collation_elements.specs.CharacterItems.{AreItemsOfPoints}
 use Rattle.collation_elements.specs.Weighing.{weigher}
 use Rattle.collation_search.specs.Characters.{IsPassedBy}
-use Rattle.collation_search.proofs.CharacterLemmas.{passed-on, walked-on}
+use Rattle.collation_search.proofs.CharacterLemmas.{passed-on, points-shifted, walked-on}
 use Rattle.collation_search.proofs.finder.Finder.walk_one.Goals as goal
 
 pub returns-then-may_pass-clause-walked : goal.returns-then-may_pass-clause-walked
@@ -31,6 +31,6 @@ returns-clause-walked g c = λ yes.
     subst (λ b. AreItemsOfPoints table (weigher pattern.strength pattern.variable b) (points_of 0 c.args.c) it) c.after_variable-after_variable.ensures c.in-Some.ensures.items in (
       option_to_list c.walk_items-range.result,
       c.call.ensures.called,
-      walked-on c.laws_of_points.ensures.shifted table pattern old.weigher c.take_character.new.self old.walk c.walk_items-range.new.walk c.args.start c.args.c it (option_to_list c.walk_items-range.result)
-          is (λ us given. c.take_character.ensures.stands table c.args.start (points_of 0 c.args.c) us given) c.take_character.ensures.after c.walk_items-range.ensures.walks,
+      walked-on table pattern old.weigher c.take_character.new.self old.walk c.walk_items-range.new.walk c.args.start (points_of 0 c.args.c) (points_of c.args.start c.args.c) it (option_to_list c.walk_items-range.result)
+          (points-shifted c.laws_of_points.ensures.shifted c.args.start c.args.c) is (λ us given. c.take_character.ensures.stands table c.args.start (points_of 0 c.args.c) us given) c.take_character.ensures.after c.walk_items-range.ensures.walks,
     )
