@@ -48,3 +48,4 @@ pub mod ApartLemmas
 pub mod PauseLemmas
 pub mod CharacterUnitLemmas
 pub mod CharacterLemmas
+mod CombiningLemmas
