@@ -49,3 +49,4 @@ pub mod PauseLemmas
 pub mod CharacterUnitLemmas
 pub mod CharacterLemmas
 pub mod SequenceLemmas
+mod CombiningLemmas

@@ -2,7 +2,7 @@
 ghost use Rattle.std.specs.Prelude.{◌≡◌, ◌+◌, ◌<◌, ◌≤◌, ◌++◌, All, true, IfSome};
 ghost use Rattle.arrayvec.specs.ArrayVec.{array_vec_len};
 ghost use Rattle.nfd_points.specs.declared.limits.TheConstants.{MOST_DECOMPOSITION};
-ghost use Rattle.nfd_points.specs.Points.{points_of, points_from, is_in_order};
+ghost use Rattle.nfd_points.specs.Points.{points_of, points_from, is_reorderable, is_in_order};
 ghost use Rattle.nfd_points.specs.Reordering.{IsSoundPoint};
 ghost use Rattle.collation_elements.specs.Weighing.{weigher};
 ghost use Rattle.collation_search.specs.Characters.{AreItemsOfCharacters, AreKeptForSequence, IsRight, characters_of};
@@ -100,12 +100,19 @@ fn are_in_order(points: &[Point]) -> bool
 {
     let mut rest = points;
     while let [first, second, ..] = rest {
-        if 0 < second.ccc && second.ccc < first.ccc {
+        if is_reorderable(first, second) {
             return false;
         }
         rest = &rest[1..];
     }
     true
+}
+
+/// Whether two points that follow each other are out of order.
+fn is_reorderable(first: &Point, second: &Point) -> bool
+    ensures { result ≡ is_reorderable first.now second.now }
+{
+    0 < second.ccc && second.ccc < first.ccc
 }
 
 impl Characters {

@@ -5,7 +5,8 @@ use Rattle.collation_table.specs.Table.{TableMap}
 use Rattle.collation_pattern.specs.Compiled.{Compiled}
 use Rattle.collation_search.specs.declared.characters.KeptUnit.{KeptUnit}
 use Rattle.collation_search.specs.declared.characters.KeptItems.{KeptItems}
-use Rattle.collation_search.specs.Characters.{IsKeptUnit, AreKeptItems}
+use Rattle.collation_search.specs.declared.combining.KeptSequence.{KeptSequence}
+use Rattle.collation_search.specs.Characters.{IsKeptUnit, AreKeptItems, AreKeptForSequence}
 use Rattle.collation_search.proofs.characters.Characters.new.Goals as goal
 
 pub with_capacity-requires-clause-some : goal.with_capacity-requires-clause-some
@@ -42,11 +43,22 @@ no_items table pattern = record {
   items_after_variable = λ it is. absurd (none-some it is);
 }
 
+blank_sequence : KeptSequence
+blank_sequence = record { sequence = record { base = 0; mark = 0; other = None }; items = None; items_after_variable = None }
+
+no_sequence : (table : TableMap) (pattern : Compiled) → AreKeptForSequence table pattern blank_sequence
+unfolding blank_sequence
+no_sequence table pattern = record {
+  items = λ it is. absurd (none-some it is);
+  items_after_variable = λ it is. absurd (none-some it is);
+}
+
 pub returns : goal.returns
-unfolding blank_unit blank_items
+unfolding blank_unit blank_items blank_sequence
 returns g c = record {
   right = λ table pattern. (
     subst (All (IsKeptUnit table pattern)) (sym (c.in_ok-vec.ensures.items_if_clones_equal (λ y h. h))) (All-replicate (IsKeptUnit table pattern) 32768 blank_unit (no_unit table pattern)),
     subst (All (AreKeptItems table pattern)) (sym (c.in_ok-vec-2.ensures.items_if_clones_equal (λ y h. h))) (All-replicate (AreKeptItems table pattern) 1024 blank_items (no_items table pattern)),
+    subst (All (AreKeptForSequence table pattern)) (sym (c.in_ok-vec-3.ensures.items_if_clones_equal (λ y h. h))) (All-replicate (AreKeptForSequence table pattern) 1024 blank_sequence (no_sequence table pattern)),
   );
 }

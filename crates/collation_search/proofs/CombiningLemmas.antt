@@ -1,0 +1,54 @@
+-- Combining character sequences: whether points are in canonical order, and the points of the characters in turn.
+use Rattle.std.specs.Char.{len_utf8}
+use Rattle.std.specs.List.{All}
+use Rattle.std.specs.Option.{option_to_list}
+use Rattle.std.proofs.Common.{◌≡◌, ◌∙◌, ℕ, ◌+◌, ◌-◌, ◌≤◌, ◌<◌, true, false, not, ◌&&◌, Option, Some, None, List, [], ◌∷◌, ◌++◌, length, take, drop, slice_index_or, refl, sym, ap, ap₂, arith, append_assoc}
+use Rattle.std.proofs.lemmas.List.{append-nil, take_all}
+use Rattle.std.proofs.lemmas.List.Elements.{All-nil, All-same}
+use Rattle.nfd_points.specs.declared.points.Point.{Point}
+use Rattle.nfd_points.specs.Points.{points_of, points_from, is_reorderable, is_in_order}
+use Rattle.nfd_points.specs.Reordering.{IsSoundPoint}
+
+-- ---- canonical order
+
+pub in_order-few : (ps : List Point) → length ps < 2 → is_in_order ps ≡ true
+unfolding is_in_order
+in_order-few [] few = refl
+in_order-few (p ∷ []) few = refl
+in_order-few (p ∷ q ∷ qs) few = absurd (omega (arith, few))
+
+-- the first two are in order, and so are all but the first
+pub in_order-more : (d e : Point) (n : ℕ) (ps : List Point) → 2 ≤ length ps → n ≡ length ps - 1 → is_reorderable (slice_index_or ps 0 d) (slice_index_or ps 1 e) ≡ false →
+    is_in_order (take n (drop 1 ps)) ≡ true → is_in_order ps ≡ true
+unfolding is_in_order
+in_order-more d e n [] some size first rest = absurd (omega (arith, some))
+in_order-more d e n (p ∷ []) some size first rest = absurd (omega (arith, some))
+in_order-more d e n (p ∷ q ∷ qs) some size first rest =
+    let whole : take n (q ∷ qs) ≡ q ∷ qs = take_all n (q ∷ qs) (omega (arith, size)) in
+    ap₂ (λ a b. not a && b) first (ap is_in_order (sym whole) ∙ rest)
+
+-- ---- the points of a sequence's characters
+
+two_points : (b m at : ℕ) (before ps qs : List Point) → before ≡ [] → ps ≡ before ++ points_of 0 b → at ≡ len_utf8 b → qs ≡ ps ++ points_of at m → qs ≡ points_of 0 b ++ points_of (0 + len_utf8 b) m
+two_points b m at before ps qs none first len second =
+    second ∙ ap₂ (λ (t : List Point) (i : ℕ). t ++ points_of i m) (first ∙ ap (λ (t : List Point). t ++ points_of 0 b) none) (omega (arith, len))
+
+pub points-two : (b m at : ℕ) (o : Option ℕ) (before ps qs : List Point) → o ≡ None → before ≡ [] → ps ≡ before ++ points_of 0 b → at ≡ len_utf8 b → qs ≡ ps ++ points_of at m →
+    qs ≡ points_from 0 (b ∷ m ∷ option_to_list o)
+unfolding points_from
+points-two b m at o before ps qs alone none first len second =
+    two_points b m at before ps qs none first len second ∙ ap (λ (t : List Point). points_of 0 b ++ t) (sym (append-nil (points_of (0 + len_utf8 b) m)))
+    ∙ ap (λ (t : Option ℕ). points_from 0 (b ∷ m ∷ option_to_list t)) (sym alone)
+
+pub points-three : (b m c at beyond : ℕ) (o : Option ℕ) (before ps qs rs : List Point) → o ≡ Some c → before ≡ [] → ps ≡ before ++ points_of 0 b → at ≡ len_utf8 b → qs ≡ ps ++ points_of at m →
+    beyond ≡ at + len_utf8 m → rs ≡ qs ++ points_of beyond c → rs ≡ points_from 0 (b ∷ m ∷ option_to_list o)
+unfolding points_from
+points-three b m c at beyond o before ps qs rs other none first len second lens third =
+    let there : beyond ≡ (0 + len_utf8 b) + len_utf8 m = omega (arith, len, lens) in
+    third ∙ ap₂ (λ (t : List Point) (i : ℕ). t ++ points_of i c) (two_points b m at before ps qs none first len second) there
+    ∙ append_assoc (points_of 0 b) (points_of (0 + len_utf8 b) m) (points_of ((0 + len_utf8 b) + len_utf8 m) c)
+    ∙ ap (λ (t : List Point). points_of 0 b ++ (points_of (0 + len_utf8 b) m ++ t)) (sym (append-nil (points_of ((0 + len_utf8 b) + len_utf8 m) c)))
+    ∙ ap (λ (t : Option ℕ). points_from 0 (b ∷ m ∷ option_to_list t)) (sym other)
+
+pub none_sound : (ps : List Point) → ps ≡ [] → All IsSoundPoint ps
+none_sound ps none = All-same IsSoundPoint ps [] none (All-nil IsSoundPoint)
