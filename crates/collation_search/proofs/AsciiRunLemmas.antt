@@ -32,7 +32,7 @@ ascii-byte_len (c ∷ cs) low = let one = one_byte c (low 0) in let rest = ascii
 
 -- ---- good texts
 
-not_false : (b : Bool) → false ≡ not b → b ≡ true
+pub not_false : (b : Bool) → false ≡ not b → b ≡ true
 not_false true h = refl
 not_false false h = cc
 
