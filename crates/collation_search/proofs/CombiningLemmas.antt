@@ -67,8 +67,9 @@ none_sound ps none = All-same IsSoundPoint ps [] none (All-nil IsSoundPoint)
 pub sequence_from : (table : TableMap) (pattern : Compiled) (cs : List ℕ) (after : Bool) (s : Strength) (v : Variable) (w : Weigher) (ps : List Point) (kept : Option CharacterItems) →
     s ≡ pattern.strength → v ≡ pattern.variable → w ≡ weigher s v after → ps ≡ points_from 0 cs → ordered ps ≡ ps → IfSome kept (λ it. AreItemsOfPoints table w ps it) →
     ForSome kept (AreItemsOfCharacters table (weigher pattern.strength pattern.variable after) cs)
-sequence_from table pattern cs after s v w ps kept strength variable made points in_order is = λ it at.
-    (ap ordered (sym points) ∙ in_order ∙ points,
-    subst (λ (w' : Weigher). AreItemsOfPoints table w' (points_from 0 cs) it) (made ∙ ap₂ (λ (s' : Strength) (v' : Variable). weigher s' v' after) strength variable)
-    (subst (λ (ps' : List Point). AreItemsOfPoints table w ps' it) points
-    (subst (λ (o : Option CharacterItems). IfSome o (λ i. AreItemsOfPoints table w ps i)) at is)))
+sequence_from table pattern cs after s v w ps kept strength variable made points in_order is = λ it at. (
+  ap ordered (sym points) ∙ in_order ∙ points,
+  subst (λ (w' : Weigher). AreItemsOfPoints table w' (points_from 0 cs) it) (made ∙ ap₂ (λ (s' : Strength) (v' : Variable). weigher s' v' after) strength variable)
+      (subst (λ (ps' : List Point). AreItemsOfPoints table w ps' it) points
+      (subst (λ (o : Option CharacterItems). IfSome o (λ i. AreItemsOfPoints table w ps i)) at is)),
+)

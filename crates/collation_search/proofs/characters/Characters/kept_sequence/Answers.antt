@@ -1,4 +1,4 @@
-use Rattle.std.proofs.Common.{sym, subst, arith, ◌%◌}
+use Rattle.std.proofs.Common.{sym, subst, arith}
 use Rattle.collation_search.specs.Characters.{AreKeptForSequence}
 use Rattle.collation_search.proofs.characters.Characters.kept_sequence.Goals as goal
 
