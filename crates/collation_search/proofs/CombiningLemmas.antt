@@ -1,13 +1,22 @@
--- Combining character sequences: whether points are in canonical order, and the points of the characters in turn.
+-- Combining character sequences: whether points are in canonical order, the points of the characters in turn, and their items.
 use Rattle.std.specs.Char.{len_utf8}
 use Rattle.std.specs.List.{All}
-use Rattle.std.specs.Option.{option_to_list}
-use Rattle.std.proofs.Common.{◌≡◌, ◌∙◌, ℕ, ◌+◌, ◌-◌, ◌≤◌, ◌<◌, true, false, not, ◌&&◌, Option, Some, None, List, [], ◌∷◌, ◌++◌, length, take, drop, slice_index_or, refl, sym, ap, ap₂, arith, append_assoc}
+use Rattle.std.specs.Option.{ForSome, IfSome, option_to_list}
+use Rattle.std.proofs.Common.{◌≡◌, ◌∙◌, ℕ, ◌+◌, ◌-◌, ◌≤◌, ◌<◌, Bool, true, false, not, ◌&&◌, Option, Some, None, List, [], ◌∷◌, ◌++◌, length, take, drop, slice_index_or, refl, sym, ap, ap₂, subst, arith, append_assoc}
 use Rattle.std.proofs.lemmas.List.{append-nil, take_all}
 use Rattle.std.proofs.lemmas.List.Elements.{All-nil, All-same}
 use Rattle.nfd_points.specs.declared.points.Point.{Point}
-use Rattle.nfd_points.specs.Points.{points_of, points_from, is_reorderable, is_in_order}
+use Rattle.nfd_points.specs.Points.{points_of, points_from, is_reorderable, is_in_order, ordered}
 use Rattle.nfd_points.specs.Reordering.{IsSoundPoint}
+use Rattle.collation_table.specs.Table.{TableMap}
+use Rattle.collation_elements.specs.declared.character.CharacterItems.{CharacterItems}
+use Rattle.collation_elements.specs.declared.settings.Strength.{Strength}
+use Rattle.collation_elements.specs.declared.settings.Variable.{Variable}
+use Rattle.collation_elements.specs.declared.weigher.Weigher.{Weigher}
+use Rattle.collation_elements.specs.CharacterItems.{AreItemsOfPoints}
+use Rattle.collation_elements.specs.Weighing.{weigher}
+use Rattle.collation_pattern.specs.Compiled.{Compiled}
+use Rattle.collation_search.specs.Characters.{AreItemsOfCharacters}
 
 -- ---- canonical order
 
@@ -52,3 +61,15 @@ points-three b m c at beyond o before ps qs rs other none first len second lens 
 
 pub none_sound : (ps : List Point) → ps ≡ [] → All IsSoundPoint ps
 none_sound ps none = All-same IsSoundPoint ps [] none (All-nil IsSoundPoint)
+
+-- ---- the items that a weigher of the pattern's settings would give
+
+pub sequence_from : (table : TableMap) (pattern : Compiled) (cs : List ℕ) (after : Bool) (s : Strength) (v : Variable) (w : Weigher) (ps : List Point) (kept : Option CharacterItems) →
+    s ≡ pattern.strength → v ≡ pattern.variable → w ≡ weigher s v after → ps ≡ points_from 0 cs → ordered ps ≡ ps → IfSome kept (λ it. AreItemsOfPoints table w ps it) →
+    ForSome kept (AreItemsOfCharacters table (weigher pattern.strength pattern.variable after) cs)
+sequence_from table pattern cs after s v w ps kept strength variable made points in_order is = λ it at. (
+  ap ordered (sym points) ∙ in_order ∙ points,
+  subst (λ (w' : Weigher). AreItemsOfPoints table w' (points_from 0 cs) it) (made ∙ ap₂ (λ (s' : Strength) (v' : Variable). weigher s' v' after) strength variable)
+      (subst (λ (ps' : List Point). AreItemsOfPoints table w ps' it) points
+      (subst (λ (o : Option CharacterItems). IfSome o (λ i. AreItemsOfPoints table w ps i)) at is)),
+)

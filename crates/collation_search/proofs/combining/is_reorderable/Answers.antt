@@ -1,4 +1,4 @@
-use Rattle.std.proofs.Common.{rules, sym, ap, ◌&&◌, nat_lt}
+use Rattle.std.proofs.Common.{rules}
 use Rattle.nfd_points.specs.Points.{is_reorderable}
 use Rattle.collation_search.proofs.combining.is_reorderable.Goals as goal
 

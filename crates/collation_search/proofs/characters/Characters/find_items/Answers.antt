@@ -19,4 +19,4 @@ returns-clause-items g c =
 
 pub returns-clause-right : goal.returns-clause-right
 returns-clause-right g c =
-    (c.requires.0, All-set (AreKeptItems (g.W.Weights.table c.args.table.now) c.args.pattern.now) c.args.self.now.items.items _ _ (returns-clause-items g c) c.requires.1.0, c.requires.1.1)
+    (c.requires.0, (All-set (AreKeptItems (g.W.Weights.table c.args.table.now) c.args.pattern.now) c.args.self.now.items.items _ _ (returns-clause-items g c) c.requires.1.0, c.requires.1.1))

@@ -1,0 +1,38 @@
+use Rattle.std.proofs.Common.{◌≡◌, ◌∙◌, true, false, sym, subst}
+use Rattle.std.proofs.lemmas.List.Elements.{All-set}
+use Rattle.std.proofs.lemmas.Option.{none-some}
+use Rattle.nfd_points.specs.Points.{points_from}
+use Rattle.collation_search.specs.Characters.{AreKeptForSequence, characters_of}
+use Rattle.collation_search.proofs.CombiningLemmas.{sequence_from}
+use Rattle.collation_search.proofs.characters.Characters.find_sequence.Goals.{then-are_in_order, else-are_in_order}
+use Rattle.collation_search.proofs.characters.Characters.find_sequence.Goals as goal
+
+pub returns-clause-items : goal.returns-clause-items
+returns-clause-items g c =
+    let table = g.W.Weights.table c.args.table.now in
+    let pattern = c.args.pattern.now in
+    let cs = characters_of c.args.sequence.now in
+    let ps = c.as_slice-points.result.now in
+    let value : ps ≡ points_from 0 cs = c.as_slice-points.ensures.value ∙ c.points-points.ensures.points in
+    elim c.if-are_in_order.branch [
+      | then-are_in_order w ↦
+          let in_order = c.laws_of_ordering.ensures.stays ps (c.are_in_order.ensures w.if-are_in_order.true) in
+          subst (AreKeptForSequence table pattern) (sym w.kept-is)
+          (record {
+            items = sequence_from table pattern cs false w.strength-strength.result w.variable-variable.result w.restore-before.result ps w.of_points-kept.result
+                w.strength-strength.ensures w.variable-variable.ensures w.restore-before.ensures value in_order w.of_points-kept.ensures.items;
+            items_after_variable = sequence_from table pattern cs true w.strength-strength.result w.variable-variable.result w.restore-after.result ps w.of_points-kept-then-are_in_order.result
+                w.strength-strength.ensures w.variable-variable.ensures w.restore-after.ensures value in_order w.of_points-kept-then-are_in_order.ensures.items;
+          })
+      | else-are_in_order w ↦
+          subst (AreKeptForSequence table pattern) (sym w.kept-is)
+          (record {
+            items = λ it is. absurd (none-some it is);
+            items_after_variable = λ it is. absurd (none-some it is);
+          })
+    ]
+
+pub returns-clause-right : goal.returns-clause-right
+returns-clause-right g c =
+    let right = All-set (AreKeptForSequence (g.W.Weights.table c.args.table.now) c.args.pattern.now) c.args.self.now.sequences.items _ _ (returns-clause-items g c) c.requires.1.1 in
+    (c.requires.0, (c.requires.1.0, right))
