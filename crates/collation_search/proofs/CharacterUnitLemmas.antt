@@ -46,14 +46,11 @@ first_at table here there (d ∷ ds) h = λ x is.
 pub apart_anywhere : (table : TableMap) (here there c : ℕ) → ForSome (slice_get (points_of here c) 0) (Begins table) → ForSome (slice_get (points_of there c) 0) (Begins table)
 apart_anywhere table here there c h = first_at table here there (decomposition c) h
 
--- the items that a weigher of the pattern's settings would give
-pub kept_from : (table : TableMap) (pattern : Compiled) (c : ℕ) (after : Bool) (s : Strength) (v : Variable) (w : Weigher) (ps : List Point) (kept : Option CharacterItems) →
-    s ≡ pattern.strength → v ≡ pattern.variable → w ≡ weigher s v after → ps ≡ points_of 0 c → IfSome kept (λ it. AreItemsOfPoints table w ps it) →
-    ForSome kept (AreItemsOfPoints table (weigher pattern.strength pattern.variable after) (points_of 0 c))
-kept_from table pattern c after s v w ps kept strength variable made points is = λ it at.
-    subst (λ (w' : Weigher). AreItemsOfPoints table w' (points_of 0 c) it) (made ∙ ap₂ (λ (s' : Strength) (v' : Variable). weigher s' v' after) strength variable)
-    (subst (λ (ps' : List Point). AreItemsOfPoints table w ps' it) points
-    (subst (λ (o : Option CharacterItems). IfSome o (λ i. AreItemsOfPoints table w ps i)) at is))
+-- items of the same points
+pub kept_from : (table : TableMap) (w : Weigher) (ps qs : List Point) (kept : Option CharacterItems) → ps ≡ qs → IfSome kept (λ it. AreItemsOfPoints table w ps it) → ForSome kept (AreItemsOfPoints table w qs)
+kept_from table w ps qs kept points is = λ it at.
+    subst (λ (ps' : List Point). AreItemsOfPoints table w ps' it) points
+    (subst (λ (o : Option CharacterItems). IfSome o (λ i. AreItemsOfPoints table w ps i)) at is)
 
 -- ---- a character that is passed by
 

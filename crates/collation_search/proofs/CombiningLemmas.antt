@@ -17,6 +17,7 @@ use Rattle.collation_elements.specs.CharacterItems.{AreItemsOfPoints}
 use Rattle.collation_elements.specs.Weighing.{weigher}
 use Rattle.collation_pattern.specs.Compiled.{Compiled}
 use Rattle.collation_search.specs.Characters.{AreItemsOfCharacters}
+use Rattle.collation_search.proofs.CharacterUnitLemmas.{kept_from}
 
 -- ---- canonical order
 
@@ -62,14 +63,8 @@ points-three b m c at beyond o before ps qs rs other none first len second lens 
 pub none_sound : (ps : List Point) → ps ≡ [] → All IsSoundPoint ps
 none_sound ps none = All-same IsSoundPoint ps [] none (All-nil IsSoundPoint)
 
--- ---- the items that a weigher of the pattern's settings would give
+-- ---- their items
 
-pub sequence_from : (table : TableMap) (pattern : Compiled) (cs : List ℕ) (after : Bool) (s : Strength) (v : Variable) (w : Weigher) (ps : List Point) (kept : Option CharacterItems) →
-    s ≡ pattern.strength → v ≡ pattern.variable → w ≡ weigher s v after → ps ≡ points_from 0 cs → ordered ps ≡ ps → IfSome kept (λ it. AreItemsOfPoints table w ps it) →
-    ForSome kept (AreItemsOfCharacters table (weigher pattern.strength pattern.variable after) cs)
-sequence_from table pattern cs after s v w ps kept strength variable made points in_order is = λ it at. (
-  ap ordered (sym points) ∙ in_order ∙ points,
-  subst (λ (w' : Weigher). AreItemsOfPoints table w' (points_from 0 cs) it) (made ∙ ap₂ (λ (s' : Strength) (v' : Variable). weigher s' v' after) strength variable)
-      (subst (λ (ps' : List Point). AreItemsOfPoints table w ps' it) points
-      (subst (λ (o : Option CharacterItems). IfSome o (λ i. AreItemsOfPoints table w ps i)) at is)),
-)
+pub sequence_from : (table : TableMap) (w : Weigher) (cs : List ℕ) (ps : List Point) (kept : Option CharacterItems) → ps ≡ points_from 0 cs → ordered ps ≡ ps →
+    IfSome kept (λ it. AreItemsOfPoints table w ps it) → ForSome kept (AreItemsOfCharacters table w cs)
+sequence_from table w cs ps kept points in_order is = λ it at. (ap ordered (sym points) ∙ in_order ∙ points, kept_from table w ps (points_from 0 cs) kept points is it at)

@@ -6,18 +6,18 @@ ghost use Rattle.collation_search.specs.declared.characters.TheConstants.{UNIT_P
 
 use crate::character_units::{character_unit, is_passed};
 use crate::combining::{KeptSequence, NO_SEQUENCE, SEQUENCE_PLACES};
-use collation_elements::{CharacterItems, Weigher, Window};
+use collation_elements::{CharacterItems, Variable, Weigher, Window};
 use collation_pattern::Pattern;
 use collation_table::Weights;
 use nfd_points::laws::{laws_of_decompositions, laws_of_points};
-use nfd_points::points_of_character;
+use nfd_points::{Point, points_of_character};
 use std::alloc::{AllocError, Global};
 
 /// How many places there are for what decides whether a character is taken at once.
-const UNIT_PLACES: usize = 32_768;
+const UNIT_PLACES: usize = 65_536;
 
 /// How many places there are for the items of characters.
-const ITEM_PLACES: usize = 1_024;
+const ITEM_PLACES: usize = 4_096;
 
 /// What decides whether a character is taken at once.
 #[derive(Clone, Copy)]
@@ -74,7 +74,7 @@ pub(crate) struct Characters {
     pub(crate) items: Vec<KeptItems>,
     pub(crate) sequences: Vec<KeptSequence>,
     /// Room for the points of one character or sequence.
-    pub(crate) window: Window,
+    window: Window,
     ghost unit_places: { length units.items ≡ UNIT_PLACES },
     ghost item_places: { length items.items ≡ ITEM_PLACES },
     ghost sequence_places: { length sequences.items ≡ SEQUENCE_PLACES },
@@ -84,9 +84,10 @@ pub(crate) struct Characters {
 }
 
 impl Characters {
-    ghost use Rattle.std.specs.Prelude.{◌≡◌, IfOk, IfSome, true};
+    ghost use Rattle.std.specs.Prelude.{◌≡◌, ◌≤◌, length, All, IfOk, IfSome, true};
     ghost use Rattle.collation_table.specs.Table.{TableMap};
     ghost use Rattle.nfd_points.specs.Points.{points_of};
+    ghost use Rattle.nfd_points.specs.Reordering.{IsSoundPoint};
     ghost use Rattle.collation_elements.specs.CharacterItems.{AreItemsOfPoints};
     ghost use Rattle.collation_elements.specs.Weighing.{weigher};
     ghost use Rattle.collation_pattern.specs.Compiled.{Compiled};
@@ -205,15 +206,36 @@ impl Characters {
         laws_of_decompositions();
         let points = points_of_character(c, 0);
         let points = points.as_slice();
-        let (strength, variable) = (pattern.strength(), pattern.variable());
-        let before = Weigher::restore(strength, variable, false);
-        let after = Weigher::restore(strength, variable, true);
         let kept = KeptItems {
             code_point: c as u32,
-            items: CharacterItems::of_points(table, &mut self.window, before, points),
-            items_after_variable: CharacterItems::of_points(table, &mut self.window, after, points),
+            items: self.items_of_points(table, pattern, points, false),
+            items_after_variable: self.items_of_points(table, pattern, points, true),
         };
         self.items[c as usize % ITEM_PLACES] = kept;
         kept
+    }
+
+    /// The items of points by themselves, if there are three keys at most, where the last element that was variable or primary was
+    /// variable or was not. In non-ignorable weighting none is variable, and nothing is found out for it.
+    pub(crate) fn items_of_points<W: Weights>(
+        &mut self,
+        table: &W,
+        pattern: &Pattern,
+        points: &[Point],
+        after_variable: bool,
+    ) -> Option<CharacterItems>
+        requires right { IsRight (W.table table.now) pattern.now self.old }
+        requires room { length points.now ≤ MOST_SEQUENCE_POINTS }
+        requires sound { All IsSoundPoint points.now }
+        ensures right { IsRight (W.table table.now) pattern.now self.new }
+        ensures items { IfSome result (λ it.
+            AreItemsOfPoints (W.table table.now) (weigher pattern.now.strength pattern.now.variable after_variable) points.now it) }
+    {
+        let variable = pattern.variable();
+        if after_variable && variable == Variable::NonIgnorable {
+            return None;
+        }
+        let weigher = Weigher::restore(pattern.strength(), variable, after_variable);
+        CharacterItems::of_points(table, &mut self.window, weigher, points)
     }
 }

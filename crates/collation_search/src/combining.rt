@@ -10,7 +10,7 @@ ghost use Rattle.collation_search.specs.declared.combining.TheConstants.{MOST_SE
 
 use crate::characters::Characters;
 use arrayvec::ArrayVec;
-use collation_elements::{CharacterItems, Weigher};
+use collation_elements::CharacterItems;
 use collation_pattern::Pattern;
 use collation_table::Weights;
 use nfd_points::laws::laws_of_ordering;
@@ -181,16 +181,8 @@ impl Characters {
             items_after_variable: None,
         };
         if are_in_order(points) {
-            let (strength, variable) = (pattern.strength(), pattern.variable());
-            let before = Weigher::restore(strength, variable, false);
-            let after = Weigher::restore(strength, variable, true);
-            kept.items = CharacterItems::of_points(table, &mut self.window, before, points);
-            kept.items_after_variable = CharacterItems::of_points(
-                table,
-                &mut self.window,
-                after,
-                points,
-            );
+            kept.items = self.items_of_points(table, pattern, points, false);
+            kept.items_after_variable = self.items_of_points(table, pattern, points, true);
         }
         self.sequences[sequence.place()] = kept;
         kept

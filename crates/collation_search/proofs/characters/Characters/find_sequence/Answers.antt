@@ -2,7 +2,8 @@ use Rattle.std.proofs.Common.{◌≡◌, ◌∙◌, true, false, sym, subst}
 use Rattle.std.proofs.lemmas.List.Elements.{All-set}
 use Rattle.std.proofs.lemmas.Option.{none-some}
 use Rattle.nfd_points.specs.Points.{points_from}
-use Rattle.collation_search.specs.Characters.{AreKeptForSequence, characters_of}
+use Rattle.collation_elements.specs.Weighing.{weigher}
+use Rattle.collation_search.specs.Characters.{AreKeptForSequence, IsRight, characters_of}
 use Rattle.collation_search.proofs.CombiningLemmas.{sequence_from}
 use Rattle.collation_search.proofs.characters.Characters.find_sequence.Goals.{then-are_in_order, else-are_in_order}
 use Rattle.collation_search.proofs.characters.Characters.find_sequence.Goals as goal
@@ -19,10 +20,8 @@ returns-clause-items g c =
           let in_order = c.laws_of_ordering.ensures.stays ps (c.are_in_order.ensures w.if-are_in_order.true) in
           subst (AreKeptForSequence table pattern) (sym w.kept-is)
           (record {
-            items = sequence_from table pattern cs false w.strength-strength.result w.variable-variable.result w.restore-before.result ps w.of_points-kept.result
-                w.strength-strength.ensures w.variable-variable.ensures w.restore-before.ensures value in_order w.of_points-kept.ensures.items;
-            items_after_variable = sequence_from table pattern cs true w.strength-strength.result w.variable-variable.result w.restore-after.result ps w.of_points-kept-then-are_in_order.result
-                w.strength-strength.ensures w.variable-variable.ensures w.restore-after.ensures value in_order w.of_points-kept-then-are_in_order.ensures.items;
+            items = sequence_from table (weigher pattern.strength pattern.variable false) cs ps w.items_of_points-kept.result value in_order w.items_of_points-kept.ensures.items;
+            items_after_variable = sequence_from table (weigher pattern.strength pattern.variable true) cs ps w.items_of_points-kept-then-are_in_order.result value in_order w.items_of_points-kept-then-are_in_order.ensures.items;
           })
       | else-are_in_order w ↦
           subst (AreKeptForSequence table pattern) (sym w.kept-is)
@@ -34,5 +33,10 @@ returns-clause-items g c =
 
 pub returns-clause-right : goal.returns-clause-right
 returns-clause-right g c =
-    let right = All-set (AreKeptForSequence (g.W.Weights.table c.args.table.now) c.args.pattern.now) c.args.self.now.sequences.items _ _ (returns-clause-items g c) c.requires.1.1 in
-    (c.requires.0, (c.requires.1.0, right))
+    let table = g.W.Weights.table c.args.table.now in
+    let pattern = c.args.pattern.now in
+    let before : IsRight table pattern c.if-are_in_order.self = elim c.if-are_in_order.branch [
+      | then-are_in_order w ↦ subst (IsRight table pattern) (sym w.self-is) w.items_of_points-kept-then-are_in_order.ensures.right
+      | else-are_in_order w ↦ subst (IsRight table pattern) (sym w.self-is) c.requires
+    ] in
+    (before.0, (before.1.0, All-set (AreKeptForSequence table pattern) c.if-are_in_order.self.sequences.items _ _ (returns-clause-items g c) before.1.1))

@@ -5,4 +5,4 @@ use Rattle.collation_search.proofs.characters.Characters.kept_items.Goals as goa
 pub returns-then-kept-c-clause-items : goal.returns-then-kept-c-clause-items
 returns-then-kept-c-clause-items g c =
     subst (AreKeptItems (g.W.Weights.table c.args.table.now) c.args.pattern.now) (sym c.index-kept.ensures)
-    (c.requires.1.0 (c.args.c % 1024) c.index-kept.result.now (omega (arith, c.args.self.now.item_places)))
+    (c.requires.1.0 (c.args.c % 4096) c.index-kept.result.now (omega (arith, c.args.self.now.item_places)))

@@ -57,9 +57,9 @@ pub returns : goal.returns
 unfolding blank_unit blank_items blank_sequence
 returns g c = record {
   right = λ table pattern. (
-    subst (All (IsKeptUnit table pattern)) (sym (c.in_ok-vec.ensures.items_if_clones_equal (λ y h. h))) (All-replicate (IsKeptUnit table pattern) 32768 blank_unit (no_unit table pattern)),
+    subst (All (IsKeptUnit table pattern)) (sym (c.in_ok-vec.ensures.items_if_clones_equal (λ y h. h))) (All-replicate (IsKeptUnit table pattern) 65536 blank_unit (no_unit table pattern)),
     (
-      subst (All (AreKeptItems table pattern)) (sym (c.in_ok-vec-2.ensures.items_if_clones_equal (λ y h. h))) (All-replicate (AreKeptItems table pattern) 1024 blank_items (no_items table pattern)),
+      subst (All (AreKeptItems table pattern)) (sym (c.in_ok-vec-2.ensures.items_if_clones_equal (λ y h. h))) (All-replicate (AreKeptItems table pattern) 4096 blank_items (no_items table pattern)),
       subst (All (AreKeptForSequence table pattern)) (sym (c.in_ok-vec-3.ensures.items_if_clones_equal (λ y h. h))) (All-replicate (AreKeptForSequence table pattern) 1024 blank_sequence (no_sequence table pattern)),
     ),
   );
