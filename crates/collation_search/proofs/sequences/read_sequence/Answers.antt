@@ -1,8 +1,8 @@
-use Rattle.std.proofs.Common.{◌≡◌, ◌+◌, [], ◌∷◌, take, drop, sym, subst}
+use Rattle.std.proofs.Common.{◌+◌, [], ◌∷◌, take, drop, sym, subst}
 use Rattle.std.proofs.lemmas.List.{take_rest}
 use Rattle.utf8_cut.specs.Sequences.{SpellsCharacter}
 use Rattle.std.specs.Char.{len_utf8}
-use Rattle.collation_search.proofs.SequenceLemmas.{Spelled, spelled_first, spelled_next}
+use Rattle.collation_search.proofs.SequenceLemmas.{spelled_first, spelled_next}
 use Rattle.collation_search.proofs.sequences.read_sequence.Goals as goal
 
 pub returns-then-unit-clause-text : goal.returns-then-unit-clause-text

@@ -1,11 +1,9 @@
 use Rattle.std.specs.Str.{chars}
 use Rattle.std.specs.Option.{option_to_list}
-use Rattle.std.proofs.Common.{◌≡◌, ◌∙◌, ℕ, List, take, sym, ap, subst}
-use Rattle.nfd_points.specs.declared.points.Point.{Point}
+use Rattle.std.proofs.Common.{◌∙◌, ℕ, List, take, sym, ap, subst}
 use Rattle.nfd_points.specs.Points.{points_from}
-use Rattle.collation_elements.specs.Units.{units}
 use Rattle.collation_elements.specs.Weighing.{weigher}
-use Rattle.collation_search.specs.Apart.{IsNext, HasWalkedOn}
+use Rattle.collation_search.specs.Apart.{IsNext}
 use Rattle.collation_search.specs.Characters.{AreItemsOfCharacters, characters_of}
 use Rattle.collation_search.proofs.ApartLaws.{Laws}
 use Rattle.collation_search.proofs.AsciiRunLemmas.{not_false}
