@@ -36,8 +36,6 @@ mod saving;
 mod search;
 mod select;
 mod state_points;
-#[cfg(test)]
-mod state_tests;
 mod states;
 #[cfg(test)]
 mod tests;
