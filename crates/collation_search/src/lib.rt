@@ -38,8 +38,6 @@ mod search;
 mod select;
 mod sequences;
 mod state_points;
-#[cfg(test)]
-mod state_tests;
 mod states;
 #[cfg(test)]
 mod tests;

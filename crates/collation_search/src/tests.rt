@@ -1,4 +1,5 @@
-//! What no clause says: that the walk over a text succeeds where memory is there, the printed fault, and worked texts.
+//! What no clause says: that the walk over a text succeeds where memory is there, and the printed fault. Whole searches are tested in
+//! `search_pieces`.
 
 use crate::TextFault;
 use crate::select::Select;
@@ -8,24 +9,7 @@ use collation_pattern::Pattern;
 use collation_table::Table;
 use std::test::Fail;
 
-mod ascii_runs;
-mod chains;
-mod first_ranges;
-mod long_keys;
-mod long_texts;
-mod pieces;
-mod refusals;
-mod resumed_chains;
-mod resuming;
-mod searches;
-
 const A: Item = Item::Element(Key::Primary(0x1C00, 0x20, 2));
-
-const B: Item = Item::Element(Key::Primary(0x1C10, 0x20, 2));
-
-const A_KEY: Key = Key::Primary(0x1C00, 0x20, 2);
-
-const B_KEY: Key = Key::Primary(0x1C10, 0x20, 2);
 
 /// No clause says that the walk gives up for want of memory alone, and not for the length of a text.
 /// `aa` in `aaa` and a soft hyphen, which has no keys.

@@ -59,3 +59,6 @@ fn search(rt: &HostRuntime, table: &Table, asked: &Asked<'_>) -> Result<()> {
     )?;
     Ok(out.flush()?)
 }
+
+#[cfg(test)]
+mod tests;

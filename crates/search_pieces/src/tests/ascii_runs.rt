@@ -1,41 +1,34 @@
 //! Runs of ASCII, which are taken at once: the answers are those of steps, and no memory is asked for.
 
-ghost use Rattle.std.specs.Prelude.{◌<◌};
-
-use super::searches::{KEPT, ONE, SHIFTED, TABLE, THREE, fed, stepped};
-use crate::{Found, Search};
-use collation_pattern::Pattern;
-use collation_table::Table;
-use std::alloc::Global;
-use std::process::Abort;
+use super::answers::{compare_with_steps, fed, stepped};
+use super::calls::{Query, begin, compile, feed, finish, read};
+use super::{KEPT, ONE, SHIFTED, TABLE, THREE};
+use collation_search::Found;
 use std::test::Fail;
 
 /// Letters, a contraction, a variable element and characters without a row.
 const LETTERS: [u8; 12] = *b"ach aA-bu\na\0";
 
-/// To be run with each allocation refused in turn: once the search is there, none is made, and the ranges are those of ample
-/// memory.
+/// To be run with each allocation refused in turn: once the search is there, none is made (there is room for the ranges before), and
+/// the ranges are those of ample memory.
 #[test]
 fn million_letters_ask_for_no_memory(rt: HostRuntime) -> Result<(), Fail> {
-    let table = Table::read(rt.alloc(), TABLE.as_bytes())?;
-    let pattern = Pattern::compile(rt.alloc(), &table, "ab", THREE, KEPT)?;
+    let table = read(rt.alloc(), TABLE)?;
+    let pattern = compile(rt.alloc(), &table, "ab", THREE, KEPT)?;
     let text = "ab".repeat(rt.alloc(), 500_000)?;
+    let mut ranges = Vec::with_capacity(rt.alloc(), 500_000)?;
     let mut found = Found::new();
-    let mut search = Search::new(rt.alloc(), &table, &pattern)?;
-    let mut next = 0u64;
-    let mut are_all = true;
-    let fed = search.feed(
-        text.as_bytes(),
-        &mut |start, end| {
-            are_all = are_all && start == next;
-            next = next.wrapping_add(2);
-            are_all = are_all && end == next;
-        },
-    );
+    let mut search = begin(rt.alloc(), Query::all(&table, &pattern))?;
+    let fed = feed(&rt, &mut search, text.as_bytes(), &mut ranges);
     assert_eq!(rt; fed, Ok(()));
-    assert!(rt; are_all);
+    let mut next = 0u64;
+    for (start, end) in ranges.as_slice() {
+        assert_eq!(rt; *start, next);
+        next = next.wrapping_add(2);
+        assert_eq!(rt; *end, next);
+    }
     assert_eq!(rt; next, 999_998);
-    assert_eq!(rt; search.finish(&mut found), Ok(()));
+    assert_eq!(rt; finish(search, &mut found), Ok(()));
     assert_eq!(rt; found.as_slice(), [(999_998, 1_000_000)].as_slice());
     Ok(())
 }
@@ -44,8 +37,9 @@ fn million_letters_ask_for_no_memory(rt: HostRuntime) -> Result<(), Fail> {
 /// of a block.
 #[test]
 fn runs_of_each_length_at_each_offset(rt: HostRuntime) -> Result<(), Fail> {
-    let table = Table::read(rt.alloc(), TABLE.as_bytes())?;
-    let pattern = Pattern::compile(rt.alloc(), &table, "aa", ONE, SHIFTED)?;
+    let table = read(rt.alloc(), TABLE)?;
+    let pattern = compile(rt.alloc(), &table, "aa", ONE, SHIFTED)?;
+    let query = Query::all(&table, &pattern);
     let mut runs = Vec::new(rt.alloc());
     for len in 0..=200usize {
         for i in 0..len {
@@ -59,15 +53,8 @@ fn runs_of_each_length_at_each_offset(rt: HostRuntime) -> Result<(), Fail> {
             text.push(b'a')?;
         }
         text.extend_from_slice(runs.as_slice())?;
-        let whole = fed(
-            &rt,
-            rt.alloc(),
-            &table,
-            &pattern,
-            text.as_slice(),
-            usize::MAX,
-        )?;
-        let steps = stepped(rt.alloc(), &table, &pattern, text.as_slice())?;
+        let whole = fed(&rt, rt.alloc(), query, text.as_slice(), usize::MAX)?;
+        let steps = stepped(rt.alloc(), query, text.as_slice())?;
         assert!(rt; whole.0.len() > 1_600);
         assert_eq!(rt; whole.0.as_slice(), steps.0.as_slice());
         assert!(rt; whole.1.is_none() && steps.1.is_none());
@@ -95,44 +82,6 @@ const LONE_ROWS: &str = "@version 0.0.0
 const LINE: &str =
     "astra ast chha-b e\u{301}au\u{327}\u{301} aAb\u{e9}hc str-ast\u{301} a - a\u{301}chs b a  aaab bacch\n";
 
-/// Compares what a search leaves that is fed pieces of this many bytes with what one leaves that takes a byte at a time: after each
-/// piece the ranges so far and the words of the state. It answers how many ranges there are.
-fn compare(
-    rt: &impl Abort,
-    alloc: Global,
-    table: &Table,
-    pattern: &Pattern,
-    text: &[u8],
-    size: usize,
-) -> Result<usize, Fail>
-    requires { 0 < size }
-{
-    let mut fed = Search::new(alloc, table, pattern)?;
-    let mut stepped = Search::new(alloc, table, pattern)?;
-    let mut ranges = Vec::new(alloc);
-    let mut want = Vec::new(alloc);
-    let mut found = Found::new();
-    for piece in text.chunks(size) {
-        fed.feed(
-            piece,
-            &mut |start, end| {
-                ranges.push((start, end)).expect(rt, "memory");
-            },
-        )?;
-        for byte in piece {
-            stepped.step(*byte, &mut found)?;
-            want.extend_from_slice(found.as_slice())?;
-        }
-        assert_eq!(rt; ranges.as_slice(), want.as_slice());
-        let mut words = Vec::new(alloc);
-        let mut want_words = Vec::new(alloc);
-        fed.save(&mut words)?;
-        stepped.save(&mut want_words)?;
-        assert_eq!(rt; words.as_slice(), want_words.as_slice());
-    }
-    Ok(want.len())
-}
-
 /// However a text is cut into pieces, at the end of each the ranges so far and the words of the state are those of steps: for
 /// patterns of one key and of several, with letters that begin a contraction, and with none.
 #[test]
@@ -141,7 +90,7 @@ fn pieces_leave_what_steps_leave(rt: HostRuntime) -> Result<(), Fail> {
     longer.push_str(LONGER_ROWS)?;
     let text = LINE.repeat(rt.alloc(), 3)?;
     for rows in [longer.as_str(), TABLE, LONE_ROWS] {
-        let table = Table::read(rt.alloc(), rows.as_bytes())?;
+        let table = read(rt.alloc(), rows)?;
         for (letters, strength, variable) in [
             ("a", THREE, KEPT),
             ("a a", ONE, SHIFTED),
@@ -149,9 +98,10 @@ fn pieces_leave_what_steps_leave(rt: HostRuntime) -> Result<(), Fail> {
             ("ch", ONE, KEPT),
             ("b a", THREE, SHIFTED),
         ] {
-            let pattern = Pattern::compile(rt.alloc(), &table, letters, strength, variable)?;
+            let pattern = compile(rt.alloc(), &table, letters, strength, variable)?;
+            let query = Query::all(&table, &pattern);
             for size in 1..=70usize {
-                let count = compare(&rt, rt.alloc(), &table, &pattern, text.as_bytes(), size)?;
+                let count = compare_with_steps(&rt, rt.alloc(), query, text.as_bytes(), size)?;
                 assert!(rt; count > 2);
             }
         }

@@ -1,53 +1,17 @@
 //! Worked rows over a search: what it answers of small texts, however their bytes come.
 
-ghost use Rattle.std.specs.Prelude.{◌<◌};
-
-use crate::{Found, Search, Select, TextFault};
+use super::answers::{fed, resumed, stepped};
+use super::calls::{Query, compile, read};
+use super::{KEPT, ONE, Range, SHIFTED, TABLE, THREE, TWO};
 use collation_elements::{Strength, Variable};
 use collation_pattern::Pattern;
-use collation_table::Table;
-use std::alloc::{AllocError, Global};
+use collation_search::{Select, TextFault};
+use std::alloc::Global;
 use std::process::Abort;
 use std::test::Fail;
 
-pub(super) const TABLE: &str = "@version 0.0.0
-0020 ; [*0201.0020.0002]
-002D ; [*0202.0020.0002]
-0061 ; [.1C00.0020.0002]
-0041 ; [.1C00.0020.0008]
-0062 ; [.1C10.0020.0002]
-0063 ; [.1C20.0020.0002]
-0063 0068 ; [.1C28.0020.0002]
-0065 ; [.1C40.0020.0002]
-0068 ; [.1C50.0020.0002]
-006D ; [.1C60.0020.0002]
-0072 ; [.1C70.0020.0002]
-0073 ; [.1C80.0020.0002]
-0075 ; [.1C90.0020.0002]
-0075 0301 ; [.1C98.0020.0002]
-0300 ; [.0000.0025.0002]
-0301 ; [.0000.0024.0002]
-0327 ; [.0000.0030.0002]
-20DD ; [.0000.0040.0002]
-00AD ; [.0000.0000.0000]
-2F00 ; [.FB40.0020.0004][.CE00.0000.0000]
-";
-
-pub(super) const KEPT: Variable = Variable::NonIgnorable;
-
-pub(super) const SHIFTED: Variable = Variable::Shifted;
-
-pub(super) const ONE: Strength = Strength::One;
-
-const TWO: Strength = Strength::Two;
-
-pub(super) const THREE: Strength = Strength::Three;
-
-/// The start and the end of a range, in bytes from the beginning of the text.
-pub(super) type Range = (u64, u64);
-
 /// A strength, a weighting, a pattern, a text, its ranges, and the kind and the offset of its fault.
-type Row<'a> = (
+pub(super) type Row<'a> = (
     Strength,
     Variable,
     &'a str,
@@ -56,113 +20,32 @@ type Row<'a> = (
     Option<(u8, u64)>,
 );
 
-/// The ranges of a text, and its fault.
-pub(super) type Answered = (Vec<Range>, Option<TextFault>);
-
-/// What a search answers of a text that is fed in pieces of this many bytes.
-pub(super) fn fed(
+/// Compares what a search answers of each row, whose text comes whole, in pieces of one to three bytes, and byte by byte, and with
+/// the search resumed after every byte.
+pub(super) fn compare(
     rt: &impl Abort,
     alloc: Global,
-    table: &Table,
-    pattern: &Pattern,
-    text: &[u8],
-    size: usize,
-) -> Result<Answered, AllocError>
-    requires { 0 < size }
-{
-    let mut search = Search::new(alloc, table, pattern)?;
-    let mut ranges = Vec::new(alloc);
-    for piece in text.chunks(size) {
-        let fed = search.feed(
-            piece,
-            &mut |start, end| {
-                ranges.push((start, end)).expect(rt, "memory");
-            },
-        );
-        if fed.is_err() {
-            break;
-        }
-    }
-    let mut found = Found::new();
-    let fault = search.finish(&mut found).err();
-    ranges.extend_from_slice(found.as_slice())?;
-    Ok((ranges, fault))
-}
-
-/// What a search answers of a text whose bytes come one by one.
-pub(super) fn stepped(
-    alloc: Global,
-    table: &Table,
-    pattern: &Pattern,
-    text: &[u8],
-) -> Result<Answered, AllocError> {
-    let mut search = Search::new(alloc, table, pattern)?;
-    let mut ranges = Vec::new(alloc);
-    let mut found = Found::new();
-    for byte in text {
-        let taken = search.step(*byte, &mut found);
-        ranges.extend_from_slice(found.as_slice())?;
-        if taken.is_err() {
-            break;
-        }
-    }
-    let fault = search.finish(&mut found).err();
-    ranges.extend_from_slice(found.as_slice())?;
-    Ok((ranges, fault))
-}
-
-/// What a search answers of a text in pieces of this size, saved, dropped and resumed after each, and how many words the greatest
-/// state had.
-pub(super) fn resumed(
-    rt: &impl Abort,
-    alloc: Global,
-    table: &Table,
-    pattern: &Pattern,
     select: Select,
-    text: &[u8],
-    size: usize,
-) -> Result<(Answered, usize), Fail>
-    requires { 0 < size }
-{
-    let mut search = Search::new_with(alloc, table, pattern, select)?;
-    let mut ranges = Vec::new(alloc);
-    let mut words = Vec::new(alloc);
-    let mut most_words = 0;
-    for piece in text.chunks(size) {
-        let _fault = search.feed(
-            piece,
-            &mut |start, end| {
-                ranges.push((start, end)).expect(rt, "memory");
-            },
-        );
-        words.clear();
-        search.save(&mut words)?;
-        most_words = most_words.max(words.len());
-        search = Search::resume_with(alloc, table, pattern, select, &words)?;
-    }
-    let mut found = Found::new();
-    let fault = search.finish(&mut found).err();
-    ranges.extend_from_slice(found.as_slice())?;
-    Ok(((ranges, fault), most_words))
-}
-
-/// Compares what a search answers of each row, whose text comes whole, byte by byte, and in pieces of three bytes, and with the
-/// search resumed after every byte.
-fn compare(rt: &impl Abort, alloc: Global, rows: &[Row]) -> Result<(), Fail> {
-    let table = Table::read(alloc, TABLE.as_bytes())?;
-    for (strength, variable, pattern, text, ranges, fault) in rows {
-        let pattern = Pattern::compile(alloc, &table, pattern, *strength, *variable)?;
+    rows: &[Row],
+) -> Result<(), Fail> {
+    let table = read(alloc, TABLE)?;
+    for (strength, variable, letters, text, ranges, fault) in rows {
+        let pattern = compile(alloc, &table, letters, *strength, *variable)?;
+        let query = Query {
+            table: &table,
+            pattern: &pattern,
+            select,
+        };
         let want = fault.map(|(kind, offset)| TextFault { kind, offset });
-        let whole = fed(rt, alloc, &table, &pattern, text, usize::MAX)?;
-        assert_eq!(rt; whole.0.as_slice(), *ranges);
-        assert_eq!(rt; whole.1, want);
-        let bytes = stepped(alloc, &table, &pattern, text)?;
+        for size in [1, 2, 3, usize::MAX] {
+            let pieces = fed(rt, alloc, query, text, size)?;
+            assert_eq!(rt; pieces.0.as_slice(), *ranges);
+            assert_eq!(rt; pieces.1, want);
+        }
+        let bytes = stepped(alloc, query, text)?;
         assert_eq!(rt; bytes.0.as_slice(), *ranges);
         assert_eq!(rt; bytes.1, want);
-        let pieces = fed(rt, alloc, &table, &pattern, text, 3)?;
-        assert_eq!(rt; pieces.0.as_slice(), *ranges);
-        assert_eq!(rt; pieces.1, want);
-        let (again, _most_words) = resumed(rt, alloc, &table, &pattern, Select::All, text, 1)?;
+        let (again, _most_words) = resumed(rt, alloc, query, text, 1)?;
         assert_eq!(rt; again.0.as_slice(), *ranges);
         assert_eq!(rt; again.1, want);
     }
@@ -185,7 +68,7 @@ fn accents(rt: HostRuntime) -> Result<(), Fail> {
         (TWO, SHIFTED, "a", b"a-\xe2\x83\x9d", &[(0, 1)], None),
         (TWO, SHIFTED, "a\u{20dd}", b"a-\xe2\x83\x9d", &[], None),
     ];
-    compare(&rt, rt.alloc(), &rows)
+    compare(&rt, rt.alloc(), Select::All, &rows)
 }
 
 #[test]
@@ -202,7 +85,7 @@ fn letters(rt: HostRuntime) -> Result<(), Fail> {
         (TWO, KEPT, "a", b"aA", &[(0, 1), (1, 2)], None),
         (THREE, KEPT, "a", b"abb", &[(0, 1)], None),
     ];
-    compare(&rt, rt.alloc(), &rows)
+    compare(&rt, rt.alloc(), Select::All, &rows)
 }
 
 #[test]
@@ -216,7 +99,7 @@ fn contractions(rt: HostRuntime) -> Result<(), Fail> {
         (ONE, KEPT, "\u{fa}", b"u\xcc\x80\xcc\x81", &[], None),
         (ONE, KEPT, "u", b"u\xcc\x80\xcc\x81", &[(0, 5)], None),
     ];
-    compare(&rt, rt.alloc(), &rows)
+    compare(&rt, rt.alloc(), Select::All, &rows)
 }
 
 #[test]
@@ -229,7 +112,7 @@ fn syllables_and_ideographs(rt: HostRuntime) -> Result<(), Fail> {
         (TWO, KEPT, "\u{4e00}", b"\xe2\xbc\x80", &[(0, 3)], None),
         (THREE, KEPT, "\u{4e00}", b"\xe2\xbc\x80", &[], None),
     ];
-    compare(&rt, rt.alloc(), &rows)
+    compare(&rt, rt.alloc(), Select::All, &rows)
 }
 
 #[test]
@@ -240,7 +123,7 @@ fn faults_of_bytes(rt: HostRuntime) -> Result<(), Fail> {
         (THREE, KEPT, "a", b"a\xe2\x82", &[], Some((31, 1))),
         (THREE, KEPT, "a", b"ab\xe2\x28", &[(0, 1)], Some((31, 2))),
     ];
-    compare(&rt, rt.alloc(), &rows)
+    compare(&rt, rt.alloc(), Select::All, &rows)
 }
 
 /// A letter and so many marks after it.
@@ -264,12 +147,12 @@ fn runs_of_non_starters(rt: HostRuntime) -> Result<(), Fail> {
         (THREE, KEPT, "a", pairs.as_bytes(), &[], None),
         (THREE, KEPT, "a", more_pairs.as_bytes(), &[], Some((32, 46))),
     ];
-    compare(&rt, rt.alloc(), &rows)
+    compare(&rt, rt.alloc(), Select::All, &rows)
 }
 
 #[test]
 fn patterns_that_are_refused(rt: HostRuntime) -> Result<(), Fail> {
-    let table = Table::read(rt.alloc(), TABLE.as_bytes())?;
+    let table = read(rt.alloc(), TABLE)?;
     let marks = "\u{301}".repeat(rt.alloc(), 31)?;
     let letters = "a".repeat(rt.alloc(), 65_537)?;
     let rows = [

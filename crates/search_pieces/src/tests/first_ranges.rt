@@ -1,14 +1,13 @@
 //! The first range of a text that is held whole.
 
-use super::searches::{KEPT, Range, TABLE, THREE};
-use crate::{TextFault, index};
-use collation_pattern::Pattern;
-use collation_table::Table;
+use super::calls::{Query, compile, first_range, read};
+use super::{KEPT, Range, TABLE, THREE};
+use collation_search::TextFault;
 use std::test::Fail;
 
 #[test]
 fn first_range_or_fault(rt: HostRuntime) -> Result<(), Fail> {
-    let table = Table::read(rt.alloc(), TABLE.as_bytes())?;
+    let table = read(rt.alloc(), TABLE)?;
     let cut = TextFault {
         kind: 31,
         offset: 2,
@@ -21,9 +20,10 @@ fn first_range_or_fault(rt: HostRuntime) -> Result<(), Fail> {
         ("c", b"ab", Ok(None)),
         ("c", b"", Ok(None)),
     ];
-    for (pattern, text, want) in rows {
-        let pattern = Pattern::compile(rt.alloc(), &table, pattern, THREE, KEPT)?;
-        assert_eq!(rt; index(rt.alloc(), &table, &pattern, text), want);
+    for (letters, text, want) in rows {
+        let pattern = compile(rt.alloc(), &table, letters, THREE, KEPT)?;
+        let query = Query::all(&table, &pattern);
+        assert_eq!(rt; first_range(rt.alloc(), query, text), want);
     }
     Ok(())
 }
