@@ -1,7 +1,7 @@
 -- What is kept of a character, wherever it stands.
 use Rattle.std.specs.Option.{ForSome, IfSome, option_to_list}
 use Rattle.std.specs.List.{All}
-use Rattle.std.proofs.Common.{◌≡◌, ◌∙◌, ℕ, ◌≤◌, Bool, true, false, cond, List, [], ◌∷◌, ◌++◌, length, map, Option, Some, slice_get, arith, refl, sym, ap, ap₂, subst}
+use Rattle.std.proofs.Common.{◌≡◌, ◌∙◌, ℕ, ◌≤◌, Bool, true, false, cond, List, [], ◌∷◌, ◌++◌, length, map, Option, Some, slice_get, arith, refl, sym, ap, subst}
 use Rattle.std.proofs.lemmas.Option.{none-some, same_Some}
 use Rattle.std.proofs.lemmas.List.Elements.{All-nil, All-cons, All-head, All-tail, All-same}
 use Rattle.unicode_normalization.specs.Lookups.{canonical_combining_class}
@@ -9,8 +9,6 @@ use Rattle.nfd_points.specs.declared.points.Point.{Point}
 use Rattle.nfd_points.specs.Points.{decomposition, points_at, points_of, is_starter}
 use Rattle.collation_table.specs.Table.{TableMap, BeginsNoLongerString, ContinuesNoString}
 use Rattle.collation_elements.specs.declared.character.CharacterItems.{CharacterItems}
-use Rattle.collation_elements.specs.declared.settings.Strength.{Strength}
-use Rattle.collation_elements.specs.declared.settings.Variable.{Variable}
 use Rattle.collation_elements.specs.declared.weigher.Weigher.{Weigher}
 use Rattle.collation_elements.specs.CharacterItems.{AreItemsOfPoints, character_keys, character_items}
 use Rattle.collation_elements.specs.Weighing.{weigher}

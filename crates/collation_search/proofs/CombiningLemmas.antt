@@ -2,7 +2,7 @@
 use Rattle.std.specs.Char.{len_utf8}
 use Rattle.std.specs.List.{All}
 use Rattle.std.specs.Option.{ForSome, IfSome, option_to_list}
-use Rattle.std.proofs.Common.{◌≡◌, ◌∙◌, ℕ, ◌+◌, ◌-◌, ◌≤◌, ◌<◌, Bool, true, false, not, ◌&&◌, Option, Some, None, List, [], ◌∷◌, ◌++◌, length, take, drop, slice_index_or, refl, sym, ap, ap₂, subst, arith, append_assoc}
+use Rattle.std.proofs.Common.{◌≡◌, ◌∙◌, ℕ, ◌+◌, ◌-◌, ◌≤◌, ◌<◌, true, false, not, ◌&&◌, Option, Some, None, List, [], ◌∷◌, ◌++◌, length, take, drop, slice_index_or, refl, sym, ap, ap₂, arith, append_assoc}
 use Rattle.std.proofs.lemmas.List.{append-nil, take_all}
 use Rattle.std.proofs.lemmas.List.Elements.{All-nil, All-same}
 use Rattle.nfd_points.specs.declared.points.Point.{Point}
@@ -10,12 +10,8 @@ use Rattle.nfd_points.specs.Points.{points_of, points_from, is_reorderable, is_i
 use Rattle.nfd_points.specs.Reordering.{IsSoundPoint}
 use Rattle.collation_table.specs.Table.{TableMap}
 use Rattle.collation_elements.specs.declared.character.CharacterItems.{CharacterItems}
-use Rattle.collation_elements.specs.declared.settings.Strength.{Strength}
-use Rattle.collation_elements.specs.declared.settings.Variable.{Variable}
 use Rattle.collation_elements.specs.declared.weigher.Weigher.{Weigher}
 use Rattle.collation_elements.specs.CharacterItems.{AreItemsOfPoints}
-use Rattle.collation_elements.specs.Weighing.{weigher}
-use Rattle.collation_pattern.specs.Compiled.{Compiled}
 use Rattle.collation_search.specs.Characters.{AreItemsOfCharacters}
 use Rattle.collation_search.proofs.CharacterUnitLemmas.{kept_from}
 

@@ -7,7 +7,6 @@ use Rattle.std.proofs.lemmas.List.{append-nil, length-append}
 use Rattle.utf8_cut.specs.Sequences.{SpellsCharacter}
 use Rattle.nfd_points.specs.declared.points.Point.{Point}
 use Rattle.nfd_points.specs.Points.{decomposition, byte_len, points_of, points_from, is_starter, begins_with_starter, ordered, shifted}
-use Rattle.nfd_points.specs.PointFaults.{point_fault}
 use Rattle.nfd_points.specs.Laws.{OrderingIsShifted, PointsAreShifted}
 use Rattle.collation_table.specs.Table.{TableMap}
 use Rattle.collation_pattern.specs.Compiled.{Compiled}
@@ -16,7 +15,6 @@ use Rattle.collation_search.specs.declared.combining.CombiningSequence.{Combinin
 use Rattle.collation_search.specs.Apart.{IsNext}
 use Rattle.collation_search.specs.Characters.{IsCharacterUnit, characters_of}
 use Rattle.collation_search.proofs.ApartLaws.{Laws}
-use Rattle.collation_search.proofs.ApartLemmas.{begun}
 use Rattle.collation_search.proofs.CharacterLemmas.{BeforeLaw, one_char, text-more, chars-more, points_are_shifted}
 
 -- ---- how it is spelled

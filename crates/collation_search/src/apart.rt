@@ -227,6 +227,7 @@ impl Finder {
 
     /// Walks over characters at the front of a piece, of which the first is `first`, as long as no unit reaches from one to the next,
     /// and that does not begin after `reach`. It answers how many bytes these have, and the character that follows.
+    #[inline(never)]
     fn walk_apart<W: Weights, F: FnMut(u64, u64)>(
         &mut self,
         query: &Query<'_, W>,
@@ -392,6 +393,37 @@ impl Finder {
             self.walk.has_keys = true;
             return true;
         }
+        self.walk_kept(query, characters, c, start, sink)
+    }
+
+    /// Walks over the items of a character by itself, which stands at a byte offset, and says whether it did: not where it has more
+    /// than three keys.
+    #[inline(never)]
+    fn walk_kept<W: Weights, F: FnMut(u64, u64)>(
+        &mut self,
+        query: &Query<'_, W>,
+        characters: &mut Characters,
+        c: char,
+        start: u64,
+        sink: &mut F,
+    ) -> bool
+        requires pattern_len { self.old.pattern_len ≡ length query.now.pattern.now.keys }
+        requires right { IsRight (W.table query.now.table.now) query.now.pattern.now characters.old }
+        requires callable { F.IsAlwaysCallable sink.old }
+        ensures none { result ≡ false → self.new ≡ self.old }
+        ensures not_called { result ≡ false → sink.new ≡ sink.old }
+        ensures walked { result ≡ true → (ranges : List (ℕ × ℕ)) × FoldsTo (λ f range g. F.step f range.0 range.1 tt g) sink.old ranges sink.new
+            × HasWalkedOn (W.table query.now.table.now) query.now.pattern.now self.old.weigher self.old.walk self.new.weigher self.new.walk
+            (units (W.table query.now.table.now) (points_of start c)) ranges }
+        ensures right { IsRight (W.table query.now.table.now) query.now.pattern.now characters.new }
+        ensures window { self.new.window ≡ self.old.window }
+        ensures reorder { self.new.reorder ≡ self.old.reorder }
+        ensures longest { self.new.longest_key ≡ self.old.longest_key }
+        ensures pattern_len { self.new.pattern_len ≡ self.old.pattern_len }
+        ensures select { self.new.walk.select ≡ self.old.walk.select }
+        ensures callable { F.IsAlwaysCallable sink.new }
+    {
+        laws_of_points();
         let after_variable = self.weigher.after_variable();
         let Some(items) = characters.items_of(query.table, query.pattern, c, after_variable) else {
             return false;
