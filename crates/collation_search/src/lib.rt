@@ -37,8 +37,6 @@ mod search;
 mod select;
 mod state_points;
 mod states;
-#[cfg(test)]
-mod tests;
 mod walk;
 pub mod worked;
 pub mod worked_states;
