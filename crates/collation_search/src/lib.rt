@@ -39,8 +39,6 @@ mod select;
 mod sequences;
 mod state_points;
 mod states;
-#[cfg(test)]
-mod tests;
 mod walk;
 pub mod worked;
 pub mod worked_states;

@@ -95,7 +95,7 @@ fn ask_again(rt: &impl Abort, alloc: Global, select: Select, records: usize) -> 
     save_again(rt, &search, &mut words, &[7])?;
     assert_eq!(rt; words.get(0).copied(), Some(7));
     let state = words.get(1..).expect(rt, "words");
-    assert_eq!(rt; state.len(), 4 * records);
+    assert_eq!(rt; state.len() / 4, records);
     let resumed = resume_again(rt, alloc, query, state)?;
     let mut again = Vec::new(alloc);
     save_again(rt, &resumed, &mut again, &[])?;

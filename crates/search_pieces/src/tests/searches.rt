@@ -73,13 +73,14 @@ fn accents(rt: HostRuntime) -> Result<(), Fail> {
 
 #[test]
 fn letters(rt: HostRuntime) -> Result<(), Fail> {
-    let rows: [Row; 10] = [
+    let rows: [Row; 11] = [
         (THREE, KEPT, "a", b"", &[], None),
         (THREE, KEPT, "aa", b"aaa", &[(0, 2), (1, 3)], None),
         (THREE, KEPT, "aab", b"aabaab", &[(0, 3), (3, 6)], None),
         (THREE, SHIFTED, "ab", b"a - b", &[(0, 5)], None),
         (THREE, KEPT, "ab", b"a - b", &[], None),
         (THREE, SHIFTED, "a", b" a ", &[(1, 2)], None),
+        (THREE, SHIFTED, "aa", b"aaa--", &[(0, 2), (1, 3)], None),
         (THREE, KEPT, "a", b"a\xc2\xad", &[(0, 3)], None),
         (THREE, KEPT, "a", b"aA", &[(0, 1)], None),
         (TWO, KEPT, "a", b"aA", &[(0, 1), (1, 2)], None),
@@ -166,5 +167,16 @@ fn patterns_that_are_refused(rt: HostRuntime) -> Result<(), Fail> {
         let compiled = Pattern::compile(rt.alloc(), &table, pattern, strength, variable);
         assert_eq!(rt; compiled.err().map(|fault| fault.kind), Some(kind));
     }
+    Ok(())
+}
+
+#[test]
+fn prints_a_fault(rt: HostRuntime) -> Result<(), Fail> {
+    let fault = TextFault {
+        kind: TextFault::ILL_FORMED,
+        offset: 3,
+    };
+    let want = "fault 31 at byte 3 of the text";
+    assert_eq!(rt; fault.to_string(rt.alloc())?.as_str(), want);
     Ok(())
 }
