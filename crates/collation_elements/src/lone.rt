@@ -1,8 +1,12 @@
 //! The items of a unit of one starter, wherever it stands: what is kept of a character so that its table is not asked again.
-ghost use Rattle.std.specs.Prelude.{◌≡◌, ◌<◌, map, IfSome};
+ghost use Rattle.std.specs.Prelude.{◌≡◌, ◌<◌, ◌∷◌, List, [], length, map, IfSome, IfNone};
 ghost use Rattle.std.specs.Option.{option_to_list};
+ghost use Rattle.nfd_points.specs.Points.{ascii_point};
 ghost use Rattle.collation_elements.specs.declared.keys.Item.{Item};
+ghost use Rattle.collation_elements.specs.declared.keys.Key.{Key};
 ghost use Rattle.collation_elements.specs.Elements.{begins_primary};
+ghost use Rattle.collation_elements.specs.Items.{unit_items};
+ghost use Rattle.collation_elements.specs.ItemParts.{item_keys};
 ghost use Rattle.collation_elements.specs.Lone.{AreItemsOf};
 
 use crate::keys::{Item, Key};
@@ -27,7 +31,9 @@ impl LoneItems {
     /// The items of the unit of the starter `cp` alone, which this weigher weighs next; `None` where it has more than one key.
     pub fn new<W: Weights>(table: &W, mut weigher: Weigher, cp: u32) -> Option<LoneItems>
         requires { cp < 0x110000 }
-        ensures { IfSome result (λ lone. AreItemsOf (W.table table.now) weigher cp lone) }
+        ensures items { IfSome result (λ lone. AreItemsOf (W.table table.now) weigher cp lone) }
+        ensures none { let all = unit_items (W.table table.now) weigher.strength weigher.variable weigher.after_variable (ascii_point 0 cp ∷ []) in
+            IfNone result (1 < length (item_keys all)) }
     {
         let point = Point {
             cp,
@@ -49,7 +55,8 @@ impl LoneItems {
 
 /// The one key that these items are, or that there is none; `None` where there are more.
 fn only_key(items: &[Item]) -> Option<Option<Key>>
-    ensures { IfSome result (λ key. items.now ≡ map (λ k. Item.Element k) (option_to_list key)) }
+    ensures key { IfSome result (λ key. items.now ≡ map (λ k. Item.Element k) (option_to_list key)) }
+    ensures none { IfNone result ((keys : List Key) → items.now ≡ map (λ k. Item.Element k) keys → 1 < length keys) }
 {
     match *items {
         [] => Some(None),

@@ -9,7 +9,7 @@ returns g c =
       c.begins_longer_string.ensures,
       c.continues_string.ensures,
       kept_items table pattern c.args.c false c.strength-strength.result c.variable-variable.result c.restore.result c.new.result
-          c.strength-strength.ensures c.variable-variable.ensures c.restore.ensures c.new.ensures,
+          c.strength-strength.ensures c.variable-variable.ensures c.restore.ensures c.new.ensures.items,
       kept_items table pattern c.args.c true c.strength-strength.result c.variable-variable.result c.restore-2.result c.new-2.result
-          c.strength-strength.ensures c.variable-variable.ensures c.restore-2.ensures c.new-2.ensures,
+          c.strength-strength.ensures c.variable-variable.ensures c.restore-2.ensures c.new-2.ensures.items,
     )
