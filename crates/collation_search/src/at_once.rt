@@ -24,7 +24,7 @@ fn reach<W: Weights>(query: &Query<'_, W>, characters: &mut Characters, piece: &
     let mut left = query.longest_key.max(2);
     while at > 0 && left > 0 {
         at -= 1;
-        if begins_with_starter(query, characters, &piece[at..]) {
+        if starter_comes_first(query, characters, &piece[at..]) {
             left -= 1;
         }
     }
@@ -32,7 +32,7 @@ fn reach<W: Weights>(query: &Query<'_, W>, characters: &mut Characters, piece: &
 }
 
 /// Whether a character that begins with a starter stands at the front of some bytes.
-fn begins_with_starter<W: Weights>(
+fn starter_comes_first<W: Weights>(
     query: &Query<'_, W>,
     characters: &mut Characters,
     bytes: &[u8],
