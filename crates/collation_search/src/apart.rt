@@ -55,7 +55,7 @@ fn is_next(unit: &CharacterUnit, following: &CharacterUnit) -> bool
     following.begins_with_starter && (unit.is_alone || following.begins_apart)
 }
 
-/// The character that follows `c` at the front of a piece, if no unit reaches to it.
+/// The character that follows `c`, or its marks, at the front of a piece; `None` where a unit may reach to it from `c`.
 fn next_apart<W: Weights>(
     query: &Query<'_, W>,
     characters: &mut Characters,
@@ -87,7 +87,7 @@ fn next_apart<W: Weights>(
 }
 
 /// Whether the character `first` at the front of a piece can be taken so: no unit reaches to it, the next one does not begin after
-/// `reach`, and no unit reaches from it or from the two that follow to the next one. For fewer it is not worth while.
+/// `reach`, and no unit is seen to reach from it or from the two that follow to the next one. For fewer it is not worth while.
 fn can_begin<W: Weights>(
     query: &Query<'_, W>,
     characters: &mut Characters,
@@ -284,8 +284,8 @@ impl Finder {
         (at, c)
     }
 
-    /// Whether a character that starts at a byte offset is passed by: it is one that may be, and no key of the pattern waits. The cluster at the beginning of a
-    /// text has begun before its first character.
+    /// Whether a character that starts at a byte offset is passed by: it is one that may be, and no key of the pattern waits. The
+    /// cluster at the beginning of a text has begun before its first character.
     #[inline(always)]
     fn may_pass(&self, unit: &CharacterUnit, start: u64) -> bool
         ensures passed { result ≡ true → unit.now.is_passed ≡ true }
@@ -296,7 +296,8 @@ impl Finder {
         unit.is_passed && self.walk.state == 0 && start > 0 && !self.weigher.after_variable()
     }
 
-    /// Walks over the character `c` at the front of a piece, which stands at a byte offset, if no unit reaches from it to the next one.
+    /// Walks over the character `c` at the front of a piece, which stands at a byte offset, with the marks behind it, if no unit
+    /// reaches from them to the next one.
     #[inline(always)]
     fn walk_some<W: Weights, F: FnMut(u64, u64)>(
         &mut self,

@@ -1,4 +1,5 @@
 //! A character with the one or two marks behind it (a combining character sequence, the Unicode Standard, D56) that is taken at once.
+//! A mark is here a character whose decomposition begins with a non-starter.
 ghost use Rattle.std.specs.Prelude.{◌≡◌, ◌+◌, ◌<◌, ◌≤◌, ◌++◌, All, true, IfSome};
 ghost use Rattle.arrayvec.specs.ArrayVec.{array_vec_len};
 ghost use Rattle.nfd_points.specs.declared.limits.TheConstants.{MOST_DECOMPOSITION};
@@ -25,14 +26,18 @@ const MOST_SEQUENCE_POINTS: usize = 3 * MOST_DECOMPOSITION;
 /// A character and the one or two marks behind it.
 #[derive(Clone, Copy, PartialEq, Eq)]
 pub(crate) struct CombiningSequence {
+    /// The character before the marks.
     pub(crate) base: char,
+    /// The first mark.
     pub(crate) mark: char,
+    /// The second mark, if there is one.
     pub(crate) other: Option<char>,
 }
 
 /// The items of a sequence's units. There are none where its points are not in canonical order.
 #[derive(Clone, Copy)]
 pub(crate) struct KeptSequence {
+    /// The sequence whose items these are.
     pub(crate) sequence: CombiningSequence,
     /// Those where the last element that was variable or primary was not variable, if there are three keys at most.
     pub(crate) items: Option<CharacterItems>,

@@ -16,8 +16,8 @@ use collation_table::Weights;
 use nfd_points::laws::{laws_of_decompositions, laws_of_faults, laws_of_ordering, laws_of_points};
 use utf8_cut::first_character;
 
-/// The combining character sequence at the front of a piece, which begins with `base` and `mark`, and how many bytes it has, with the
-/// character that follows; `None` where it has more than two marks, or the piece ends with it.
+/// The combining character sequence at the front of a piece, which begins with `base` and `mark` and has two marks at most, and how
+/// many bytes it has, with the character that follows, which may be a third mark; `None` where no whole character follows.
 pub(crate) fn read_sequence<W: Weights>(
     query: &Query<'_, W>,
     characters: &mut Characters,
