@@ -1,5 +1,5 @@
 // The character at the front of a slice.
-ghost use Rattle.std.specs.Prelude.{◌≡◌, ◌≤◌, [], ◌∷◌, length, take, IsTrue, IfSome, IfNone};
+ghost use Rattle.std.specs.Prelude.{◌≡◌, ◌<◌, ◌≤◌, [], ◌∷◌, length, take, IsTrue, IfSome, IfNone};
 ghost use Rattle.std.specs.Char.{len_utf8};
 ghost use Rattle.std.specs.Str.{StartsWithNoChar};
 ghost use Rattle.utf8_cut.specs.Characters.{is_incomplete_sequence};
@@ -17,12 +17,23 @@ pub fn first_character(bytes: &[u8]) -> Option<char>
 {
     match bytes {
         [] => None,
+        // ASCII is told first, by a comparison that most texts make predictable
+        [first, ..] if *first < 0x80 => Some(of_ascii(*first)),
         [first, later @ ..] => match of_one(*first) {
             Form::WellFormed(c) => Some(c),
             Form::Incomplete => after_one(*first, later),
             Form::IllFormed => None,
         },
     }
+}
+
+/// The character of a byte of ASCII.
+#[inline(always)]
+fn of_ascii(first: u8) -> char
+    requires { first < 0x80 }
+    ensures { SpellsCharacter (first ∷ []) result }
+{
+    char::from(first)
 }
 
 /// The character of this first byte and the later ones.

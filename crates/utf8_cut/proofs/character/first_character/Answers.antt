@@ -13,3 +13,6 @@ returns-in-WellFormed-clause-some c = first_whole [] c.args.bytes.now _ c.in-len
 
 pub returns-in-IllFormed-clause-none : goal.returns-in-IllFormed-clause-none
 returns-in-IllFormed-clause-none c = first_ill [] c.args.bytes.now c.in-len1-up.len_at_least c.in-IllFormed.ensures
+
+pub returns-in-len1-up-clause-some : goal.returns-in-len1-up-clause-some
+returns-in-len1-up-clause-some c = first_whole [] c.args.bytes.now _ c.in-len1-up.len_at_least c.of_ascii.ensures
