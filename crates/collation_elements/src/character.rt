@@ -1,4 +1,5 @@
-//! The items of one character's points, wherever they stand: what is kept of a character so that its table is not asked again.
+//! The items of points by themselves, wherever they stand: what is kept of a character, or of a base character with its marks, so
+//! that the table is not asked again.
 ghost use Rattle.std.specs.Prelude.{◌≡◌, ◌+◌, ◌<◌, ◌≤◌, ◌∷◌, ◌++◌, List, [], Bool, true, false, length, map, All, IfSome, OnSome, IfNone, if◌then◌else◌, drop};
 ghost use Rattle.std.specs.Option.{option_to_list};
 ghost use Rattle.nfd_points.specs.Reordering.{IsSoundPoint};
@@ -21,7 +22,7 @@ use nfd_points::Point;
 /// The start of a cluster, and as many keys as `CharacterItems` has room for.
 const MOST_CHARACTER_ITEMS: usize = 4;
 
-/// The items of one character's units, where it is known that no unit reaches into or out of it. There are three keys at most.
+/// The items of the units of some points, where it is known that no unit reaches into or out of these. There are three keys at most.
 #[derive(Clone, Copy, Debug, PartialEq, Eq)]
 pub struct CharacterItems {
     /// Whether it begins a cluster.
@@ -37,8 +38,9 @@ pub struct CharacterItems {
 }
 
 impl CharacterItems {
-    /// The items of these points by themselves, which this weigher weighs next; `None` where they have more than three keys. The
-    /// points go through the window, which is then as it was. Their offsets are those from the start of the character, so 0.
+    /// The items of these points by themselves, which this weigher weighs next; `None` where they have more than three keys, or a
+    /// cluster begins after the first of them. The points go through the window, which is then as it was. Their offsets are counted in
+    /// bytes from the start of the first character.
     pub fn of_points<W: Weights>(
         table: &W,
         window: &mut Window,

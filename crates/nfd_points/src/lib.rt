@@ -8,6 +8,7 @@
 pub use crate::character::points_of_character;
 pub use crate::faults::PointFault;
 pub use crate::limits::{MOST_DECOMPOSITION, MOST_GIVEN, MOST_WAITING};
+pub use crate::ordering::are_in_order;
 pub use crate::points::Point;
 pub use crate::reordering::Reorder;
 
@@ -16,6 +17,7 @@ mod decomposing;
 mod faults;
 pub mod laws;
 mod limits;
+mod ordering;
 mod points;
 mod reordering;
 #[cfg(test)]

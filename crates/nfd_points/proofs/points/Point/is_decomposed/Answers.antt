@@ -1,5 +1,5 @@
 -- The parts are the code point's NFD.
-use Rattle.std.proofs.Common.{◌∷◌, [], ◌∙◌, sym, ap₂, bytes_eq}
+use Rattle.std.proofs.Common.{◌∙◌, sym, ap₂, bytes_eq}
 use Rattle.nfd_points.proofs.DecompositionLemmas.{decomposition-decompose}
 use Rattle.nfd_points.proofs.points.Point.is_decomposed.Goals as goal
 
