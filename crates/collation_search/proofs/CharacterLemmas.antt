@@ -2,9 +2,10 @@
 use Rattle.std.specs.Char.{len_utf8, encode_utf8}
 use Rattle.std.specs.Str.{chars, IsUtf8}
 use Rattle.std.specs.List.{All}
-use Rattle.std.proofs.Common.{◌≡◌, ◌∙◌, ◌⊎◌, ℕ, ◌+◌, ◌≤◌, ◌<◌, Bool, true, false, List, [], ◌∷◌, ◌++◌, length, map, take, drop, inl, inr, sym, ap, ap₂, subst, arith, append_assoc}
+use Rattle.std.proofs.Common.{◌≡◌, ◌∙◌, ◌⊎◌, ℕ, ◌+◌, ◌≤◌, ◌<◌, Bool, true, false, List, [], ◌∷◌, ◌++◌, length, map, take, drop, get_or, inl, inr, refl, sym, ap, ap₂, subst, arith, append_assoc}
 use Rattle.std.proofs.Math.Seq.{take-add}
 use Rattle.std.proofs.lemmas.List.{append-nil, length-take-le, map-append, drop-drop}
+use Rattle.std.proofs.lemmas.List.Elements.{All-head}
 use Rattle.std.proofs.lemmas.Str.{IsUtf8-append, IsUtf8-encode, chars-append, encodes-chars, chars_from_encodes}
 use Rattle.utf8_cut.specs.Sequences.{SpellsCharacter}
 use Rattle.nfd_points.specs.declared.points.Point.{Point}
@@ -22,15 +23,18 @@ use Rattle.collation_elements.specs.CharacterItems.{AreItemsOfPoints, character_
 use Rattle.collation_elements.specs.Items.{items}
 use Rattle.collation_elements.specs.Weighing.{weigher, after_units, WeigherStandsFor}
 use Rattle.collation_elements.specs.Units.{units}
+use Rattle.collation_pattern.specs.Border.{border}
 use Rattle.collation_pattern.specs.Compiled.{Compiled}
 use Rattle.collation_search.specs.declared.characters.CharacterUnit.{CharacterUnit}
+use Rattle.circular_buffer.specs.Buffer.{Buffer, keep_last}
 use Rattle.collation_search.specs.declared.walk.Walk.{Walk}
+use Rattle.collation_search.specs.declared.walk.KeyPlace.{KeyPlace}
 use Rattle.collation_search.specs.Apart.{IsNext, HasWalked, HasWalkedOn}
-use Rattle.collation_search.specs.Characters.{IsCharacterUnit, IsPassedBy, units_alone, keys_alone}
+use Rattle.collation_search.specs.Characters.{IsCharacterUnit, IsPassedBy, IsStep, units_alone, keys_alone}
 use Rattle.collation_search.specs.Walks.{WalksOver}
 use Rattle.collation_search.proofs.ApartLaws.{Laws}
 use Rattle.collation_search.proofs.ApartLemmas.{next_of_one, from_one}
-use Rattle.collation_search.proofs.PassedLemmas.{walks-passed}
+use Rattle.collation_search.proofs.PassedLemmas.{walks-passed, walks-step}
 use Rattle.collation_search.proofs.TextCheckLemmas.{byte_len_encoded}
 
 -- ---- two characters
@@ -78,8 +82,22 @@ one_char bytes c h =
     let text : IsUtf8 bytes = subst IsUtf8 (sym h.1) (IsUtf8-encode c h.0) in
     (text, sym (chars_from_encodes (c ∷ []) bytes text (append-nil (encode_utf8 c) ∙ sym h.1)))
 
+-- the first bytes of a piece are a character
+pub one_taken : (piece : List ℕ) (n c : ℕ) → n ≡ len_utf8 c → SpellsCharacter (take (len_utf8 c) piece) c → IsUtf8 (take n piece) × (chars (take n piece) ≡ c ∷ [])
+one_taken piece n c len spelled = subst (λ k. IsUtf8 (take k piece) × (chars (take k piece) ≡ c ∷ [])) (sym len) (one_char (take (len_utf8 c) piece) c spelled)
+
 pub chars-len : (piece : List ℕ) (at : ℕ) → at ≤ length piece → IsUtf8 (take at piece) → byte_len (chars (take at piece)) ≡ at
 chars-len piece at within text = byte_len_encoded (chars (take at piece)) ∙ ap length (encodes-chars (take at piece) text) ∙ length-take-le at piece within
+
+-- characters that begin with this one, and are not none, do so without the one that follows
+pub first_of_some : (piece : List ℕ) (at next c : ℕ) → at ≤ length piece → 1 ≤ at → IsUtf8 (take at piece) → ((others : List ℕ) × (chars (take at piece) ++ next ∷ [] ≡ c ∷ others)) →
+    (others : List ℕ) × (chars (take at piece) ≡ c ∷ others)
+unfolding byte_len
+first_of_some piece at next c within some text begun = first (chars (take at piece)) (chars-len piece at within text) begun
+  where
+    first : (cs : List ℕ) → byte_len cs ≡ at → ((others : List ℕ) × (cs ++ next ∷ [] ≡ c ∷ others)) → (others : List ℕ) × (cs ≡ c ∷ others)
+    first [] len begun = absurd (omega (arith, len, some))
+    first (x ∷ xs) len begun = (xs, ap (λ y. y ∷ xs) (ap (λ (t : List ℕ). get_or t 0 0) begun.1))
 
 pub spells-after : (piece : List ℕ) (at n next : ℕ) → SpellsCharacter (take (len_utf8 next) (drop n (drop at piece))) next → SpellsCharacter (take (len_utf8 next) (drop (at + n) piece)) next
 spells-after piece at n next h = subst (λ (bs : List ℕ). SpellsCharacter (take (len_utf8 next) bs) next) (drop-drop n at piece) h
@@ -108,23 +126,55 @@ points-shifted law start c = sym (from_one start c) ∙ points_are_shifted law s
 same-settings : (pattern : Compiled) (w : Weigher) → w.strength ≡ pattern.strength → w.variable ≡ pattern.variable → weigher pattern.strength pattern.variable w.after_variable ≡ w
 same-settings pattern w strength variable = ap₂ (λ (s : Strength) (v : Variable). weigher s v w.after_variable) (sym strength) (sym variable)
 
--- a character that is passed by
-pub passed-on : PointsAreShifted → GoesOnLaw → (table : TableMap) (pattern : Compiled) (w : Weigher) (walk : Walk) (start c : ℕ) → IsPassedBy table pattern c → w.after_variable ≡ false →
-    walk.state ≡ 0 → 1 ≤ length pattern.keys → 0 < start → HasWalkedOn table pattern w walk w (record walk { start = start; has_keys = true }) (units table (points_of start c)) []
-passed-on shift law table pattern w walk start c p none waits some_key after = λ before ranges h.
+-- points that are passed by, from an offset on
+pub passed-on : GoesOnLaw → (table : TableMap) (pattern : Compiled) (w : Weigher) (walk : Walk) (start : ℕ) (ps here : List Point) → here ≡ map (shifted start) ps → IsPassedBy table pattern ps →
+    w.after_variable ≡ false → walk.state ≡ 0 → 1 ≤ length pattern.keys → 0 < start → HasWalkedOn table pattern w walk w (record walk { start = start; has_keys = true }) (units table here) []
+passed-on law table pattern w walk start ps here same p none waits some_key after = λ before ranges h.
     let later : Walk = record walk { start = start; has_keys = true } in
-    let keys = keys_alone table pattern c in
+    let keys = keys_alone table pattern ps in
     let given : List Item = ClusterStart start ∷ map (λ key. Element key) keys in
-    let us = units_alone table start c in
+    let us = units_alone table start ps in
     let gives : items table w.strength w.variable w.after_variable us ≡ given =
     ap₂ (λ (s : Strength) (v : Variable). items table s v w.after_variable us) h.strength h.variable ∙ ap (λ b. items table pattern.strength pattern.variable b us) none ∙ p.items start in
     let leaves : after_units table w.variable w.after_variable us ≡ w.after_variable =
     ap₂ (λ (v : Variable) (b : Bool). after_units table v b us) h.variable none ∙ p.after start ∙ sym none in
-    subst (λ (ps : List Point). HasWalked table pattern w later (before ++ units table ps) (ranges ++ [])) (sym (points-shifted shift start c))
+    subst (λ (qs : List Point). HasWalked table pattern w later (before ++ units table qs) (ranges ++ [])) (sym same)
     (record {
       items = h.items ++ given;
       weighed = law table w before us h.items given w.after_variable gives leaves h.weighed;
       walked = walks-passed pattern.keys h.items ranges walk start keys h.walked waits some_key after p.some_key p.stays;
+      strength = h.strength;
+      variable = h.variable;
+    })
+
+only_one : (ks : List Key) → length ks ≡ 1 → (k : Key) × (ks ≡ k ∷ [])
+only_one [] one = absurd (omega (arith, one))
+only_one (k ∷ []) one = (k, refl)
+only_one (k ∷ l ∷ ks) one = absurd (omega (arith, one))
+
+-- a character with one key, from an offset on
+pub step-on : PointsAreShifted → GoesOnLaw → (table : TableMap) (pattern : Compiled) (w : Weigher) (walk : Walk) (start c after : ℕ) → IsStep table pattern walk.state c after → w.after_variable ≡ false → 0 < start →
+    HasWalkedOn table pattern w walk w
+    (record walk { start = start; has_keys = true; state = after; places = record { items = keep_last walk.places.capacity (walk.places.items ++ (record { start = start; is_first = true }) ∷ []); capacity = walk.places.capacity } })
+    (units table (points_of start c)) []
+step-on shift law table pattern w walk start c after step none later = λ before ranges h.
+    let places : Buffer KeyPlace = record { items = keep_last walk.places.capacity (walk.places.items ++ (record { start = start; is_first = true }) ∷ []); capacity = walk.places.capacity } in
+    let keyed : Walk = record walk { start = start; has_keys = true; state = after; places = places } in
+    let one = only_one (keys_alone table pattern (points_of 0 c)) step.one_key in
+    let key = one.0 in
+    let given : List Item = ClusterStart start ∷ Element key ∷ [] in
+    let us = units_alone table start (points_of 0 c) in
+    let P : Key → Type 0 = λ k. (ks : List Key) → border pattern.keys ks ≡ walk.state → border pattern.keys (ks ++ k ∷ []) ≡ after in
+    let gives : items table w.strength w.variable w.after_variable us ≡ given =
+    ap₂ (λ (s : Strength) (v : Variable). items table s v w.after_variable us) h.strength h.variable ∙ ap (λ b. items table pattern.strength pattern.variable b us) none
+    ∙ step.items start ∙ ap (λ (ks : List Key). ClusterStart start ∷ map (λ k. Element k) ks) one.1 in
+    let leaves : after_units table w.variable w.after_variable us ≡ w.after_variable =
+    ap₂ (λ (v : Variable) (b : Bool). after_units table v b us) h.variable none ∙ step.flag start ∙ sym none in
+    subst (λ (qs : List Point). HasWalked table pattern w keyed (before ++ units table qs) (ranges ++ [])) (sym (points-shifted shift start c))
+    (record {
+      items = h.items ++ given;
+      weighed = law table w before us h.items given w.after_variable gives leaves h.weighed;
+      walked = walks-step pattern.keys h.items ranges walk start after key h.walked step.some later (All-head P key [] (subst (λ (ks : List Key). All P ks) one.1 step.waits));
       strength = h.strength;
       variable = h.variable;
     })

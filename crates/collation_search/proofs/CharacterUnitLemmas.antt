@@ -50,24 +50,24 @@ kept_from table w ps qs kept points is = λ it at.
     subst (λ (ps' : List Point). AreItemsOfPoints table w ps' it) points
     (subst (λ (o : Option CharacterItems). IfSome o (λ i. AreItemsOfPoints table w ps i)) at is)
 
--- ---- a character that is passed by
+-- ---- points that are passed by
 
 item_keys-map : (ks : List Key) → item_keys (map (λ key. Element key) ks) ≡ ks
 item_keys-map [] = refl
 item_keys-map (k ∷ ks) = ap (λ (rest : List Key). k ∷ rest) (item_keys-map ks)
 
-pub passed_if : (table : TableMap) (pattern : Compiled) (c : ℕ) (it : CharacterItems) → AreItemsOfPoints table (weigher pattern.strength pattern.variable false) (points_of 0 c) it →
-    it.begins_cluster ≡ true → it.after_variable ≡ false → 1 ≤ length (character_keys it) → All (Stays pattern.keys) (character_keys it) → IsPassedBy table pattern c
-passed_if table pattern c it is begins after some stay =
+pub passed_if : (table : TableMap) (pattern : Compiled) (ps : List Point) (it : CharacterItems) → AreItemsOfPoints table (weigher pattern.strength pattern.variable false) ps it →
+    it.begins_cluster ≡ true → it.after_variable ≡ false → 1 ≤ length (character_keys it) → All (Stays pattern.keys) (character_keys it) → IsPassedBy table pattern ps
+passed_if table pattern ps it is begins after some stay =
     let keys = character_keys it in
     let given : (start : ℕ) → character_items it start ≡ ClusterStart start ∷ map (λ key. Element key) keys = λ start.
     ap (λ b. cond b (ClusterStart start ∷ []) [] ++ map (λ key. Element key) keys) begins in
-    let same : keys_alone table pattern c ≡ keys = ap item_keys (is.0 0 ∙ given 0) ∙ item_keys-map keys in
+    let same : keys_alone table pattern ps ≡ keys = ap item_keys (is.0 0 ∙ given 0) ∙ item_keys-map keys in
     record {
       items = λ start. is.0 start ∙ given start ∙ ap (λ (ks : List Key). ClusterStart start ∷ map (λ key. Element key) ks) (sym same);
       after = λ start. is.1 start ∙ after;
       some_key = subst (λ (ks : List Key). 1 ≤ length ks) (sym same) some;
-      stays = All-same (Stays pattern.keys) (keys_alone table pattern c) keys same stay;
+      stays = All-same (Stays pattern.keys) (keys_alone table pattern ps) keys same stay;
     }
 
 pub some_first : (it : CharacterItems) (key : Key) → it.first ≡ Some key → 1 ≤ length (character_keys it)

@@ -1,12 +1,12 @@
--- Combining character sequences: whether points are in canonical order, the points of the characters in turn, and their items.
+-- Combining character sequences: the points of the characters in turn, and their items.
 use Rattle.std.specs.Char.{len_utf8}
 use Rattle.std.specs.List.{All}
 use Rattle.std.specs.Option.{ForSome, IfSome, option_to_list}
-use Rattle.std.proofs.Common.{◌≡◌, ◌∙◌, ℕ, ◌+◌, ◌-◌, ◌≤◌, ◌<◌, true, false, not, ◌&&◌, Option, Some, None, List, [], ◌∷◌, ◌++◌, length, take, drop, slice_index_or, refl, sym, ap, ap₂, arith, append_assoc}
-use Rattle.std.proofs.lemmas.List.{append-nil, take_all}
+use Rattle.std.proofs.Common.{◌≡◌, ◌∙◌, ℕ, ◌+◌, Option, Some, None, List, [], ◌∷◌, ◌++◌, sym, ap, ap₂, arith, append_assoc}
+use Rattle.std.proofs.lemmas.List.{append-nil}
 use Rattle.std.proofs.lemmas.List.Elements.{All-nil, All-same}
 use Rattle.nfd_points.specs.declared.points.Point.{Point}
-use Rattle.nfd_points.specs.Points.{points_of, points_from, is_reorderable, is_in_order, ordered}
+use Rattle.nfd_points.specs.Points.{points_of, points_from, ordered}
 use Rattle.nfd_points.specs.Reordering.{IsSoundPoint}
 use Rattle.collation_table.specs.Table.{TableMap}
 use Rattle.collation_elements.specs.declared.character.CharacterItems.{CharacterItems}
@@ -14,24 +14,6 @@ use Rattle.collation_elements.specs.declared.weigher.Weigher.{Weigher}
 use Rattle.collation_elements.specs.CharacterItems.{AreItemsOfPoints}
 use Rattle.collation_search.specs.Characters.{AreItemsOfCharacters}
 use Rattle.collation_search.proofs.CharacterUnitLemmas.{kept_from}
-
--- ---- canonical order
-
-pub in_order-few : (ps : List Point) → length ps < 2 → is_in_order ps ≡ true
-unfolding is_in_order
-in_order-few [] few = refl
-in_order-few (p ∷ []) few = refl
-in_order-few (p ∷ q ∷ qs) few = absurd (omega (arith, few))
-
--- the first two are in order, and so are all but the first
-pub in_order-more : (d e : Point) (n : ℕ) (ps : List Point) → 2 ≤ length ps → n ≡ length ps - 1 → is_reorderable (slice_index_or ps 0 d) (slice_index_or ps 1 e) ≡ false →
-    is_in_order (take n (drop 1 ps)) ≡ true → is_in_order ps ≡ true
-unfolding is_in_order
-in_order-more d e n [] some size first rest = absurd (omega (arith, some))
-in_order-more d e n (p ∷ []) some size first rest = absurd (omega (arith, some))
-in_order-more d e n (p ∷ q ∷ qs) some size first rest =
-    let whole : take n (q ∷ qs) ≡ q ∷ qs = take_all n (q ∷ qs) (omega (arith, size)) in
-    ap₂ (λ a b. not a && b) first (ap is_in_order (sym whole) ∙ rest)
 
 -- ---- the points of a sequence's characters
 

@@ -43,6 +43,7 @@ pub mod AsciiUnitLemmas
 pub mod LoneLemmas
 pub mod RunWindowLemmas
 pub mod PassedLemmas
+mod PassingLemmas
 pub mod ApartLaws
 pub mod ApartLemmas
 pub mod PauseLemmas

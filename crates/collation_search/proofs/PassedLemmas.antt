@@ -40,7 +40,7 @@ none_kept n xs none =
     let all : length xs - n ≡ length xs = omega (arith, none) in ap (λ i. drop i xs) all ∙ drop-length xs
 
 -- where no key waits, it is of no account which places the walk has
-walks-at_none : (pattern : List Key) (items : List Item) (ranges : List (ℕ × ℕ)) (v : Walk) (places : Buffer KeyPlace) → WalksOver pattern items ranges v → v.state ≡ 0 →
+pub walks-at_none : (pattern : List Key) (items : List Item) (ranges : List (ℕ × ℕ)) (v : Walk) (places : Buffer KeyPlace) → WalksOver pattern items ranges v → v.state ≡ 0 →
     places.capacity ≡ length pattern → length places.items ≤ length pattern → WalksOver pattern items ranges (record v { places = places })
 walks-at_none pattern items ranges v places h none capacity few =
     record {
@@ -72,6 +72,27 @@ walks-stay pattern items ranges w (k ∷ ks) h none some stay =
     subst (λ (rs : List (ℕ × ℕ)). WalksOver pattern (items ++ Element k ∷ []) rs w) (append-nil ranges) here in
     subst (λ (is : List Item). WalksOver pattern is ranges w) (append_assoc items (Element k ∷ []) (map (λ key. Element key) ks))
     (walks-stay pattern (items ++ Element k ∷ []) ranges w ks there none some (All-tail (Stays pattern) k ks stay))
+
+-- the start of a cluster and a key, where not all keys of the pattern wait
+pub walks-step : (pattern : List Key) (items : List Item) (ranges : List (ℕ × ℕ)) (w : Walk) (s after : ℕ) (k : Key) → WalksOver pattern items ranges w → w.state < length pattern → 0 < s →
+    ((ks : List Key) → border pattern ks ≡ w.state → border pattern (ks ++ k ∷ []) ≡ after) →
+    WalksOver pattern (items ++ (ClusterStart s ∷ Element k ∷ [])) (ranges ++ [])
+    (record w { start = s; has_keys = true; state = after; places = record { items = keep_last w.places.capacity (w.places.items ++ (record { start = s; is_first = true }) ∷ []); capacity = w.places.capacity } })
+walks-step pattern items ranges w s after k h short later waits =
+    let begun : Walk = record w { start = s; has_keys = false } in
+    let ended = walks-end_short pattern items ranges w s (λ e. omega (arith, e, short)) h in
+    let nothing = selected_after-nil w.select w.last_end in
+    let handed = ap (λ (rs : List (ℕ × ℕ)). ranges ++ rs) (sym nothing) ∙ walks-select pattern items ranges [] w s h ended in
+    let first : WalksOver pattern (items ++ ClusterStart s ∷ []) (ranges ++ []) begun =
+    walks-start pattern items ranges [] s w begun h (ne_eqb s 0 (λ e. omega (arith, e, later))) refl refl refl refl refl
+    (h.last_end ∙ sym (ap (remembered w.select) (append-nil ranges))) handed in
+    let place : KeyPlace = record { start = s; is_first = true } in
+    let more : Buffer KeyPlace = record { items = keep_last w.places.capacity (w.places.items ++ place ∷ []); capacity = w.places.capacity } in
+    let keyed : Walk = record w { start = s; has_keys = true; state = after; places = more } in
+    let second : WalksOver pattern ((items ++ ClusterStart s ∷ []) ++ Element k ∷ []) ((ranges ++ []) ++ []) keyed =
+    walks-key pattern (items ++ ClusterStart s ∷ []) (ranges ++ []) k begun keyed first refl refl (λ ls e. sym (waits ls e)) refl refl refl refl in
+    subst (λ (rs : List (ℕ × ℕ)). WalksOver pattern (items ++ (ClusterStart s ∷ Element k ∷ [])) rs keyed) (append-nil (ranges ++ []))
+    (subst (λ (is : List Item). WalksOver pattern is ((ranges ++ []) ++ []) keyed) (append_assoc items (ClusterStart s ∷ []) (Element k ∷ [])) second)
 
 pub walks-passed : (pattern : List Key) (items : List Item) (ranges : List (ℕ × ℕ)) (w : Walk) (s : ℕ) (keys : List Key) → WalksOver pattern items ranges w → w.state ≡ 0 →
     1 ≤ length pattern → 0 < s → 1 ≤ length keys → All (Stays pattern) keys →

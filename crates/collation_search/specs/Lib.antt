@@ -23,3 +23,4 @@ pub mod Lag
 pub mod AsciiUnits
 pub mod Characters
 pub mod Apart
+pub mod Passing

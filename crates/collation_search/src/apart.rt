@@ -43,7 +43,7 @@ pub(crate) struct Walked {
 
 /// Whether no unit reaches from a character to the one that follows it, and that begins with a starter, as far as is known.
 #[inline(always)]
-fn is_next(unit: &CharacterUnit, following: &CharacterUnit) -> bool
+pub(crate) fn is_next(unit: &CharacterUnit, following: &CharacterUnit) -> bool
     ensures { result ≡ true → (table : TableMap) (pattern : Compiled) (at c next : ℕ) → IsCharacterUnit table pattern c unit.now
         → IsCharacterUnit table pattern next following.now → IsNext table at (c ∷ []) next }
 {
@@ -284,20 +284,8 @@ impl Finder {
         (at, c)
     }
 
-    /// Whether a character that starts at a byte offset is passed by: it is one that may be, and no key of the pattern waits. The
-    /// cluster at the beginning of a text has begun before its first character.
-    #[inline(always)]
-    fn may_pass(&self, unit: &CharacterUnit, start: u64) -> bool
-        ensures passed { result ≡ true → unit.now.is_passed ≡ true }
-        ensures state { result ≡ true → self.now.walk.state ≡ 0 }
-        ensures start { result ≡ true → 0 < start }
-        ensures after { result ≡ true → is_after_variable self.now.weigher ≡ false }
-    {
-        unit.is_passed && self.walk.state == 0 && start > 0 && !self.weigher.after_variable()
-    }
-
     /// Walks over the character `c` at the front of a piece, which stands at a byte offset, with the marks behind it, if no unit
-    /// reaches from them to the next one.
+    /// reaches from them to the next one; where they are passed by, over those that follow and are, too.
     #[inline(always)]
     fn walk_some<W: Weights, F: FnMut(u64, u64)>(
         &mut self,
@@ -311,7 +299,9 @@ impl Finder {
         sink: &mut F,
     ) -> Option<Walked>
         requires c { (len_utf8 c ≤ length piece.now) × SpellsCharacter (take (len_utf8 c) piece.now) c }
+        requires begins { begins_with_starter (points_of start c) ≡ true }
         requires unit { IsCharacterUnit (W.table query.now.table.now) query.now.pattern.now c unit }
+        requires fits { start + length piece.now ≤ most_bytes }
         requires pattern_len { self.old.pattern_len ≡ length query.now.pattern.now.keys }
         requires right { IsRight (W.table query.now.table.now) query.now.pattern.now characters.old }
         requires callable { F.IsAlwaysCallable sink.old }
@@ -335,6 +325,9 @@ impl Finder {
         ensures select { self.new.walk.select ≡ self.old.walk.select }
         ensures callable { F.IsAlwaysCallable sink.new }
     {
+        if let Some(passed) = self.pass_by(query, characters, piece, c, unit, reach, start) {
+            return Some(passed);
+        }
         let len = c.len_utf8();
         if len > reach {
             return None;
@@ -347,7 +340,7 @@ impl Finder {
         if !is_next(&unit, &following) {
             return None;
         }
-        if !self.walk_one(query, characters, &unit, c, start, sink) {
+        if !self.walk_kept(query, characters, c, start, sink) {
             return None;
         }
         Some(Walked {
@@ -355,46 +348,6 @@ impl Finder {
             next,
             unit: following,
         })
-    }
-
-    /// Walks over the units of a character by themselves, which stands at a byte offset, and says whether it did: not where it has
-    /// more than three keys.
-    #[inline(always)]
-    fn walk_one<W: Weights, F: FnMut(u64, u64)>(
-        &mut self,
-        query: &Query<'_, W>,
-        characters: &mut Characters,
-        unit: &CharacterUnit,
-        c: char,
-        start: u64,
-        sink: &mut F,
-    ) -> bool
-        requires unit { IsCharacterUnit (W.table query.now.table.now) query.now.pattern.now c unit.now }
-        requires pattern_len { self.old.pattern_len ≡ length query.now.pattern.now.keys }
-        requires right { IsRight (W.table query.now.table.now) query.now.pattern.now characters.old }
-        requires callable { F.IsAlwaysCallable sink.old }
-        ensures none { result ≡ false → self.new ≡ self.old }
-        ensures not_called { result ≡ false → sink.new ≡ sink.old }
-        ensures walked { result ≡ true → (ranges : List (ℕ × ℕ)) × FoldsTo (λ f range g. F.step f range.0 range.1 tt g) sink.old ranges sink.new
-            × HasWalkedOn (W.table query.now.table.now) query.now.pattern.now self.old.weigher self.old.walk self.new.weigher self.new.walk
-            (units (W.table query.now.table.now) (points_of start c)) ranges }
-        ensures right { IsRight (W.table query.now.table.now) query.now.pattern.now characters.new }
-        ensures window { self.new.window ≡ self.old.window }
-        ensures reorder { self.new.reorder ≡ self.old.reorder }
-        ensures longest { self.new.longest_key ≡ self.old.longest_key }
-        ensures pattern_len { self.new.pattern_len ≡ self.old.pattern_len }
-        ensures select { self.new.walk.select ≡ self.old.walk.select }
-        ensures callable { F.IsAlwaysCallable sink.new }
-    {
-        laws_of_points();
-        weighers_go_on();
-        let _some = query.pattern.len();
-        if self.may_pass(unit, start) {
-            self.walk.start = start;
-            self.walk.has_keys = true;
-            return true;
-        }
-        self.walk_kept(query, characters, c, start, sink)
     }
 
     /// Walks over the items of a character by itself, which stands at a byte offset, and says whether it did: not where it has more

@@ -11,7 +11,7 @@ use utf8_cut::{ascii_len, first_character, whole_characters_are_the_longest_text
 const LONG_RUN: usize = 64;
 
 /// So many bytes are taken at most before it is seen again whether a run of ASCII follows.
-const MOST_AT_ONCE: usize = 512;
+const MOST_AT_ONCE: usize = 4_096;
 
 /// How far characters of a piece are taken at once, in bytes: up to one from which on as many characters that begin with a starter
 /// stand in the piece as the longest mapped string has code points. These are left to the steps, so that a search holds at the end

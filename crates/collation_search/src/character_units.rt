@@ -2,13 +2,14 @@
 ghost use Rattle.std.specs.Prelude.{◌≡◌, ℕ, List, [], ◌∷◌, ◌++◌, All, true, false, slice_get};
 ghost use Rattle.std.specs.Option.{ForSome, option_to_list};
 ghost use Rattle.collation_table.specs.Table.{TableMap, BeginsNoLongerString, ContinuesNoString};
+ghost use Rattle.nfd_points.specs.declared.points.Point.{Point as PointValue};
 ghost use Rattle.nfd_points.specs.Points.{begins_with_starter, is_starter, points_of};
 ghost use Rattle.collation_elements.specs.declared.keys.Key.{Key as KeyValue};
 ghost use Rattle.collation_elements.specs.CharacterItems.{AreItemsOfPoints};
 ghost use Rattle.collation_elements.specs.Weighing.{weigher};
 ghost use Rattle.collation_pattern.specs.Border.{border};
 ghost use Rattle.collation_pattern.specs.Compiled.{Compiled};
-ghost use Rattle.collation_search.specs.Characters.{IsCharacterUnit, IsPassedBy};
+ghost use Rattle.collation_search.specs.Characters.{IsCharacterUnit, IsPassedBy, apart_unit};
 
 use crate::characters::CharacterUnit;
 use collation_elements::{CharacterItems, Key};
@@ -19,7 +20,7 @@ use nfd_points::{Point, points_of_character};
 
 /// What the table says of a character.
 pub(crate) fn character_unit<W: Weights>(table: &W, c: char, is_passed: bool) -> CharacterUnit
-    ensures { (pattern : Compiled) → (is_passed ≡ true → IsPassedBy (W.table table.now) pattern c) → IsCharacterUnit (W.table table.now) pattern c result }
+    ensures { (pattern : Compiled) → (is_passed ≡ true → IsPassedBy (W.table table.now) pattern (points_of 0 c)) → IsCharacterUnit (W.table table.now) pattern c result }
 {
     laws_of_points();
     let points = points_of_character(c, 0);
@@ -30,6 +31,13 @@ pub(crate) fn character_unit<W: Weights>(table: &W, c: char, is_passed: bool) ->
         begins_apart: begins_apart(table, points),
         is_passed,
     }
+}
+
+/// Whether a character of which this is known stands in no mapped string after the first place.
+pub(crate) fn is_apart(unit: &CharacterUnit) -> bool
+    ensures { result ≡ true → (table : TableMap) (pattern : Compiled) (c : ℕ) → IsCharacterUnit table pattern c unit.now → IsCharacterUnit table pattern c apart_unit }
+{
+    unit.begins_with_starter && unit.begins_apart
 }
 
 /// Whether points begin with a starter.
@@ -64,10 +72,21 @@ fn begins_apart<W: Weights>(table: &W, points: &[Point]) -> bool
     }
 }
 
-/// Whether a character with these items is passed by where no key of the pattern waits.
-pub(crate) fn is_passed(pattern: &Pattern, items: &CharacterItems) -> bool
-    ensures { result ≡ true → (table : TableMap) (c : ℕ)
-        → AreItemsOfPoints table (weigher pattern.now.strength pattern.now.variable false) (points_of 0 c) items.now → IsPassedBy table pattern.now c }
+/// Whether points with these items, if they have some, are passed by where no key of the pattern waits.
+pub(crate) fn are_passed(pattern: &Pattern, items: &Option<CharacterItems>) -> bool
+    ensures { result ≡ true → (table : TableMap) (points : List PointValue)
+        → ForSome items.now (AreItemsOfPoints table (weigher pattern.now.strength pattern.now.variable false) points) → IsPassedBy table pattern.now points }
+{
+    match items {
+        Some(items) => is_passed(pattern, items),
+        None => false,
+    }
+}
+
+/// Whether points with these items are passed by where no key of the pattern waits.
+fn is_passed(pattern: &Pattern, items: &CharacterItems) -> bool
+    ensures { result ≡ true → (table : TableMap) (points : List PointValue)
+        → AreItemsOfPoints table (weigher pattern.now.strength pattern.now.variable false) points items.now → IsPassedBy table pattern.now points }
 {
     items.begins_cluster
         && !items.after_variable

@@ -2,11 +2,11 @@
 //! places; each place holds what is known of the last one that came there.
 ghost use Rattle.std.specs.Prelude.{◌≡◌, ◌≤◌, [], length, false};
 ghost use Rattle.collation_search.specs.declared.combining.TheConstants.{MOST_SEQUENCE_POINTS, SEQUENCE_PLACES};
-ghost use Rattle.collation_search.specs.declared.characters.TheConstants.{UNIT_PLACES, ITEM_PLACES};
+ghost use Rattle.collation_search.specs.declared.characters.TheConstants.{UNIT_PLACES, ITEM_PLACES, STEPS, NO_STEP};
 
-use crate::character_units::{character_unit, is_passed};
+use crate::character_units::{are_passed, character_unit, is_apart};
 use crate::combining::{KeptSequence, NO_SEQUENCE, SEQUENCE_PLACES};
-use collation_elements::{CharacterItems, Variable, Weigher, Window};
+use collation_elements::{CharacterItems, Key, Variable, Weigher, Window};
 use collation_pattern::Pattern;
 use collation_table::Weights;
 use nfd_points::laws::{laws_of_decompositions, laws_of_points};
@@ -49,6 +49,12 @@ pub(crate) struct KeptItems {
     pub(crate) items_after_variable: Option<CharacterItems>,
 }
 
+/// How many keys of the pattern may wait, at most, where an ASCII character is walked over by its step.
+pub(crate) const STEPS: usize = 4;
+
+/// No step is known.
+pub(crate) const NO_STEP: u8 = 255;
+
 /// Of a place where no character came: nothing is known of this code point, which is none.
 const NO_UNIT: KeptUnit = KeptUnit {
     code_point: 0x11_0000,
@@ -73,6 +79,8 @@ pub(crate) struct Characters {
     pub(crate) units: Vec<KeptUnit>,
     pub(crate) items: Vec<KeptItems>,
     pub(crate) sequences: Vec<KeptSequence>,
+    /// For so many keys that wait, times 256, and an ASCII character, how many wait after it, where that is known.
+    pub(crate) steps: [u8; 1_024],
     /// Room for the points of one character or sequence.
     window: Window,
     ghost unit_places: { length units.items ≡ UNIT_PLACES },
@@ -84,14 +92,14 @@ pub(crate) struct Characters {
 }
 
 impl Characters {
-    ghost use Rattle.std.specs.Prelude.{◌≡◌, ◌≤◌, length, All, IfOk, IfSome, true};
+    ghost use Rattle.std.specs.Prelude.{◌≡◌, ℕ, ◌<◌, ◌≤◌, length, slice_index, All, IfOk, IfSome, true};
     ghost use Rattle.collation_table.specs.Table.{TableMap};
     ghost use Rattle.nfd_points.specs.Points.{points_of};
     ghost use Rattle.nfd_points.specs.Reordering.{IsSoundPoint};
     ghost use Rattle.collation_elements.specs.CharacterItems.{AreItemsOfPoints};
     ghost use Rattle.collation_elements.specs.Weighing.{weigher};
     ghost use Rattle.collation_pattern.specs.Compiled.{Compiled};
-    ghost use Rattle.collation_search.specs.Characters.{IsCharacterUnit, IsPassedBy, AreKeptItems, IsRight};
+    ghost use Rattle.collation_search.specs.Characters.{IsCharacterUnit, IsPassedBy, AreKeptItems, IsOnlyKey, IsStep, IsRight, apart_unit};
 
     /// Nothing is known yet.
     ///
@@ -105,6 +113,7 @@ impl Characters {
             units: vec![in alloc; NO_UNIT; UNIT_PLACES]?,
             items: vec![in alloc; NO_ITEMS; ITEM_PLACES]?,
             sequences: vec![in alloc; NO_SEQUENCE; SEQUENCE_PLACES]?,
+            steps: [NO_STEP; 256 * STEPS],
             window: Window::with_capacity(alloc, table.longest_key())?,
         })
     }
@@ -166,6 +175,30 @@ impl Characters {
         self.find_items(table, pattern, c)
     }
 
+    /// How many keys wait after an ASCII character, where so many waited before it; `NO_STEP` where that is not known.
+    #[inline(always)]
+    pub(crate) fn step(&self, waiting: usize, c: u8) -> u8
+        ensures { result < NO_STEP → (table : TableMap) (pattern : Compiled) → IsRight table pattern self.now → IsStep table pattern waiting c result }
+    {
+        if waiting < STEPS {
+            self.steps[waiting * 256 + c as usize]
+        } else {
+            NO_STEP
+        }
+    }
+
+    /// What is known of a character without asking the table.
+    #[inline(always)]
+    pub(crate) fn known_unit(&self, c: char) -> CharacterUnit
+        ensures { (table : TableMap) (pattern : Compiled) → IsRight table pattern self.now → IsCharacterUnit table pattern c result }
+    {
+        let kept = self.units[c as usize % UNIT_PLACES];
+        if kept.code_point == c as u32 {
+            return kept.unit;
+        }
+        NO_UNIT.unit
+    }
+
     /// Finds out what decides whether a character is taken at once, and keeps it.
     #[inline(never)]
     fn find_unit<W: Weights>(&mut self, table: &W, pattern: &Pattern, c: char) -> CharacterUnit
@@ -179,19 +212,83 @@ impl Characters {
             code_point: c as u32,
             unit,
         };
+        self.keep_steps(table, pattern, c, &unit);
         unit
+    }
+
+    /// Keeps the steps of an ASCII character, where it has some.
+    fn keep_steps<W: Weights>(
+        &mut self,
+        table: &W,
+        pattern: &Pattern,
+        c: char,
+        unit: &CharacterUnit,
+    )
+        requires right { IsRight (W.table table.now) pattern.now self.old }
+        requires unit { IsCharacterUnit (W.table table.now) pattern.now c unit.now }
+        ensures { IsRight (W.table table.now) pattern.now self.new }
+    {
+        if !c.is_ascii() || !is_apart(unit) {
+            return;
+        }
+        let Some(key) = self.only_key(table, pattern, c) else {
+            return;
+        };
+        self.keep_step(table, pattern, c, key, 0);
+        self.keep_step(table, pattern, c, key, 1);
+        self.keep_step(table, pattern, c, key, 2);
+        self.keep_step(table, pattern, c, key, 3);
+    }
+
+    /// The key of a character that begins a cluster and has one key, and is not variable, where no variable one stands before it.
+    fn only_key<W: Weights>(&mut self, table: &W, pattern: &Pattern, c: char) -> Option<Key>
+        requires { IsRight (W.table table.now) pattern.now self.old }
+        ensures right { IsRight (W.table table.now) pattern.now self.new }
+        ensures key { IfSome result (λ key. IsOnlyKey (W.table table.now) pattern.now c key) }
+    {
+        let items = self.items_of(table, pattern, c, false)?;
+        if !items.begins_cluster
+            || items.after_variable
+            || items.second.is_some()
+            || items.third.is_some()
+        {
+            return None;
+        }
+        items.first
+    }
+
+    /// Keeps one step of an ASCII character that has this key alone.
+    fn keep_step<W: Weights>(
+        &mut self,
+        table: &W,
+        pattern: &Pattern,
+        c: char,
+        key: Key,
+        waiting: usize,
+    )
+        requires right { IsRight (W.table table.now) pattern.now self.old }
+        requires low { c < 128 }
+        requires few { waiting < STEPS }
+        requires apart { IsCharacterUnit (W.table table.now) pattern.now c apart_unit }
+        requires key { IsOnlyKey (W.table table.now) pattern.now c key }
+        ensures { IsRight (W.table table.now) pattern.now self.new }
+    {
+        if waiting >= pattern.len() {
+            return;
+        }
+        let after = pattern.advance(waiting, &key);
+        if after < STEPS {
+            self.steps[waiting * 256 + c as usize] = after as u8;
+        }
     }
 
     /// Whether a character is passed by where no key of the pattern waits.
     fn is_passed<W: Weights>(&mut self, table: &W, pattern: &Pattern, c: char) -> bool
         requires { IsRight (W.table table.now) pattern.now self.old }
         ensures right { IsRight (W.table table.now) pattern.now self.new }
-        ensures passed { result ≡ true → IsPassedBy (W.table table.now) pattern.now c }
+        ensures passed { result ≡ true → IsPassedBy (W.table table.now) pattern.now (points_of 0 c) }
     {
-        match self.items_of(table, pattern, c, false) {
-            Some(items) => is_passed(pattern, &items),
-            None => false,
-        }
+        are_passed(pattern, &self.items_of(table, pattern, c, false))
     }
 
     /// Finds out the items of a character, and keeps them.

@@ -3,19 +3,20 @@
 ghost use Rattle.std.specs.Prelude.{◌≡◌, ◌+◌, ◌<◌, ◌≤◌, ◌++◌, All, true, IfSome};
 ghost use Rattle.arrayvec.specs.ArrayVec.{array_vec_len};
 ghost use Rattle.nfd_points.specs.declared.limits.TheConstants.{MOST_DECOMPOSITION};
-ghost use Rattle.nfd_points.specs.Points.{points_of, points_from, is_reorderable, is_in_order};
+ghost use Rattle.nfd_points.specs.Points.{points_of, points_from};
 ghost use Rattle.nfd_points.specs.Reordering.{IsSoundPoint};
 ghost use Rattle.collation_elements.specs.Weighing.{weigher};
-ghost use Rattle.collation_search.specs.Characters.{AreItemsOfCharacters, AreKeptForSequence, IsRight, characters_of};
+ghost use Rattle.collation_search.specs.Characters.{AreItemsOfCharacters, AreKeptForSequence, ArePassedBy, IsRight, characters_of};
 ghost use Rattle.collation_search.specs.declared.combining.TheConstants.{MOST_SEQUENCE_POINTS, SEQUENCE_PLACES};
 
+use crate::character_units::are_passed;
 use crate::characters::Characters;
 use arrayvec::ArrayVec;
 use collation_elements::CharacterItems;
 use collation_pattern::Pattern;
 use collation_table::Weights;
 use nfd_points::laws::laws_of_ordering;
-use nfd_points::{MOST_DECOMPOSITION, Point, points_of_character};
+use nfd_points::{MOST_DECOMPOSITION, Point, are_in_order, points_of_character};
 
 /// How many places there are for the items of combining character sequences.
 pub(crate) const SEQUENCE_PLACES: usize = 1_024;
@@ -43,6 +44,8 @@ pub(crate) struct KeptSequence {
     pub(crate) items: Option<CharacterItems>,
     /// And where it was variable.
     pub(crate) items_after_variable: Option<CharacterItems>,
+    /// Whether it is passed by where no key of the pattern waits.
+    pub(crate) is_passed: bool,
 }
 
 /// Of a place where no sequence came.
@@ -54,6 +57,7 @@ pub(crate) const NO_SEQUENCE: KeptSequence = KeptSequence {
     },
     items: None,
     items_after_variable: None,
+    is_passed: false,
 };
 
 impl CombiningSequence {
@@ -99,27 +103,6 @@ fn push_character(points: &mut ArrayVec<Point, MOST_SEQUENCE_POINTS>, c: char, o
         .unwrap();
 }
 
-/// Whether points are in canonical order.
-fn are_in_order(points: &[Point]) -> bool
-    ensures { result ≡ true → is_in_order points.now ≡ true }
-{
-    let mut rest = points;
-    while let [first, second, ..] = rest {
-        if is_reorderable(first, second) {
-            return false;
-        }
-        rest = &rest[1..];
-    }
-    true
-}
-
-/// Whether two points that follow each other are out of order.
-fn is_reorderable(first: &Point, second: &Point) -> bool
-    ensures { result ≡ is_reorderable first.now second.now }
-{
-    0 < second.ccc && second.ccc < first.ccc
-}
-
 impl Characters {
     /// The items of a sequence, if its points are in canonical order and there are three keys at most, where the last element that
     /// was variable or primary was variable or was not.
@@ -142,6 +125,21 @@ impl Characters {
         } else {
             kept.items
         }
+    }
+
+    /// Whether a sequence is passed by where no key of the pattern waits: not where its points are not in canonical order.
+    #[inline(always)]
+    pub(crate) fn passes_sequence<W: Weights>(
+        &mut self,
+        table: &W,
+        pattern: &Pattern,
+        sequence: &CombiningSequence,
+    ) -> bool
+        requires { IsRight (W.table table.now) pattern.now self.old }
+        ensures right { IsRight (W.table table.now) pattern.now self.new }
+        ensures passed { result ≡ true → ArePassedBy (W.table table.now) pattern.now (characters_of sequence.now) }
+    {
+        self.kept_sequence(table, pattern, sequence).is_passed
     }
 
     /// What is kept of a sequence, which is found out where it is not.
@@ -184,10 +182,12 @@ impl Characters {
             sequence: *sequence,
             items: None,
             items_after_variable: None,
+            is_passed: false,
         };
         if are_in_order(points) {
             kept.items = self.items_of_points(table, pattern, points, false);
             kept.items_after_variable = self.items_of_points(table, pattern, points, true);
+            kept.is_passed = are_passed(pattern, &kept.items);
         }
         self.sequences[sequence.place()] = kept;
         kept

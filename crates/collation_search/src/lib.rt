@@ -29,6 +29,7 @@ mod indexing;
 mod lag;
 mod lone_run;
 mod matching;
+mod passing;
 mod pieces;
 mod resuming;
 mod resuming_walk;

@@ -49,6 +49,8 @@ fn pieces_leave_what_steps_leave(rt: HostRuntime) -> Result<(), Fail> {
         ("\u{3b1}", ONE, KEPT, Select::All, 2),
         ("\u{1f80}", ONE, KEPT, Select::All, 8),
         ("a\u{327}\u{308}\u{301}", THREE, KEPT, Select::All, 2),
+        ("resume", ONE, KEPT, Select::All, 1),
+        ("bees", ONE, KEPT, Select::All, 1),
     ] {
         let pattern = compile(rt.alloc(), &table, letters, strength, variable)?;
         let query = Query {

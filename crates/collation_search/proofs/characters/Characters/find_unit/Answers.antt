@@ -5,7 +5,8 @@ use Rattle.collation_search.proofs.characters.Characters.find_unit.Goals as goal
 pub returns-clause-unit : goal.returns-clause-unit
 returns-clause-unit g c = c.character_unit-unit.ensures c.args.pattern.now c.is_passed-is_passed.ensures.passed
 
-pub returns-clause-right : goal.returns-clause-right
-returns-clause-right g c =
+pub keep_steps-requires-clause-right : goal.keep_steps-requires-clause-right
+keep_steps-requires-clause-right g c =
     let right = c.is_passed-is_passed.ensures.right in
-    (All-set (IsKeptUnit (g.W.Weights.table c.args.table.now) c.args.pattern.now) c.is_passed-is_passed.new.self.units.items _ _ (returns-clause-unit g c) right.0, right.1)
+    let unit = c.character_unit-unit.ensures c.args.pattern.now c.is_passed-is_passed.ensures.passed in
+    (All-set (IsKeptUnit (g.W.Weights.table c.args.table.now) c.args.pattern.now) c.is_passed-is_passed.new.self.units.items _ _ unit right.0, right.1)

@@ -1,4 +1,5 @@
-use Rattle.std.proofs.Common.{◌≡◌, true, false, All, None, sym, subst, arith}
+use Rattle.std.proofs.lemmas.List.{get_or-replicate}
+use Rattle.std.proofs.Common.{◌≡◌, ℕ, ◌+◌, ◌*◌, true, false, All, None, sym, subst, arith}
 use Rattle.std.proofs.lemmas.Option.{none-some}
 use Rattle.std.proofs.lemmas.List.Elements.{All-replicate}
 use Rattle.collation_table.specs.Table.{TableMap}
@@ -44,13 +45,14 @@ no_items table pattern = record {
 }
 
 blank_sequence : KeptSequence
-blank_sequence = record { sequence = record { base = 0; mark = 0; other = None }; items = None; items_after_variable = None }
+blank_sequence = record { sequence = record { base = 0; mark = 0; other = None }; items = None; items_after_variable = None; is_passed = false }
 
 no_sequence : (table : TableMap) (pattern : Compiled) → AreKeptForSequence table pattern blank_sequence
 unfolding blank_sequence
 no_sequence table pattern = record {
   items = λ it is. absurd (none-some it is);
   items_after_variable = λ it is. absurd (none-some it is);
+  passed = λ yes. absurd (not_true yes);
 }
 
 pub returns : goal.returns
@@ -60,7 +62,10 @@ returns g c = record {
     subst (All (IsKeptUnit table pattern)) (sym (c.in_ok-vec.ensures.items_if_clones_equal (λ y h. h))) (All-replicate (IsKeptUnit table pattern) 65536 blank_unit (no_unit table pattern)),
     (
       subst (All (AreKeptItems table pattern)) (sym (c.in_ok-vec-2.ensures.items_if_clones_equal (λ y h. h))) (All-replicate (AreKeptItems table pattern) 4096 blank_items (no_items table pattern)),
-      subst (All (AreKeptForSequence table pattern)) (sym (c.in_ok-vec-3.ensures.items_if_clones_equal (λ y h. h))) (All-replicate (AreKeptForSequence table pattern) 1024 blank_sequence (no_sequence table pattern)),
+      (
+        subst (All (AreKeptForSequence table pattern)) (sym (c.in_ok-vec-3.ensures.items_if_clones_equal (λ y h. h))) (All-replicate (AreKeptForSequence table pattern) 1024 blank_sequence (no_sequence table pattern)),
+        λ waiting c few low less. absurd (omega (arith, less, get_or-replicate {A = ℕ} 1024 (waiting * 256 + c) 255 0 (omega (arith, few, low)))),
+      ),
     ),
   );
 }

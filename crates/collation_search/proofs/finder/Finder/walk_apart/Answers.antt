@@ -1,11 +1,11 @@
 use Rattle.std.specs.Char.{len_utf8}
 use Rattle.std.specs.Str.{chars, IsUtf8}
 use Rattle.std.specs.List.{FoldsTo}
-use Rattle.std.proofs.Common.{◌≡◌, ◌∙◌, ℕ, ◌+◌, List, [], ◌∷◌, ◌++◌, length, take, drop, refl, sym, ap, subst, arith, append_assoc}
+use Rattle.std.proofs.Common.{◌≡◌, ◌∙◌, ℕ, ◌+◌, true, List, [], ◌∷◌, ◌++◌, length, take, drop, refl, sym, ap, subst, arith, append_assoc}
 use Rattle.std.proofs.lemmas.List.{take_rest, length-drop}
 use Rattle.std.proofs.lemmas.Str.{IsUtf8-nil, chars-nil}
 use Rattle.utf8_cut.specs.Sequences.{SpellsCharacter}
-use Rattle.nfd_points.specs.Points.{byte_len, points_from}
+use Rattle.nfd_points.specs.Points.{byte_len, points_of, points_from, begins_with_starter}
 use Rattle.collation_elements.specs.Units.{units}
 use Rattle.collation_search.specs.declared.finder.Finder.{Finder}
 use Rattle.collation_search.specs.Apart.{AreApart, IsNext, HasWalkedOn}
@@ -108,6 +108,12 @@ loop-walked-preserved g c =
             (units table (points_from c.args.offset cs)) (units table (points_from (c.args.offset + l.at) more)) (units table (points_from c.args.offset (chars (take (l.at + w.len) piece)))) i.walked.0 one.0 cut i.walked.2 on,
       );
     }
+
+pub walk_some-requires-clause-begins : goal.walk_some-requires-clause-begins
+walk_some-requires-clause-begins g c =
+    let l = c.loop-walked in
+    let i = l.invariant in
+    subst (λ k. begins_with_starter (points_of (c.args.offset + k) l.c) ≡ true) (chars-len c.args.piece.now l.at (omega (arith, i.within)) i.text) i.apart.next_begins
 
 pub returns-clause-walked : goal.returns-clause-walked
 returns-clause-walked g c =
