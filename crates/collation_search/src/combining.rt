@@ -139,7 +139,11 @@ impl Characters {
         ensures right { IsRight (W.table table.now) pattern.now self.new }
         ensures passed { result ≡ true → ArePassedBy (W.table table.now) pattern.now (characters_of sequence.now) }
     {
-        self.kept_sequence(table, pattern, sequence).is_passed
+        let kept = &self.sequences[sequence.place()];
+        if kept.sequence == *sequence {
+            return kept.is_passed;
+        }
+        self.find_sequence(table, pattern, sequence).is_passed
     }
 
     /// What is kept of a sequence, which is found out where it is not.

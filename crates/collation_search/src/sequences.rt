@@ -18,6 +18,7 @@ use utf8_cut::first_character;
 
 /// The combining character sequence at the front of a piece, which begins with `base` and `mark` and has two marks at most, and how
 /// many bytes it has, with the character that follows, which may be a third mark; `None` where no whole character follows.
+#[inline(always)]
 pub(crate) fn read_sequence<W: Weights>(
     query: &Query<'_, W>,
     characters: &mut Characters,
