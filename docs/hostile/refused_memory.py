@@ -21,7 +21,7 @@ LETTERS = os.path.join(FOLDER, "..", "example", "letters.txt")
 REFUSALS = {b"colfind: fault %d at 0\n" % kind for kind in (14, 24, 36)}
 REFUSED_TEST = re.compile(
     rb"\s*error: (.*Alloc(Error|Failed).*|TableFault \{ line: 0, kind: 14 \}|PatternFault \{ kind: 24 \}|StateFault \{ kind: 53 \}"
-    rb"|TextFault \{ kind: 36, offset: 0 \})\n"
+    rb"|TextFault \{ kind: 36, offset: 0 \}|Kind\(OutOfMemory\))\n"
 )
 MOST_SECONDS = 60  # of one run, and of all runs of one test
 
