@@ -11,7 +11,7 @@
 //! `collation_elements`; on `clap` for the words, on `itoa` and `arrayvec` for the lines.
 #![tactic(auto)]
 
-ghost use Rattle.std.specs.Prelude.{◌≡◌, ◌^◌, ◌<◌, ◌≤◌};
+ghost use Rattle.std.specs.Prelude.{◌≡◌, ◌^◌, ◌<◌, ◌≤◌, map, IfOk, string_bytes};
 ghost use Rattle.colfind.specs.Faults.{ReportsSomeFault};
 
 mod devices;
@@ -75,7 +75,14 @@ fn answer<E: Target>(rt: &HostRuntime, given: &Vec<String>, err: &mut E) -> u8
     program(rt, rt.alloc(), &words, &mut input, &mut out, err)
 }
 
-fn texts_of<'a>(alloc: Global, given: &'a Vec<String>) -> Result<Vec<&'a str>, AllocError> {
+/// The texts of words.
+///
+/// # Errors
+///
+/// Only where memory was refused.
+fn texts_of<'a>(alloc: Global, given: &'a Vec<String>) -> Result<Vec<&'a str>, AllocError>
+    ensures { IfOk result (λ texts. map (λ text. text.now) texts.items ≡ map (λ word. string_bytes word) given.now.items) }
+{
     let mut words = Vec::new(alloc);
     for word in given {
         words.push(word.as_str())?;
