@@ -1,5 +1,5 @@
 -- The character at the front of bytes: what the front bytes are with the first of the later ones, or without any.
-use Rattle.std.proofs.Common.{◌≡◌, ℕ, ◌<◌, ◌≤◌, List, [], ◌∷◌, ◌++◌, length, slice_index_or, refl, sym, ap, ◌∙◌, subst, arith, append_assoc, append-nil, length-append}
+use Rattle.std.proofs.Common.{◌≡◌, ℕ, ◌+◌, ◌<◌, ◌≤◌, List, [], ◌∷◌, ◌++◌, length, slice_index_or, refl, sym, ap, ◌∙◌, subst, arith, append_assoc, append-nil, length-append}
 use Rattle.std.specs.Prelude.{IsTrue, Some}
 use Rattle.std.proofs.lemmas.Bool.{false≢true}
 use Rattle.std.proofs.lemmas.List.{take_at, nil_from_length}
@@ -12,14 +12,15 @@ use Rattle.utf8_cut.specs.Characters.{is_incomplete_sequence}
 use Rattle.utf8_cut.specs.Sequences.{SpellsCharacter, IsIllFormed, IsForm, IsFirstCharacter}
 use Rattle.utf8_cut.proofs.TableLemmas.{incomplete_no_char, ill_stays}
 
-spelt_before : (bytes more : List ℕ) (c : ℕ) → SpellsCharacter bytes c → IsFirstCharacter (bytes ++ more) (Some c)
+spelt_before : (bytes more : List ℕ) (c : ℕ) → SpellsCharacter bytes c → IsFirstCharacter (bytes ++ more) (Some (c, length bytes))
 spelt_before bytes more c s =
     let long : length bytes ≡ len_utf8 c = ap length s.1 ∙ length-encode c in
-    (omega (arith, length-append bytes more), (s.0, take_at bytes more (len_utf8 c) long ∙ s.1))
+    (long, (omega (arith, long, length-append bytes more), (s.0, take_at bytes more (len_utf8 c) long ∙ s.1)))
 
-pub first_whole : (front later : List ℕ) (c : ℕ) → 1 ≤ length later → SpellsCharacter (front ++ slice_index_or later 0 0 ∷ []) c → IsFirstCharacter (front ++ later) (Some c)
+pub first_whole : (front later : List ℕ) (c : ℕ) → 1 ≤ length later → SpellsCharacter (front ++ slice_index_or later 0 0 ∷ []) c → IsFirstCharacter (front ++ later) (Some (c, length front + 1))
 first_whole front [] c some s = absurd (omega arith)
-first_whole front (b ∷ bs) c some s = subst (λ l. IsFirstCharacter l (Some c)) (append_assoc front (b ∷ []) bs) (spelt_before (front ++ b ∷ []) bs c s)
+first_whole front (b ∷ bs) c some s = subst (λ l. IsFirstCharacter l (Some (c, length front + 1))) (append_assoc front (b ∷ []) bs)
+    (subst (λ n. IsFirstCharacter ((front ++ b ∷ []) ++ bs) (Some (c, n))) (length-append front (b ∷ [])) (spelt_before (front ++ b ∷ []) bs c s))
 
 pub first_ill : (front later : List ℕ) → 1 ≤ length later → IsIllFormed (front ++ slice_index_or later 0 0 ∷ []) → StartsWithNoChar (front ++ later)
 first_ill front [] some h = absurd (omega arith)

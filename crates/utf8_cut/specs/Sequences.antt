@@ -23,7 +23,7 @@ IsForm bytes IllFormed = IsIllFormed bytes
 abbrev pub BeginsCharacter : List ℕ → Type 0
 BeginsCharacter bytes = (0 < length bytes) × (more : List ℕ) × (c : ℕ) × (0 < length more) × SpellsCharacter (bytes ++ more) c
 
--- the character that begins the bytes and is whole there, or none
-abbrev pub IsFirstCharacter : List ℕ → Option ℕ → Type 0
+-- the character that begins the bytes and is whole there, with its length in bytes, or none
+abbrev pub IsFirstCharacter : List ℕ → Option (ℕ × ℕ) → Type 0
 IsFirstCharacter bytes None = StartsWithNoChar bytes
-IsFirstCharacter bytes (Some c) = (len_utf8 c ≤ length bytes) × SpellsCharacter (take (len_utf8 c) bytes) c
+IsFirstCharacter bytes (Some sized) = (sized.1 ≡ len_utf8 sized.0) × ((len_utf8 sized.0 ≤ length bytes) × SpellsCharacter (take (len_utf8 sized.0) bytes) sized.0)

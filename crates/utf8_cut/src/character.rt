@@ -15,12 +15,25 @@ pub fn first_character(bytes: &[u8]) -> Option<char>
         × SpellsCharacter (take (len_utf8 c) bytes.now) c) }
     ensures none { IfNone result (StartsWithNoChar bytes.now) }
 {
+    let (c, _len) = sized_character(bytes)?;
+    Some(c)
+}
+
+/// The same character, and how many bytes it has.
+#[inline(always)]
+pub fn sized_character(bytes: &[u8]) -> Option<(char, usize)>
+    ensures some { IfSome result (λ sized. (len_utf8 sized.0 ≤ length bytes.now)
+        × SpellsCharacter (take (len_utf8 sized.0) bytes.now) sized.0) }
+    ensures len { IfSome result (λ sized. sized.1 ≡ len_utf8 sized.0) }
+    ensures none { IfNone result (StartsWithNoChar bytes.now) }
+{
     match bytes {
         [] => None,
-        // ASCII is told first, by a comparison that most texts make predictable
-        [first, ..] if *first < 0x80 => Some(of_ascii(*first)),
+        // ASCII is told first, by a comparison that most texts make predictable: where the next
+        // character begins does not wait for this one then
+        [first, ..] if *first < 0x80 => Some((of_ascii(*first), 1)),
         [first, later @ ..] => match of_one(*first) {
-            Form::WellFormed(c) => Some(c),
+            Form::WellFormed(c) => Some((c, 1)),
             Form::Incomplete => after_one(*first, later),
             Form::IllFormed => None,
         },
@@ -36,48 +49,48 @@ fn of_ascii(first: u8) -> char
     char::from(first)
 }
 
-/// The character of this first byte and the later ones.
+/// The character of this first byte and the later ones, and its length in bytes.
 #[inline(always)]
-fn after_one(first: u8, later: &[u8]) -> Option<char>
+fn after_one(first: u8, later: &[u8]) -> Option<(char, usize)>
     requires { IsTrue (is_incomplete_sequence (first ∷ [])) }
     ensures { IsFirstCharacter (first ∷ later.now) result }
 {
     match later {
         [] => None,
         [second, later @ ..] => match of_two(first, *second) {
-            Form::WellFormed(c) => Some(c),
+            Form::WellFormed(c) => Some((c, 2)),
             Form::Incomplete => after_two(first, *second, later),
             Form::IllFormed => None,
         },
     }
 }
 
-/// The character of these two bytes and the later ones.
+/// The same of these two bytes and the later ones.
 #[inline(always)]
-fn after_two(first: u8, second: u8, later: &[u8]) -> Option<char>
+fn after_two(first: u8, second: u8, later: &[u8]) -> Option<(char, usize)>
     requires { IsTrue (is_incomplete_sequence (first ∷ second ∷ [])) }
     ensures { IsFirstCharacter (first ∷ second ∷ later.now) result }
 {
     match later {
         [] => None,
         [third, later @ ..] => match of_three(first, second, *third) {
-            Form::WellFormed(c) => Some(c),
+            Form::WellFormed(c) => Some((c, 3)),
             Form::Incomplete => after_three(first, second, *third, later),
             Form::IllFormed => None,
         },
     }
 }
 
-/// The character of these three bytes and the later ones.
+/// And of these three bytes and the later ones.
 #[inline]
-fn after_three(first: u8, second: u8, third: u8, later: &[u8]) -> Option<char>
+fn after_three(first: u8, second: u8, third: u8, later: &[u8]) -> Option<(char, usize)>
     requires { IsTrue (is_incomplete_sequence (first ∷ second ∷ third ∷ [])) }
     ensures { IsFirstCharacter (first ∷ second ∷ third ∷ later.now) result }
 {
     match later {
         [] => None,
         [fourth, ..] => match of_four(first, second, third, *fourth) {
-            Form::WellFormed(c) => Some(c),
+            Form::WellFormed(c) => Some((c, 4)),
             _ => None,
         },
     }

@@ -30,7 +30,7 @@ mod sequence;
 mod slice;
 
 pub use ascii::ascii_len;
-pub use character::first_character;
+pub use character::{first_character, sized_character};
 pub use laws::{
     any_bytes_may_follow, incomplete_sequences_begin_characters, text_may_stand_before,
     whole_characters_are_the_longest_text,
