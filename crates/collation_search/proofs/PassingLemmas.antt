@@ -1,9 +1,9 @@
 -- Characters that are passed by, one after the other.
-use Rattle.std.specs.Char.{len_utf8, IsScalar}
+use Rattle.std.specs.Char.{len_utf8}
 use Rattle.std.specs.Str.{chars, IsUtf8}
-use Rattle.std.proofs.Common.{rules, ◌≡◌, ◌∙◌, ℕ, ◌+◌, ◌<◌, ◌≤◌, true, List, [], ◌∷◌, ◌++◌, length, take, drop, get_or, inr, refl, sym, ap, subst, arith, append_assoc}
-use Rattle.std.proofs.lemmas.List.{length-drop, at_drop_more, get_or-drop}
-use Rattle.std.proofs.lemmas.Str.{IsUtf8-nil, chars-nil, encode_ascii, len_utf8_ascii}
+use Rattle.std.proofs.Common.{◌≡◌, ◌∙◌, ℕ, ◌+◌, ◌≤◌, true, List, [], ◌∷◌, ◌++◌, length, take, drop, inr, refl, sym, ap, subst, arith, append_assoc}
+use Rattle.std.proofs.lemmas.List.{length-drop, drop-drop}
+use Rattle.std.proofs.lemmas.Str.{IsUtf8-nil, chars-nil}
 use Rattle.utf8_cut.specs.Sequences.{SpellsCharacter}
 use Rattle.nfd_points.specs.declared.points.Point.{Point}
 use Rattle.nfd_points.specs.Points.{byte_len, points_of, points_from, begins_with_starter}
@@ -16,7 +16,7 @@ use Rattle.circular_buffer.specs.Buffer.{Buffer, keep_last}
 use Rattle.collation_search.specs.declared.walk.Walk.{Walk}
 use Rattle.collation_search.specs.declared.walk.KeyPlace.{KeyPlace}
 use Rattle.collation_search.specs.Apart.{AreApart, IsNext, HasWalked, HasWalkedOn}
-use Rattle.collation_search.specs.Characters.{IsPassedBy, IsStep, apart_unit}
+use Rattle.collation_search.specs.Characters.{IsCharacterUnit, IsPassedBy, IsStep, apart_unit}
 use Rattle.collation_search.specs.Passing.{HasStepped, HasPassed, MayPass}
 use Rattle.collation_search.proofs.ApartLaws.{Laws}
 use Rattle.collation_search.proofs.PassedLemmas.{walks-at_none}
@@ -92,55 +92,45 @@ passed-more laws shift law table pattern w walk piece start first at next begins
     (subst (λ (v : Walk). HasWalkedOn table pattern w before w v (units table (points_from here more)) []) keyed
     (passed-on law table pattern w before here (points_from 0 more) (points_from here more) (points_are_shifted shift here more) passed may.after may.waits may.some_key (omega (arith, may.later))))
 
--- ---- steps of ASCII characters
+-- ---- steps
 
-low_scalar : (b : ℕ) → b < 128 → IsScalar b
-low_scalar b low = search rules
-
-ascii_spelled : (bytes : List ℕ) (i : ℕ) → i < length bytes → get_or bytes i 0 < 128 → SpellsCharacter (take (len_utf8 (get_or bytes i 0)) (drop i bytes)) (get_or bytes i 0)
-ascii_spelled bytes i less low =
-    let b = get_or bytes i 0 in
-    let one : take (len_utf8 b) (drop i bytes) ≡ b ∷ [] = ap (λ n. take n (drop i bytes)) (len_utf8_ascii b low) ∙ at_drop_more (λ (t : List ℕ). take 1 t) bytes i 0 less in
-    (low_scalar b low, one ∙ sym (encode_ascii b low))
-
--- one of them, before another
-ascii_comes : Laws → AloneLaw → BeforeLaw → (table : TableMap) (pattern : Compiled) (bytes : List ℕ) (c s after t other : ℕ) → IsStep table pattern s c after → SpellsCharacter (take (len_utf8 c) bytes) c →
-    1 < length bytes → IsStep table pattern t (get_or bytes 1 0) other → Comes table bytes c 1 (get_or bytes 1 0) × (chars (take 1 bytes) ≡ c ∷ [])
-ascii_comes laws alone before table pattern bytes c s after t other step spelled long following =
-    let b = get_or bytes 1 0 in
-    let taken = one_taken bytes 1 c (sym (len_utf8_ascii c step.low)) spelled in
-    let size = len_utf8_ascii b following.low in (
+-- a character with a step, before another
+step_comes : Laws → AloneLaw → BeforeLaw → (table : TableMap) (pattern : Compiled) (bytes : List ℕ) (c next s after : ℕ) → IsStep table pattern s c after → IsCharacterUnit table pattern next apart_unit →
+    SpellsCharacter (take (len_utf8 c) bytes) c → len_utf8 c + len_utf8 next ≤ length bytes → SpellsCharacter (take (len_utf8 next) (drop (len_utf8 c) bytes)) next →
+    Comes table bytes c (len_utf8 c) next × (chars (take (len_utf8 c) bytes) ≡ c ∷ [])
+step_comes laws alone before table pattern bytes c next s after step following spelled within there =
+    let taken = one_taken bytes (len_utf8 c) c refl spelled in (
       record {
-        within = omega (arith, size, long);
-        spelled = ascii_spelled bytes 1 long following.low;
+        within = within;
+        spelled = there;
         text = taken.0;
         begun = ([], taken.1);
-        apart = λ at. subst (λ (cs : List ℕ). IsNext table at cs b) (sym taken.1) (next_from laws alone before table pattern at c b apart_unit apart_unit refl (inr refl) step.apart following.apart);
+        apart = λ at. subst (λ (cs : List ℕ). IsNext table at cs next) (sym taken.1) (next_from laws alone before table pattern at c next apart_unit apart_unit refl (inr refl) step.apart following);
       },
       taken.1,
     )
 
-pub step-more : Laws → PointsAreShifted → GoesOnLaw → AloneLaw → BeforeLaw → (table : TableMap) (pattern : Compiled) (w : Weigher) (walk : Walk) (piece : List ℕ) (start first at c begins waiting after other : ℕ)
-    (places : Buffer KeyPlace) → MayPass pattern w walk start → HasStepped table pattern w walk piece start first at c begins waiting places → IsStep table pattern waiting c after → at + 1 < length piece →
-    IsStep table pattern 0 (get_or piece (at + 1) 0) other →
-    (others : Buffer KeyPlace) × HasStepped table pattern w walk piece start first (at + 1) (get_or piece (at + 1) 0) (start + at) after others
-step-more laws shift law alone before table pattern w walk piece start first at c begins waiting after other places may h step long following =
-    let same = get_or-drop at piece 1 0 in
+pub step-more : Laws → PointsAreShifted → GoesOnLaw → AloneLaw → BeforeLaw → (table : TableMap) (pattern : Compiled) (w : Weigher) (walk : Walk) (piece : List ℕ) (start first at c next begins waiting after : ℕ)
+    (places : Buffer KeyPlace) → MayPass pattern w walk start → HasStepped table pattern w walk piece start first at c begins waiting places → IsStep table pattern waiting c after → IsCharacterUnit table pattern next apart_unit →
+    len_utf8 next ≤ length (drop (at + len_utf8 c) piece) → SpellsCharacter (take (len_utf8 next) (drop (at + len_utf8 c) piece)) next →
+    (others : Buffer KeyPlace) × HasStepped table pattern w walk piece start first (at + len_utf8 c) next (start + at) after others
+step-more laws shift law alone before table pattern w walk piece start first at c next begins waiting after places may h step following long there =
     let rest = length-drop at piece in
+    let further = length-drop (at + len_utf8 c) piece in
     let here = start + at in
-    let b = get_or (drop at piece) 1 0 in
-    let known = ascii_comes laws alone before table pattern (drop at piece) c waiting after 0 other step h.spelled (omega (arith, long, rest)) (subst (λ k. IsStep table pattern 0 k other) (sym same) following) in
+    let same : drop (at + len_utf8 c) piece ≡ drop (len_utf8 c) (drop at piece) = sym (drop-drop (len_utf8 c) at piece) in
+    let known = step_comes laws alone before table pattern (drop at piece) c next waiting after step following h.spelled (omega (arith, long, rest, further, h.within))
+    (subst (λ (bs : List ℕ). SpellsCharacter (take (len_utf8 next) bs) next) same there) in
     let v : Walk = record walk { start = begins; state = waiting; places = places } in
     let others : Buffer KeyPlace = record { items = keep_last places.capacity (places.items ++ (record { start = here; is_first = true }) ∷ []); capacity = places.capacity } in
     let keyed : (record v { start = here; has_keys = true; state = after; places = others }) ≡ (record walk { start = here; state = after; places = others }) =
     ap (λ f. record walk { start = here; has_keys = f; state = after; places = others }) (sym may.has_keys) in
-    let points : points_of here c ≡ points_from here (chars (take 1 (drop at piece))) = sym (ap (points_from here) known.1 ∙ from_one here c) in
+    let points : points_of here c ≡ points_from here (chars (take (len_utf8 c) (drop at piece))) = sym (ap (points_from here) known.1 ∙ from_one here c) in
     let one = step-on shift law table pattern w v here c after step may.after (omega (arith, may.later)) in (
       others,
-      subst (λ k. HasStepped table pattern w walk piece start first (at + 1) k here after others) same
-          (stepped-more laws table pattern w walk piece start first at c begins 1 b waiting after places others h known.0
+      stepped-more laws table pattern w walk piece start first at c begins (len_utf8 c) next waiting after places others h known.0
           (subst (λ (ps : List Point). HasWalkedOn table pattern w v w (record walk { start = here; state = after; places = others }) (units table ps) []) points
-          (subst (λ (u : Walk). HasWalkedOn table pattern w v w u (units table (points_of here c)) []) keyed one))),
+          (subst (λ (u : Walk). HasWalkedOn table pattern w v w u (units table (points_of here c)) []) keyed one)),
     )
 
 -- where no key waits, it is of no account which places the walk has

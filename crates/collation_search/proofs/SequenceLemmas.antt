@@ -39,9 +39,9 @@ few_points laws s =
     let D = decomposition in
     let first = (laws.short s.base).1 in
     let second = (laws.short s.mark).1 in
-    let others : length (flat_map D (option_to_list s.other)) ≤ 4 = few_of_one laws s.other in
-    let joined : length (flat_map D (characters_of s)) ≡ length (D s.base) + (length (D s.mark) + length (flat_map D (option_to_list s.other))) =
-    length-append (D s.base) (D s.mark ++ flat_map D (option_to_list s.other)) ∙ ap (λ n. length (D s.base) + n) (length-append (D s.mark) (flat_map D (option_to_list s.other))) in
+    let others : length (flat_map D (option_to_list s.second_mark)) ≤ 4 = few_of_one laws s.second_mark in
+    let joined : length (flat_map D (characters_of s)) ≡ length (D s.base) + (length (D s.mark) + length (flat_map D (option_to_list s.second_mark))) =
+    length-append (D s.base) (D s.mark ++ flat_map D (option_to_list s.second_mark)) ∙ ap (λ n. length (D s.base) + n) (length-append (D s.mark) (flat_map D (option_to_list s.second_mark))) in
     omega (arith, first, second, others, joined)
   where
     few_of_one : Laws → (c : Option ℕ) → length (flat_map decomposition (option_to_list c)) ≤ 4

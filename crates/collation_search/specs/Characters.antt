@@ -21,7 +21,7 @@ use Rattle.collation_search.specs.declared.combining.KeptSequence.{KeptSequence}
 use Rattle.collation_search.specs.declared.characters.KeptUnit.{KeptUnit}
 use Rattle.collation_search.specs.declared.characters.KeptItems.{KeptItems}
 use Rattle.collation_search.specs.declared.characters.Characters.{Characters}
-use Rattle.collation_search.specs.declared.characters.TheConstants.{STEPS, NO_STEP}
+use Rattle.collation_search.specs.declared.characters.TheConstants.{STEPS, STEP_CHARACTERS, NO_STEP}
 
 -- the units of points by themselves, from an offset on
 abbrev pub units_alone : TableMap → ℕ → List Point → List (List Point)
@@ -59,7 +59,7 @@ pub record AreKeptItems (table : TableMap) (pattern : Compiled) (kept : KeptItem
 
 -- the characters of a combining character sequence
 abbrev pub characters_of : CombiningSequence → List ℕ
-characters_of s = s.base ∷ s.mark ∷ option_to_list s.other
+characters_of s = s.base ∷ s.mark ∷ option_to_list s.second_mark
 
 -- the points of these characters are in canonical order, and these are the items of their units
 abbrev pub AreItemsOfCharacters : TableMap → Weigher → List ℕ → CharacterItems → Type 0
@@ -85,10 +85,9 @@ pub record IsOnlyKey (table : TableMap) (pattern : Compiled) (c : ℕ) (key : Ke
   pub items : (start : ℕ) → items_of table pattern.strength pattern.variable false (units_alone table start (points_of 0 c)) ≡ ClusterStart start ∷ Element key ∷ []
   pub flag : (start : ℕ) → after_units table pattern.variable false (units_alone table start (points_of 0 c)) ≡ false
 
--- The step of an ASCII character that stands in no mapped string after the first place and has one key: how many keys of the pattern
--- wait after it, where so many waited before it, and these were not all.
+-- The step of a character that stands in no mapped string after the first place and has one key: how many keys of the pattern wait
+-- after it, where so many waited before it, and these were not all.
 pub record IsStep (table : TableMap) (pattern : Compiled) (waiting c after : ℕ) : Type 0 where
-  pub low : c < 128
   pub apart : IsCharacterUnit table pattern c apart_unit
   pub items : (start : ℕ) → items_of table pattern.strength pattern.variable false (units_alone table start (points_of 0 c)) ≡ ClusterStart start ∷ map (λ key. Element key) (keys_alone table pattern (points_of 0 c))
   pub flag : (start : ℕ) → after_units table pattern.variable false (units_alone table start (points_of 0 c)) ≡ false
@@ -100,4 +99,4 @@ pub record IsStep (table : TableMap) (pattern : Compiled) (waiting c after : ℕ
 abbrev pub IsRight : TableMap → Compiled → Characters → Type 0
 IsRight table pattern kept =
     All (IsKeptUnit table pattern) kept.units.items × (All (AreKeptItems table pattern) kept.items.items × (All (AreKeptForSequence table pattern) kept.sequences.items
-    × ((waiting c : ℕ) → waiting < STEPS → c < 256 → let after = slice_index kept.steps (waiting * 256 + c) in after < NO_STEP → IsStep table pattern waiting c after)))
+    × ((waiting c : ℕ) → waiting < STEPS → c < STEP_CHARACTERS → let after = slice_index kept.steps (c * STEPS + waiting) in after < NO_STEP → IsStep table pattern waiting c after)))

@@ -2,7 +2,7 @@
 //! places; each place holds what is known of the last one that came there.
 ghost use Rattle.std.specs.Prelude.{◌≡◌, ◌≤◌, [], length, false};
 ghost use Rattle.collation_search.specs.declared.combining.TheConstants.{MOST_SEQUENCE_POINTS, SEQUENCE_PLACES};
-ghost use Rattle.collation_search.specs.declared.characters.TheConstants.{UNIT_PLACES, ITEM_PLACES, STEPS, NO_STEP};
+ghost use Rattle.collation_search.specs.declared.characters.TheConstants.{UNIT_PLACES, ITEM_PLACES, STEPS, STEP_CHARACTERS, NO_STEP};
 
 use crate::character_units::{are_passed, character_unit, is_apart};
 use crate::combining::{KeptSequence, NO_SEQUENCE, SEQUENCE_PLACES};
@@ -49,8 +49,11 @@ pub(crate) struct KeptItems {
     pub(crate) items_after_variable: Option<CharacterItems>,
 }
 
-/// How many keys of the pattern may wait, at most, where an ASCII character is walked over by its step.
+/// Fewer keys of the pattern than these may wait where a character is walked over by its step.
 pub(crate) const STEPS: usize = 4;
+
+/// The code points of characters that have steps are less than this: Latin, Greek and Cyrillic letters among them.
+pub(crate) const STEP_CHARACTERS: usize = 0x2000;
 
 /// No step is known.
 pub(crate) const NO_STEP: u8 = 255;
@@ -79,8 +82,8 @@ pub(crate) struct Characters {
     pub(crate) units: Vec<KeptUnit>,
     pub(crate) items: Vec<KeptItems>,
     pub(crate) sequences: Vec<KeptSequence>,
-    /// For so many keys that wait, times 256, and an ASCII character, how many wait after it, where that is known.
-    pub(crate) steps: [u8; 1_024],
+    /// For a character, times `STEPS`, and so many keys that wait, how many wait after it, where that is known.
+    pub(crate) steps: [u8; STEPS * STEP_CHARACTERS],
     /// Room for the points of one character or sequence.
     window: Window,
     ghost unit_places: { length units.items ≡ UNIT_PLACES },
@@ -113,7 +116,7 @@ impl Characters {
             units: vec![in alloc; NO_UNIT; UNIT_PLACES]?,
             items: vec![in alloc; NO_ITEMS; ITEM_PLACES]?,
             sequences: vec![in alloc; NO_SEQUENCE; SEQUENCE_PLACES]?,
-            steps: [NO_STEP; 256 * STEPS],
+            steps: [NO_STEP; STEPS * STEP_CHARACTERS],
             window: Window::with_capacity(alloc, table.longest_key())?,
         })
     }
@@ -175,16 +178,24 @@ impl Characters {
         self.find_items(table, pattern, c)
     }
 
-    /// How many keys wait after an ASCII character, where so many waited before it; `NO_STEP` where that is not known.
+    /// Whether the steps of a character are known.
     #[inline(always)]
-    pub(crate) fn step(&self, waiting: usize, c: u8) -> u8
+    pub(crate) fn has_steps(&self, c: char) -> bool
+        ensures low { result ≡ true → c < STEP_CHARACTERS }
+        ensures apart { result ≡ true → (table : TableMap) (pattern : Compiled) → IsRight table pattern self.now → IsCharacterUnit table pattern c apart_unit }
+    {
+        let place = c as usize;
+        place < STEP_CHARACTERS && self.steps[place * STEPS] < NO_STEP
+    }
+
+    /// How many keys wait after a character that has steps, where so many waited before it; `NO_STEP` where that is not known.
+    #[inline(always)]
+    pub(crate) fn step(&self, waiting: usize, c: char) -> u8
+        requires few { waiting < STEPS }
+        requires low { c < STEP_CHARACTERS }
         ensures { result < NO_STEP → (table : TableMap) (pattern : Compiled) → IsRight table pattern self.now → IsStep table pattern waiting c result }
     {
-        if waiting < STEPS {
-            self.steps[waiting * 256 + c as usize]
-        } else {
-            NO_STEP
-        }
+        self.steps[c as usize * STEPS + waiting]
     }
 
     /// What is known of a character without asking the table.
@@ -216,7 +227,7 @@ impl Characters {
         unit
     }
 
-    /// Keeps the steps of an ASCII character, where it has some.
+    /// Keeps the steps of a character, where it has some.
     fn keep_steps<W: Weights>(
         &mut self,
         table: &W,
@@ -228,16 +239,15 @@ impl Characters {
         requires unit { IsCharacterUnit (W.table table.now) pattern.now c unit.now }
         ensures { IsRight (W.table table.now) pattern.now self.new }
     {
-        if !c.is_ascii() || !is_apart(unit) {
+        if c as usize >= STEP_CHARACTERS || !is_apart(unit) {
             return;
         }
         let Some(key) = self.only_key(table, pattern, c) else {
             return;
         };
-        self.keep_step(table, pattern, c, key, 0);
-        self.keep_step(table, pattern, c, key, 1);
-        self.keep_step(table, pattern, c, key, 2);
-        self.keep_step(table, pattern, c, key, 3);
+        for waiting in 0..STEPS {
+            self.keep_step(table, pattern, c, key, waiting);
+        }
     }
 
     /// The key of a character that begins a cluster and has one key, and is not variable, where no variable one stands before it.
@@ -257,7 +267,7 @@ impl Characters {
         items.first
     }
 
-    /// Keeps one step of an ASCII character that has this key alone.
+    /// Keeps one step of a character that has this key alone.
     fn keep_step<W: Weights>(
         &mut self,
         table: &W,
@@ -267,7 +277,7 @@ impl Characters {
         waiting: usize,
     )
         requires right { IsRight (W.table table.now) pattern.now self.old }
-        requires low { c < 128 }
+        requires low { c < STEP_CHARACTERS }
         requires few { waiting < STEPS }
         requires apart { IsCharacterUnit (W.table table.now) pattern.now c apart_unit }
         requires key { IsOnlyKey (W.table table.now) pattern.now c key }
@@ -278,7 +288,8 @@ impl Characters {
         }
         let after = pattern.advance(waiting, &key);
         if after < STEPS {
-            self.steps[waiting * 256 + c as usize] = after as u8;
+            let place = c as usize * STEPS + waiting;
+            self.steps[place] = after as u8;
         }
     }
 

@@ -32,7 +32,7 @@ pub(crate) struct CombiningSequence {
     /// The first mark.
     pub(crate) mark: char,
     /// The second mark, if there is one.
-    pub(crate) other: Option<char>,
+    pub(crate) second_mark: Option<char>,
 }
 
 /// The items of a sequence's units. There are none where its points are not in canonical order.
@@ -53,7 +53,7 @@ pub(crate) const NO_SEQUENCE: KeptSequence = KeptSequence {
     sequence: CombiningSequence {
         base: '\0',
         mark: '\0',
-        other: None,
+        second_mark: None,
     },
     items: None,
     items_after_variable: None,
@@ -66,11 +66,11 @@ impl CombiningSequence {
     fn place(&self) -> usize
         ensures { result < SEQUENCE_PLACES }
     {
-        let other = match self.other {
+        let second_mark = match self.second_mark {
             Some(c) => c as usize,
             None => 0,
         };
-        (self.base as usize + 37 * self.mark as usize + 101 * other) % SEQUENCE_PLACES
+        (self.base as usize + 37 * self.mark as usize + 101 * second_mark) % SEQUENCE_PLACES
     }
 
     /// Its points, in the order in which its characters stand.
@@ -82,9 +82,9 @@ impl CombiningSequence {
         push_character(&mut points, self.base, 0);
         let at = self.base.len_utf8();
         push_character(&mut points, self.mark, at as u64);
-        if let Some(other) = self.other {
+        if let Some(second_mark) = self.second_mark {
             let at = at + self.mark.len_utf8();
-            push_character(&mut points, other, at as u64);
+            push_character(&mut points, second_mark, at as u64);
         }
         points
     }

@@ -1,6 +1,6 @@
 //! Passes characters by, where no key of the pattern waits: of a walk over them nothing changes but where its cluster starts, which is
 //! written once.
-ghost use Rattle.std.specs.Prelude.{◌≡◌, ℕ, ◌+◌, ◌≤◌, List, [], ◌∷◌, length, take, drop, true, IfSome};
+ghost use Rattle.std.specs.Prelude.{◌≡◌, ℕ, ◌+◌, ◌<◌, ◌≤◌, List, [], ◌∷◌, length, take, drop, true, IfSome};
 ghost use Rattle.std.specs.Char.{len_utf8};
 ghost use Rattle.std.specs.Str.{chars, IsUtf8};
 ghost use Rattle.utf8_cut.specs.Sequences.{SpellsCharacter};
@@ -9,18 +9,19 @@ ghost use Rattle.collation_search.specs.Apart.{IsNext};
 ghost use Rattle.collation_elements.specs.declared.weigher.Weigher.{Weigher as WeigherState};
 ghost use Rattle.collation_search.specs.declared.walk.Walk.{Walk as WalkState};
 ghost use Rattle.collation_search.specs.Characters.{IsCharacterUnit, IsPassedBy, IsRight};
+ghost use Rattle.collation_search.specs.declared.characters.TheConstants.{STEP_CHARACTERS};
 ghost use Rattle.collation_search.specs.GoodPrefix.{most_bytes};
 ghost use Rattle.collation_search.specs.Passing.{HasPassed, MayPass};
 
 use crate::apart::{Walked, is_next};
-use crate::characters::{CharacterUnit, Characters, NO_STEP};
+use crate::characters::{CharacterUnit, Characters, STEPS};
 use crate::finder::Finder;
 use crate::search::Query;
 use crate::sequences::read_sequence;
 use collation_elements::{units_stay_apart, weighers_go_on};
 use collation_table::Weights;
 use nfd_points::laws::{laws_of_decompositions, laws_of_faults, laws_of_ordering, laws_of_points};
-use utf8_cut::first_character;
+use utf8_cut::{first_character, sized_character};
 
 /// The character `c` at the front of a piece with the marks behind it, if it is passed by, no unit reaches from it to the next one,
 /// and it ends within `reach`.
@@ -108,10 +109,10 @@ fn sequence_passed<W: Weights>(
     Some(walked)
 }
 
-/// Passes ASCII characters by, of which the first is `passed.next`, by their steps: up to the last place before which no key of the
-/// pattern waits, as long as the steps are known and the characters end within `reach`. It gives what is passed by then, and where the
-/// last of it begins.
-#[inline(always)]
+/// Passes characters by, of which the first is `passed.next`, by their steps: up to the last place before which no key of the pattern
+/// waits, as long as the steps are known and the characters end within `reach`. It gives what is passed by then, and where the last of
+/// it begins.
+#[inline(never)]
 fn pass_steps<W: Weights>(
     query: &Query<'_, W>,
     characters: &Characters,
@@ -124,7 +125,8 @@ fn pass_steps<W: Weights>(
     requires unit { IsCharacterUnit (W.table query.now.table.now) query.now.pattern.now passed.next passed.unit }
     requires right { IsRight (W.table query.now.table.now) query.now.pattern.now characters.now }
     requires fits { start + length piece.now ≤ most_bytes }
-    requires within { passed.len ≤ length piece.now }
+    requires within { passed.len + len_utf8 passed.next ≤ length piece.now }
+    requires low { passed.next < STEP_CHARACTERS }
     ensures more { passed.len ≤ result.0.len }
     ensures unit { IsCharacterUnit (W.table query.now.table.now) query.now.pattern.now result.0.next result.0.unit }
     ensures passed { (weigher : WeigherState) (walk : WalkState) (first : ℕ) → MayPass query.now.pattern.now weigher walk start
@@ -137,39 +139,44 @@ fn pass_steps<W: Weights>(
     laws_of_decompositions();
     units_stay_apart();
     weighers_go_on();
-    if !passed.next.is_ascii() {
-        return (passed, begins);
-    }
-    let end = reach.min(piece.len());
     let mut at = passed.len;
-    let mut c = passed.next as u8;
+    let mut c = passed.next;
+    let mut end = at + c.len_utf8();
     let mut waiting = 0;
     let mut free = at;
     let mut next = c;
-    while at + 1 < end {
-        let following = piece[at + 1];
-        let after = characters.step(waiting, c);
-        if after == NO_STEP || characters.step(0, following) == NO_STEP {
+    let mut last = at;
+    while end <= reach {
+        let Some((following, len)) = sized_character(&piece[end..]) else {
+            break;
+        };
+        if !characters.has_steps(following) {
             break;
         }
-        at += 1;
+        let after = characters.step(waiting, c) as usize;
+        if after >= STEPS {
+            break;
+        }
+        let begin = at;
+        at = end;
         c = following;
-        waiting = after as usize;
+        end += len;
+        waiting = after;
         if waiting == 0 {
             free = at;
             next = c;
+            last = begin;
         }
     }
     if free == passed.len {
         return (passed, begins);
     }
-    let next = char::from(next);
     let walked = Walked {
         len: free,
         next,
         unit: characters.known_unit(next),
     };
-    (walked, start + (free - 1) as u64)
+    (walked, start + last as u64)
 }
 
 impl Finder {
@@ -261,7 +268,11 @@ impl Finder {
                 next: walked.next,
                 unit: walked.unit,
             };
-            (passed, begins) = pass_steps(query, characters, piece, reach, start, passed, begins);
+            if characters.has_steps(passed.next) {
+                (passed, begins) = pass_steps(
+                    query, characters, piece, reach, start, passed, begins,
+                );
+            }
         }
         if passed.len == 0 {
             return None;

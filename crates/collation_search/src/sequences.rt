@@ -45,7 +45,7 @@ pub(crate) fn read_sequence<W: Weights>(
         let sequence = CombiningSequence {
             base,
             mark,
-            other: None,
+            second_mark: None,
         };
         return Some((
             sequence,
@@ -62,7 +62,7 @@ pub(crate) fn read_sequence<W: Weights>(
     let sequence = CombiningSequence {
         base,
         mark,
-        other: Some(following),
+        second_mark: Some(following),
     };
     Some((
         sequence,

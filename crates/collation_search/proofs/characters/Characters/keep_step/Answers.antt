@@ -29,7 +29,6 @@ returns-then-after-lt-STEPS g c =
     let same : keys ≡ c.args.key ∷ [] = ap item_keys (c.requires.key.items 0) in
     let P : Key → Type 0 = λ key. (ks : List Key) → border pattern.keys ks ≡ waiting → border pattern.keys (ks ++ key ∷ []) ≡ after in
     let step : IsStep table pattern waiting ch after = record {
-      low = c.requires.low;
       apart = c.requires.apart;
       items = λ start. c.requires.key.items start ∙ ap (λ (ks : List Key). ClusterStart start ∷ map (λ key. Element key) ks) (sym same);
       flag = c.requires.key.flag;
@@ -37,9 +36,19 @@ returns-then-after-lt-STEPS g c =
       some = omega (arith, c.if-waiting-len.false, c.len.ensures.keys);
       waits = All-same P keys (c.args.key ∷ []) same (All-cons P c.args.key [] (λ ks is. sym (c.advance-after.ensures.border ks is)) (All-nil P));
     } in
-    let Q : ℕ → ℕ → Type 0 = λ i n. (s k : ℕ) → s < 4 → k < 256 → s * 256 + k ≡ i → IsStep table pattern s k n in
-    let here : Q (waiting * 256 + ch) after = λ s k few low is.
-    let same_state : waiting ≡ s = omega (arith, is, low, c.requires.low) in
-    let same_char : ch ≡ k = omega (arith, is, low, c.requires.low) in
-    subst (λ t. IsStep table pattern t k after) same_state (subst (λ t. IsStep table pattern waiting t after) same_char step) in
-    (old.0, (old.1.0, (old.1.1.0, λ s k less4 low less. known_set Q c.args.self.now.steps (waiting * 256 + ch) (s * 256 + k) after 255 here (λ few s' k' less' low' is. subst (λ i. IsStep table pattern s' k' (get_or c.args.self.now.steps i 0)) is (old.1.1.1 s' k' less' low' (subst (λ i. get_or c.args.self.now.steps i 0 < 255) (sym is) few))) less s k less4 low refl)))
+    let Q : ℕ → ℕ → Type 0 = λ i n. (s k : ℕ) → s < 4 → k * 4 + s ≡ i → IsStep table pattern s k n in
+    let here : Q (ch * 4 + waiting) after = λ s k few is.
+    let same_state : waiting ≡ s = omega (arith, is, few, c.requires.few) in
+    let same_char : ch ≡ k = omega (arith, is, few, c.requires.few) in
+    subst (λ t. IsStep table pattern t k after) same_state (subst (λ t. IsStep table pattern waiting t after) same_char step) in (
+      old.0,
+      (
+        old.1.0,
+        (
+          old.1.1.0,
+          λ s k less4 low less. known_set Q c.args.self.now.steps (ch * 4 + waiting) (k * 4 + s) after 255 here
+              (λ few s' k' less' is. subst (λ i. IsStep table pattern s' k' (get_or c.args.self.now.steps i 0)) is
+              (old.1.1.1 s' k' less' (omega (arith, is, less4, low, less')) (subst (λ i. get_or c.args.self.now.steps i 0 < 255) (sym is) few))) less s k less4 refl,
+        ),
+      ),
+    )

@@ -45,7 +45,7 @@ no_items table pattern = record {
 }
 
 blank_sequence : KeptSequence
-blank_sequence = record { sequence = record { base = 0; mark = 0; other = None }; items = None; items_after_variable = None; is_passed = false }
+blank_sequence = record { sequence = record { base = 0; mark = 0; second_mark = None }; items = None; items_after_variable = None; is_passed = false }
 
 no_sequence : (table : TableMap) (pattern : Compiled) → AreKeptForSequence table pattern blank_sequence
 unfolding blank_sequence
@@ -64,7 +64,7 @@ returns g c = record {
       subst (All (AreKeptItems table pattern)) (sym (c.in_ok-vec-2.ensures.items_if_clones_equal (λ y h. h))) (All-replicate (AreKeptItems table pattern) 4096 blank_items (no_items table pattern)),
       (
         subst (All (AreKeptForSequence table pattern)) (sym (c.in_ok-vec-3.ensures.items_if_clones_equal (λ y h. h))) (All-replicate (AreKeptForSequence table pattern) 1024 blank_sequence (no_sequence table pattern)),
-        λ waiting c few low less. absurd (omega (arith, less, get_or-replicate {A = ℕ} 1024 (waiting * 256 + c) 255 0 (omega (arith, few, low)))),
+        λ waiting c few low less. absurd (omega (arith, less, get_or-replicate {A = ℕ} 32768 (c * 4 + waiting) 255 0 (omega (arith, few, low)))),
       ),
     ),
   );
