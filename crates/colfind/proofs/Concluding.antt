@@ -6,11 +6,11 @@ use Rattle.collation_table.specs.Table.{TableMap}
 use Rattle.collation_elements.specs.declared.settings.Variable.{Variable}
 use Rattle.collation_elements.specs.declared.settings.Strength.{Strength}
 use Rattle.collation_pattern.specs.Compiled.{Compiled}
-use Rattle.collation_search.specs.Answer.{Answer, answer}
-use Rattle.collation_search.specs.GoodPrefix.{whole}
-use Rattle.collation_search.specs.Matches.{settled}
-use Rattle.collation_search.specs.Search.{Sought, IsCompiledFrom, answer_to, settled_in}
-use Rattle.collation_search.specs.declared.select.Select.{Select}
+use Rattle.collation_matches.specs.Answer.{Answer, answer}
+use Rattle.collation_matches.specs.GoodPrefix.{whole}
+use Rattle.collation_matches.specs.Matches.{settled}
+use Rattle.collation_matches.specs.Sought.{Sought, IsCompiledFrom, answer_to, settled_in}
+use Rattle.collation_matches.specs.declared.select.Select.{Select}
 use Rattle.colfind.specs.Patterns as patterns
 use Rattle.colfind.specs.Patterns.{IsCompiledWith}
 use Rattle.colfind.specs.declared.devices.DeviceFault.{DeviceFault}

@@ -2,8 +2,8 @@
 use Rattle.std.proofs.Common.{◌≡◌, ◌+◌, ℕ, true, false, List, length, Option, sym, ap, ◌∙◌, subst, nat_lt, arith}
 use Rattle.std.specs.Prelude.{Result, Ok, Err, OnOk, OnErr, is_err}
 use Rattle.std.proofs.lemmas.Bool.Decides.{nat_tests}
-use Rattle.collation_search.specs.Answer.{Answer}
-use Rattle.collation_search.specs.declared.TextFault.{TextFault}
+use Rattle.collation_matches.specs.Answer.{Answer}
+use Rattle.collation_matches.specs.declared.TextFault.{TextFault}
 use Rattle.colfind.specs.declared.output.Output.{Output}
 use Rattle.colfind.specs.declared.run.TextEnd.{TextEnd}
 use Rattle.colfind.specs.declared.run.TextEnd.TheVariants.{Good, Fault, Unread}

@@ -4,12 +4,13 @@ use Rattle.std.proofs.Common.{◌≡◌, ◌∙◌, ℕ, ◌≤◌, ◌^◌, tru
 use Rattle.std.proofs.lemmas.List.{length-take}
 use Rattle.std.proofs.lemmas.Bool.{leb-true, and_parts}
 use Rattle.collation_table.specs.declared.lookup.Weights.{Ghosts}
-use Rattle.collation_search.specs.declared.faults.TextFault.{TextFault}
+use Rattle.collation_matches.specs.declared.faults.TextFault.{TextFault}
 use Rattle.collation_search.specs.declared.search.Search.{Search}
-use Rattle.collation_search.specs.Answer.{Answer}
+use Rattle.collation_matches.specs.Answer.{Answer}
 use Rattle.collation_search.specs.Feeding.{Feeds}
-use Rattle.collation_search.specs.GoodPrefix.{is_good_so_far}
-use Rattle.collation_search.specs.Search.{HasSearched, IsCompiledFrom, Sought, sought, answer_to}
+use Rattle.collation_matches.specs.GoodPrefix.{is_good_so_far}
+use Rattle.collation_search.specs.Search.{HasSearched, sought}
+use Rattle.collation_matches.specs.Sought.{IsCompiledFrom, Sought, answer_to}
 
 -- the ranges are the first ones of the answer to the bytes
 abbrev pub Begins : Sought → List ℕ → List ℕ → List (ℕ × ℕ) → Type 0

@@ -7,11 +7,11 @@ use Rattle.collation_elements.specs.declared.settings.Variable.{Variable}
 use Rattle.collation_elements.specs.declared.settings.Strength.{Strength}
 use Rattle.collation_pattern.specs.Compiled.{Compiled}
 use Rattle.collation_pattern.specs.Levels.{text_keys}
-use Rattle.collation_search.specs.Answer.{answer_at}
-use Rattle.collation_search.specs.GoodPrefix.{fault}
-use Rattle.collation_search.specs.Selecting.{selected}
-use Rattle.collation_search.specs.declared.select.Select.{Select}
-use Rattle.collation_search.specs.declared.TextFault.{TextFault}
+use Rattle.collation_matches.specs.Answer.{answer_at}
+use Rattle.collation_matches.specs.GoodPrefix.{fault}
+use Rattle.collation_matches.specs.Selecting.{selected}
+use Rattle.collation_matches.specs.declared.select.Select.{Select}
+use Rattle.collation_matches.specs.declared.TextFault.{TextFault}
 use Rattle.colfind.specs.declared.output.Output.{Output}
 use Rattle.colfind.specs.Devices.{with_piece}
 use Rattle.colfind.specs.Patterns.{IsCompiledWith, answer_by}

@@ -1,8 +1,8 @@
 -- A selection of ranges has no more of them than there are.
 use Rattle.std.proofs.Common.{ℕ, ◌≤◌, Bool, true, false, nat_le, List, [], ◌∷◌, length, if◌then◌else◌, arith}
-use Rattle.collation_search.specs.Selecting.{chain_after, selected}
-use Rattle.collation_search.specs.declared.select.Select.{Select}
-use Rattle.collation_search.specs.declared.select.Select.TheVariants.{All, Chain}
+use Rattle.collation_matches.specs.Selecting.{chain_after, selected}
+use Rattle.collation_matches.specs.declared.select.Select.{Select}
+use Rattle.collation_matches.specs.declared.select.Select.TheVariants.{All, Chain}
 
 taken_or_passed : (b : Bool) (range : ℕ × ℕ) (taken passed ranges : List (ℕ × ℕ)) → length taken ≤ length ranges → length passed ≤ length ranges →
     length (if b then range ∷ taken else passed) ≤ length (range ∷ ranges)

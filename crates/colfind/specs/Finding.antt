@@ -1,9 +1,10 @@
 -- What is found in the bytes of a reader.
 use Rattle.std.specs.Prelude.{◌≡◌, true, false, ℕ, ◌+◌, ◌≤◌, ◌^◌, List, ◌++◌, length, Option, Some, None, Result, IfOk, OnErr, is_err}
 use Rattle.collation_table.specs.declared.lookup.Weights.{Ghosts}
-use Rattle.collation_search.specs.Answer.{Answer}
-use Rattle.collation_search.specs.GoodPrefix.{is_good_so_far}
-use Rattle.collation_search.specs.Search.{HasSearched, IsCompiledFrom, sought, answer_to}
+use Rattle.collation_matches.specs.Answer.{Answer}
+use Rattle.collation_matches.specs.GoodPrefix.{is_good_so_far}
+use Rattle.collation_search.specs.Search.{HasSearched, sought}
+use Rattle.collation_matches.specs.Sought.{IsCompiledFrom, answer_to}
 use Rattle.collation_search.specs.declared.search.Search.{Search}
 use Rattle.colfind.specs.declared.devices.DeviceFault.{DeviceFault}
 use Rattle.colfind.specs.declared.lines.Lines.{Lines}

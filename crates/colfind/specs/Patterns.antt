@@ -5,11 +5,11 @@ use Rattle.collation_elements.specs.declared.settings.Variable.{Variable}
 use Rattle.collation_elements.specs.declared.settings.Strength.{Strength}
 use Rattle.collation_pattern.specs.Compiled.{Compiled}
 pub use Rattle.collation_pattern.specs.Compiled.{IsCompiledWith}
-use Rattle.collation_search.specs.Answer.{Answer, answer}
-use Rattle.collation_search.specs.Matches.{settled}
-use Rattle.collation_search.specs.GoodPrefix.{whole}
-use Rattle.collation_search.specs.Selecting.{selected, selected_answer}
-use Rattle.collation_search.specs.declared.select.Select.{Select}
+use Rattle.collation_matches.specs.Answer.{Answer, answer}
+use Rattle.collation_matches.specs.Matches.{settled}
+use Rattle.collation_matches.specs.GoodPrefix.{whole}
+use Rattle.collation_matches.specs.Selecting.{selected, selected_answer}
+use Rattle.collation_matches.specs.declared.select.Select.{Select}
 
 -- the answer to a text that has ended, with all ranges or with the chain of them
 abbrev pub answer_by : Select → TableMap → Strength → Variable → List ℕ → List ℕ → Answer

@@ -1,8 +1,8 @@
 -- What a run has read and printed, by its outcome.
 use Rattle.std.specs.Prelude.{◌≡◌, true, ◌+◌, ◌≤◌, ℕ, Bool, List, [], length, Option, Some, None, IfSome, if◌then◌else◌}
-use Rattle.collation_search.specs.Answer.{Answer}
-use Rattle.collation_search.specs.GoodPrefix.{is_good_so_far}
-use Rattle.collation_search.specs.declared.TextFault.{TextFault}
+use Rattle.collation_matches.specs.Answer.{Answer}
+use Rattle.collation_matches.specs.GoodPrefix.{is_good_so_far}
+use Rattle.collation_matches.specs.declared.TextFault.{TextFault}
 use Rattle.colfind.specs.declared.output.Output.{Output}
 use Rattle.colfind.specs.declared.run.Outcome.{Outcome}
 use Rattle.colfind.specs.declared.run.Outcome.TheVariants.{Done, Text, Read, Write, Memory}

@@ -5,10 +5,10 @@ use Rattle.collation_table.specs.Table.{TableMap}
 use Rattle.collation_table.specs.WellFormed.{IsWellFormed}
 use Rattle.collation_elements.specs.declared.settings.Variable.{Variable}
 use Rattle.collation_elements.specs.declared.settings.Strength.{Strength}
-use Rattle.collation_search.specs.GoodPrefix.{fault}
-use Rattle.collation_search.specs.Matches.{matches}
-use Rattle.collation_search.specs.Selecting.{selected}
-use Rattle.collation_search.specs.declared.select.Select.{Select}
+use Rattle.collation_matches.specs.GoodPrefix.{fault}
+use Rattle.collation_matches.specs.Matches.{matches}
+use Rattle.collation_matches.specs.Selecting.{selected}
+use Rattle.collation_matches.specs.declared.select.Select.{Select}
 use Rattle.colfind.specs.declared.output.Output.{Output}
 use Rattle.colfind.specs.declared.words.Settings.{Settings}
 use Rattle.colfind.specs.Devices.{after_piece, with_piece}

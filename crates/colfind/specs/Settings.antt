@@ -7,8 +7,8 @@ use Rattle.collation_elements.specs.declared.settings.Strength.{Strength}
 use Rattle.collation_elements.specs.declared.settings.Strength.TheVariants.{One, Two, Three}
 use Rattle.collation_elements.specs.declared.settings.Variable.{Variable}
 use Rattle.collation_elements.specs.declared.settings.Variable.TheVariants.{NonIgnorable, Shifted}
-use Rattle.collation_search.specs.declared.select.Select.{Select}
-use Rattle.collation_search.specs.declared.select.Select.TheVariants.{All, Chain}
+use Rattle.collation_matches.specs.declared.select.Select.{Select}
+use Rattle.collation_matches.specs.declared.select.Select.TheVariants.{All, Chain}
 use Rattle.colfind.specs.declared.output.Output.{Output}
 use Rattle.colfind.specs.declared.output.Output.TheVariants.{Ranges, Count, Marks}
 use Rattle.colfind.specs.declared.words.Settings.{Settings}

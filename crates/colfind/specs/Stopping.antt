@@ -10,7 +10,7 @@ use Rattle.collation_table.specs.Faults.{tailored_fault, IsFaultOrAllocationRefu
 use Rattle.collation_elements.specs.declared.settings.Variable.{Variable}
 use Rattle.collation_elements.specs.declared.settings.Strength.{Strength}
 use Rattle.collation_pattern.specs.PatternFaults.{pattern_fault}
-use Rattle.collation_search.specs.declared.select.Select.{Select}
+use Rattle.collation_matches.specs.declared.select.Select.{Select}
 use Rattle.colfind.specs.declared.output.Output.{Output}
 use Rattle.colfind.specs.declared.faults.Stop.{Stop}
 use Rattle.colfind.specs.declared.faults.Stop.TheVariants.{Words, File, Tailor, Table, Pattern, TextFile, Text, Read, Write, Memory}

@@ -1,10 +1,11 @@
 //! A run of the search over a reader and a writer.
 ghost use Rattle.std.specs.Prelude.{ℕ, List, Option, ◌≡◌, ◌<◌, ◌^◌, ◌++◌, nat_lt};
-ghost use Rattle.collation_search.specs.declared.select.Select.TheVariants.{All};
+ghost use Rattle.collation_matches.specs.declared.select.Select.TheVariants.{All};
 ghost use Rattle.colfind.specs.Patterns.{IsCompiledWith, answer_to, settled_in};
 ghost use Rattle.colfind.specs.Finding.{IsFoundIn, EndsBy, failures_of, failures_at};
-ghost use Rattle.collation_search.specs.GoodPrefix.{whole};
-ghost use Rattle.collation_search.specs.Search.{IsCompiledFrom, sought, answer_to as search_answer, settled_in as search_settled};
+ghost use Rattle.collation_matches.specs.GoodPrefix.{whole};
+ghost use Rattle.collation_search.specs.Search.{sought};
+ghost use Rattle.collation_matches.specs.Sought.{IsCompiledFrom, answer_to as search_answer, settled_in as search_settled};
 ghost use Rattle.colfind.specs.Running.{IfDone, IfText, IfRead};
 ghost use Rattle.colfind.specs.Running.{PrintsAll, PrintsToFault, PrintsSettled, PrintsPrefix, reported_ranges, FailsAs};
 

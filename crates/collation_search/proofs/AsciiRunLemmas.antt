@@ -10,12 +10,12 @@ use Rattle.nfd_points.specs.Points.{byte_len}
 use Rattle.nfd_points.specs.PointFaults.{point_fault}
 use Rattle.collation_table.specs.Table.{TableMap}
 use Rattle.collation_pattern.specs.Compiled.{Compiled}
-use Rattle.collation_search.specs.declared.faults.TextFault.{TextFault}
+use Rattle.collation_matches.specs.declared.faults.TextFault.{TextFault}
 use Rattle.collation_search.specs.declared.finder.Finder.{Finder}
 use Rattle.collation_search.specs.Finding.{FinderStandsFor}
-use Rattle.collation_search.specs.GoodPrefix.{most_bytes, whole}
+use Rattle.collation_matches.specs.GoodPrefix.{most_bytes, whole}
 use Rattle.collation_search.specs.Searching.{Searched}
-use Rattle.collation_search.proofs.TextCheckLemmas.{next_codes, next_offset, open_from}
+use Rattle.collation_matches.proofs.TextCheckLemmas.{next_codes, next_offset, open_from}
 
 -- ---- lengths
 

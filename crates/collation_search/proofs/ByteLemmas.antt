@@ -6,8 +6,8 @@ use Rattle.utf8_cut.specs.State.{StandsFor, IsPrefix}
 use Rattle.utf8_cut.specs.Value.{CutState}
 use Rattle.nfd_points.specs.Points.{byte_len}
 use Rattle.nfd_points.specs.PointFaults.{point_fault}
-use Rattle.collation_search.specs.GoodPrefix.{most_bytes, seen, whole}
-use Rattle.collation_search.proofs.TextCheckLemmas.{next_code, next_offset, Begins, code_at_fault}
+use Rattle.collation_matches.specs.GoodPrefix.{most_bytes, seen, whole}
+use Rattle.collation_matches.proofs.TextCheckLemmas.{next_code, next_offset, Begins, code_at_fault}
 
 -- after the bytes u, the byte b gave the character c, which stands at an offset; the cutter is the one after it
 pub record CharacterCame (u : List ℕ) (b c at : ℕ) (cut : CutState) : Type 0 where

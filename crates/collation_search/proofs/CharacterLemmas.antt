@@ -35,7 +35,7 @@ use Rattle.collation_search.specs.Walks.{WalksOver}
 use Rattle.collation_search.proofs.ApartLaws.{Laws}
 use Rattle.collation_search.proofs.ApartLemmas.{next_of_one, from_one}
 use Rattle.collation_search.proofs.PassedLemmas.{walks-passed, walks-step}
-use Rattle.collation_search.proofs.TextCheckLemmas.{byte_len_encoded}
+use Rattle.collation_matches.proofs.TextCheckLemmas.{byte_len_encoded}
 
 -- ---- two characters
 

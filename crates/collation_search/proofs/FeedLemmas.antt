@@ -4,11 +4,12 @@ use Rattle.std.specs.List.{FoldsTo}
 use Rattle.std.proofs.Common.{◌≡◌, ◌∙◌, ℕ, false, List, [], ◌∷◌, ◌++◌, refl, sym, ap, subst, append_assoc}
 use Rattle.std.proofs.lemmas.List.{append-nil}
 use Rattle.collation_table.specs.declared.lookup.Weights.{Ghosts}
-use Rattle.collation_search.specs.declared.faults.TextFault.{TextFault}
+use Rattle.collation_matches.specs.declared.faults.TextFault.{TextFault}
 use Rattle.collation_search.specs.declared.search.Search.{Search}
-use Rattle.collation_search.specs.Answer.{Answer}
-use Rattle.collation_search.specs.GoodPrefix.{is_good_so_far}
-use Rattle.collation_search.specs.Search.{HasSearched, HasReported, HasReportedNone, IsCompiledFrom, Sought, sought, answer_to}
+use Rattle.collation_matches.specs.Answer.{Answer}
+use Rattle.collation_matches.specs.GoodPrefix.{is_good_so_far}
+use Rattle.collation_search.specs.Search.{HasSearched, HasReported, HasReportedNone, sought}
+use Rattle.collation_matches.specs.Sought.{IsCompiledFrom, Sought, answer_to}
 use Rattle.collation_search.specs.Feeding.{Feeds}
 
 -- ---- results

@@ -13,23 +13,23 @@ use Rattle.nfd_points.specs.PointFaults.{point_fault}
 use Rattle.collation_table.specs.Table.{TableMap}
 use Rattle.collation_pattern.specs.Compiled.{Compiled}
 use Rattle.collation_elements.specs.Clusters.{clusters_from}
-use Rattle.collation_search.specs.declared.faults.TextFault.{TextFault}
+use Rattle.collation_matches.specs.declared.faults.TextFault.{TextFault}
 use Rattle.collation_search.specs.declared.finder.Finder.{Finder}
 use Rattle.collation_search.specs.declared.walk.Walk.{Walk}
-use Rattle.collation_search.specs.Answer.{Answer}
-use Rattle.collation_search.specs.ByClusters.{text_begin, found}
-use Rattle.collation_search.specs.ByClustersLaws.{matches_are_found, settled_are_found, items_give_ranges}
+use Rattle.collation_matches.specs.Answer.{Answer}
+use Rattle.collation_matches.specs.ByClusters.{text_begin, found}
+use Rattle.collation_matches.specs.ByClustersLaws.{matches_are_found, settled_are_found, items_give_ranges}
 use Rattle.collation_search.specs.Finding.{FinderStandsFor}
-use Rattle.collation_search.specs.GoodPrefix.{most_bytes, seen, whole, byte_fault, fault, is_good_so_far}
+use Rattle.collation_matches.specs.GoodPrefix.{most_bytes, seen, whole, byte_fault, fault, is_good_so_far}
 use Rattle.collation_search.specs.Indexing.{first_range, HasRead}
-use Rattle.collation_search.specs.Search.{Sought, IsCompiledFrom, answer_to}
-use Rattle.collation_search.specs.Selecting.{selected}
+use Rattle.collation_matches.specs.Sought.{Sought, IsCompiledFrom, answer_to}
+use Rattle.collation_matches.specs.Selecting.{selected}
 use Rattle.collation_search.specs.Walks.{WalksOver}
-use Rattle.collation_search.proofs.TextCheckLemmas.{byte_len_encoded, open_from, seen_short}
-use Rattle.collation_search.proofs.LagTexts.{TextLaws}
+use Rattle.collation_matches.proofs.TextCheckLemmas.{byte_len_encoded, open_from, seen_short}
+use Rattle.collation_matches.proofs.LagTexts.{TextLaws}
 use Rattle.collation_search.proofs.SearchAnswers.{items_in, answer-at_fault, answer-good}
 use Rattle.collation_search.proofs.SearchBegins.{begins-answer}
-use Rattle.collation_search.proofs.SearchLemmas.{whole_of_text, scalars_prefix, byte_fault_at}
+use Rattle.collation_matches.proofs.SearchLemmas.{whole_of_text, scalars_prefix, byte_fault_at}
 
 -- ---- texts
 
@@ -98,7 +98,7 @@ first-good laws s matches_law items_law p text ranges compiled some utf8 good wa
 -- ---- faults of the bytes
 
 pub fault-of_bytes : (text : List ℕ) → point_fault (chars (whole (seen text))) ≡ None → fault text ≡ byte_fault text
-fault-of_bytes text good = ap (λ o. Rattle.collation_search.specs.GoodPrefix.first_of o (byte_fault text)) good
+fault-of_bytes text good = ap (λ o. Rattle.collation_matches.specs.GoodPrefix.first_of o (byte_fault text)) good
 
 -- without a fault the whole text is looked at, and it is whole characters
 pub all_whole : TextLaws → (text : List ℕ) → byte_fault text ≡ None → whole (seen text) ≡ text

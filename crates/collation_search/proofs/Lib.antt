@@ -1,24 +1,4 @@
-mod BridgeLists
-mod BridgeRanges
-mod BridgeKeys
-mod BridgeClusters
-mod BridgeFound
-mod BridgeMinimal
-mod BridgeGrowing
-mod BridgeFlat
-mod BridgeMatches
-pub mod SelectingLemmas
 pub mod WalkSteps
-mod BridgeBorder
-mod FewRanges
-mod LagCounts
-mod LagRanges
-mod LagTexts
-mod LagLaw
-mod SelectedInTime
-pub mod TextCheckLemmas
-pub mod WorkedRowLemmas
-pub mod SearchLemmas
 pub mod ByteLemmas
 pub mod SearchAnswers
 pub mod SearchBegins

@@ -25,8 +25,8 @@ use Rattle.collation_search.specs.declared.walk.Walk.{Walk}
 use Rattle.collation_search.specs.declared.walk.KeyPlace.{KeyPlace}
 use Rattle.collation_search.specs.AsciiUnits.{keys_alone, IsPassed, AreWalked}
 use Rattle.collation_search.specs.Walks.{WalksOver}
-use Rattle.collation_search.specs.Selecting.{remembered}
-use Rattle.collation_search.proofs.SelectingLemmas.{selected_after-nil}
+use Rattle.collation_matches.specs.Selecting.{remembered}
+use Rattle.collation_matches.proofs.SelectingLemmas.{selected_after-nil}
 use Rattle.collation_search.proofs.WalkSteps.{walks-start, walks-key, walks-end_short, walks-select}
 use Rattle.collation_search.proofs.RunWindowLemmas.{walked-one, walked-append}
 

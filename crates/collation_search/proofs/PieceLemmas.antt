@@ -7,11 +7,12 @@ use Rattle.std.proofs.lemmas.List.{append-nil, take_more}
 use Rattle.std.proofs.lemmas.Grind.{flat_map-append}
 use Rattle.collation_table.specs.declared.lookup.Weights.{Ghosts}
 use Rattle.collation_search.specs.declared.faults.StateFault.{StateFault}
-use Rattle.collation_search.specs.declared.faults.TextFault.{TextFault}
+use Rattle.collation_matches.specs.declared.faults.TextFault.{TextFault}
 use Rattle.collation_search.specs.declared.search.Search.{Search}
-use Rattle.collation_search.specs.Answer.{Answer}
+use Rattle.collation_matches.specs.Answer.{Answer}
 use Rattle.collation_search.specs.State.{words_of}
-use Rattle.collation_search.specs.Search.{HasSearched, HasReported, IsCompiledFrom, Sought, sought, answer_to}
+use Rattle.collation_search.specs.Search.{HasSearched, HasReported, sought}
+use Rattle.collation_matches.specs.Sought.{IsCompiledFrom, Sought, answer_to}
 use Rattle.collation_search.specs.Feeding.{Feeds}
 use Rattle.collation_search.specs.Pieces.{joined, HasEnded, IsUnderWay}
 use Rattle.collation_search.specs.Resuming.{GoesOn, KeepsSaved}

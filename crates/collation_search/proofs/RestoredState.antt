@@ -12,10 +12,10 @@ use Rattle.collation_elements.specs.Weighing.{weigher, is_after_variable, Weighe
 use Rattle.collation_elements.specs.Windows.{Held, WindowStandsFor}
 use Rattle.collation_search.specs.declared.finder.Finder.{Finder}
 use Rattle.collation_search.specs.Finding.{FinderStandsFor}
-use Rattle.collation_search.specs.GoodPrefix.{whole}
+use Rattle.collation_matches.specs.GoodPrefix.{whole}
 use Rattle.collation_search.specs.Restoring.{places_in}
 use Rattle.collation_search.specs.Resuming.{IsRestored}
-use Rattle.collation_search.specs.Search.{Sought}
+use Rattle.collation_matches.specs.Sought.{Sought}
 use Rattle.collation_search.specs.Searching.{Searched}
 use Rattle.collation_search.specs.State.{tail_words}
 use Rattle.collation_search.specs.StateTests.{points_in}

@@ -7,9 +7,9 @@ use Rattle.collation_elements.specs.Items.{items}
 use Rattle.circular_buffer.specs.Buffer.{keep_last}
 use Rattle.collation_search.specs.declared.walk.KeyPlace.{KeyPlace}
 use Rattle.collation_search.specs.declared.walk.Walk.{Walk}
-use Rattle.collation_search.specs.ByClusters.{placed, found}
-use Rattle.collation_search.specs.declared.select.Select.{Select}
-use Rattle.collation_search.specs.Selecting.{selected, remembered}
+use Rattle.collation_matches.specs.ByClusters.{placed, found}
+use Rattle.collation_matches.specs.declared.select.Select.{Select}
+use Rattle.collation_matches.specs.Selecting.{selected, remembered}
 use Rattle.collation_search.specs.Restoring.{places_in}
 use Rattle.collation_search.specs.State.{place_words, kept_places}
 use Rattle.collation_search.specs.Walks.{place_of, WalksOver}

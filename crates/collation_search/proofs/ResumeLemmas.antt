@@ -9,19 +9,20 @@ use Rattle.utf8_cut.specs.Value.{CutState}
 use Rattle.collation_table.specs.Table.{longest_mapped}
 use Rattle.collation_table.specs.declared.lookup.Weights.{Ghosts}
 use Rattle.collation_search.specs.declared.faults.StateFault.{StateFault}
-use Rattle.collation_search.specs.declared.faults.TextFault.{TextFault}
+use Rattle.collation_matches.specs.declared.faults.TextFault.{TextFault}
 use Rattle.collation_search.specs.declared.finder.Finder.{Finder}
 use Rattle.collation_search.specs.declared.states.Head.{Head}
 use Rattle.collation_search.specs.declared.states.Resumed.{Resumed}
 use Rattle.collation_search.specs.declared.search.Search.{Search}
-use Rattle.collation_search.specs.GoodPrefix.{most_bytes}
+use Rattle.collation_matches.specs.GoodPrefix.{most_bytes}
 use Rattle.collation_search.specs.Resuming.{sizes_of, AreSaved, AreSavedAfter, GoesOn, BeginsWithFault, KeepsSaved, IsRestored}
-use Rattle.collation_search.specs.Search.{Sought, sought, HasSearched, HasReported}
+use Rattle.collation_search.specs.Search.{sought, HasSearched, HasReported}
+use Rattle.collation_matches.specs.Sought.{Sought}
 use Rattle.collation_search.specs.Searching.{Searched}
 use Rattle.collation_search.specs.State.{state_words, tail_words}
-use Rattle.collation_search.specs.declared.select.Select.TheVariants.{All}
+use Rattle.collation_matches.specs.declared.select.Select.TheVariants.{All}
 use Rattle.collation_search.specs.Restoring.{last_end_in}
-use Rattle.collation_search.specs.Selecting.{remembered}
+use Rattle.collation_matches.specs.Selecting.{remembered}
 use Rattle.collation_search.specs.StateTests.{head, head_len, bytes_in, is_flag, may_be_held, has_form, is_for, has_records, is_open_head, may_match_wait, is_chain_end, has_open_tail, is_reported, is_state, state_fault}
 use Rattle.collation_search.proofs.SavedBytes.{bytes_in-held}
 use Rattle.collation_search.proofs.SavedWalk.{open_words-last_end}

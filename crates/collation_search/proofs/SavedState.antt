@@ -14,16 +14,16 @@ use Rattle.collation_table.specs.Table.{TableMap, longest_mapped, most_elements}
 use Rattle.collation_elements.specs.Context.{BoundariesAreStarts}
 use Rattle.collation_elements.specs.Weighing.{is_after_variable}
 use Rattle.collation_pattern.specs.Compiled.{Compiled}
-use Rattle.collation_search.specs.declared.faults.TextFault.{TextFault}
+use Rattle.collation_matches.specs.declared.faults.TextFault.{TextFault}
 use Rattle.collation_search.specs.declared.finder.Finder.{Finder}
 use Rattle.collation_search.specs.declared.states.Resumed.{Resumed}
 use Rattle.collation_search.specs.declared.states.Head.{Head}
-use Rattle.collation_search.specs.GoodPrefix.{whole, most_bytes}
+use Rattle.collation_matches.specs.GoodPrefix.{whole, most_bytes}
 use Rattle.collation_search.specs.Resuming.{sizes_of}
-use Rattle.collation_search.specs.Search.{Sought}
+use Rattle.collation_matches.specs.Sought.{Sought}
 use Rattle.collation_search.specs.Searching.{Searched}
-use Rattle.collation_search.specs.declared.select.Select.{Select}
-use Rattle.collation_search.specs.declared.select.Select.TheVariants.{All, Chain}
+use Rattle.collation_matches.specs.declared.select.Select.{Select}
+use Rattle.collation_matches.specs.declared.select.Select.TheVariants.{All, Chain}
 use Rattle.collation_search.specs.Saving.{records_before}
 use Rattle.collation_search.specs.State.{flag_word, form_word, strength_word, variable_word, number_of, place_words, point_words, kept_places, match_waits, head_words, chain_record, chain_words, tail_words, state_words}
 use Rattle.collation_search.specs.StateTests.{head, head_len, has_form, is_for, may_be_held, may_match_wait, has_records, is_open_head, is_chain_end, has_open_tail, is_reported, is_state, state_fault}
@@ -32,7 +32,7 @@ use Rattle.collation_search.proofs.SavedPoints.{PointsAreSaved, points-saved, Pa
 use Rattle.collation_search.proofs.SavedWalk.{WalkIsSaved, walk-saved, searched-end, saved-match_waits, open_words-tail, open_words-chain_end}
 use Rattle.collation_search.proofs.StateLemmas.{flag-is}
 use Rattle.collation_search.proofs.SavingLemmas.{point_words-length, head_len-records, before_tail-length}
-use Rattle.collation_search.proofs.TextCheckLemmas.{open_cut}
+use Rattle.collation_matches.proofs.TextCheckLemmas.{open_cut}
 
 -- the laws of texts and points that this needs
 pub record SavedLaws : Type 0 where

@@ -16,31 +16,31 @@ use Rattle.collation_elements.specs.Clusters.{Cluster, clusters, clusters_from, 
 use Rattle.collation_elements.specs.Context.{BoundariesAreStarts}
 use Rattle.collation_pattern.specs.Compiled.{Compiled}
 use Rattle.circular_buffer.specs.Buffer.{keep_last}
-use Rattle.collation_search.specs.declared.faults.TextFault.{TextFault}
+use Rattle.collation_matches.specs.declared.faults.TextFault.{TextFault}
 use Rattle.collation_search.specs.declared.finder.Finder.{Finder}
 use Rattle.collation_search.specs.declared.walk.KeyPlace.{KeyPlace}
 use Rattle.collation_search.specs.declared.walk.Walk.{Walk}
-use Rattle.collation_search.specs.ByClusters.{PlacedKey, text_begin, placed, placed_at}
+use Rattle.collation_matches.specs.ByClusters.{PlacedKey, text_begin, placed, placed_at}
 use Rattle.collation_search.specs.Finding.{FinderStandsFor}
-use Rattle.collation_search.specs.GoodPrefix.{whole}
+use Rattle.collation_matches.specs.GoodPrefix.{whole}
 use Rattle.collation_search.specs.Restoring.{places_in, last_end_in}
-use Rattle.collation_search.specs.Search.{Sought}
+use Rattle.collation_matches.specs.Sought.{Sought}
 use Rattle.collation_search.specs.Searching.{Searched}
 use Rattle.collation_search.specs.State.{flag_word, place_words, point_words, kept_places, match_waits, is_first_place, head_words, chain_record, tail_words, state_words}
-use Rattle.collation_search.specs.declared.select.Select.{Select}
-use Rattle.collation_search.specs.declared.select.Select.TheVariants.{All, Chain}
+use Rattle.collation_matches.specs.declared.select.Select.{Select}
+use Rattle.collation_matches.specs.declared.select.Select.TheVariants.{All, Chain}
 use Rattle.collation_search.specs.declared.states.Resumed.{Resumed}
 use Rattle.collation_search.specs.StateTests.{head, head_len, is_flag, are_places, may_match_wait, is_chain_end}
 use Rattle.collation_search.specs.Walks.{place_of}
-use Rattle.collation_search.proofs.BridgeLists.{In, Rising, in_left, in_right}
-use Rattle.collation_search.proofs.BridgeRanges.{Below}
-use Rattle.collation_search.proofs.BridgeMatches.{rising_boundaries}
-use Rattle.collation_search.proofs.LagRanges.{begins-with}
+use Rattle.collation_matches.proofs.BridgeLists.{In, Rising, in_left, in_right}
+use Rattle.collation_matches.proofs.BridgeRanges.{Below}
+use Rattle.collation_matches.proofs.BridgeMatches.{rising_boundaries}
+use Rattle.collation_matches.proofs.LagRanges.{begins-with}
 use Rattle.collation_search.proofs.LastEnds.{StartBy, walks-last_end}
 use Rattle.collation_search.proofs.SavingLemmas.{drop-some, place_words-length}
 use Rattle.collation_search.proofs.SearchBegins.{items_go_on}
-use Rattle.collation_search.proofs.SearchLemmas.{either}
-use Rattle.collation_search.proofs.TextCheckLemmas.{open_cut, next_offset}
+use Rattle.collation_matches.proofs.SearchLemmas.{either}
+use Rattle.collation_matches.proofs.TextCheckLemmas.{open_cut, next_offset}
 use Rattle.collation_search.proofs.WalkSteps.{walks-within}
 use Rattle.collation_search.proofs.RestoredWalk.{places_in-words, kept_places-length}
 use Rattle.collation_search.proofs.StateLemmas.{flag-is, flag-read}

@@ -4,11 +4,11 @@ use Rattle.std.proofs.lemmas.List.{append-nil, length-drop}
 use Rattle.nfd_points.specs.declared.points.Point.{Point}
 use Rattle.utf8_cut.specs.Value.{CutState}
 use Rattle.collation_table.specs.Table.{TableMap, longest_mapped}
-use Rattle.collation_search.specs.declared.select.Select.{Select}
-use Rattle.collation_search.specs.declared.select.Select.TheVariants.{All, Chain}
+use Rattle.collation_matches.specs.declared.select.Select.{Select}
+use Rattle.collation_matches.specs.declared.select.Select.TheVariants.{All, Chain}
 use Rattle.collation_pattern.specs.Compiled.{Compiled}
 use Rattle.collation_search.specs.declared.walk.KeyPlace.{KeyPlace}
-use Rattle.collation_search.specs.declared.faults.TextFault.{TextFault}
+use Rattle.collation_matches.specs.declared.faults.TextFault.{TextFault}
 use Rattle.collation_search.specs.declared.finder.Finder.{Finder}
 use Rattle.collation_search.specs.State.{place_record, point_record, place_words, point_words, kept_places, head_words, chain_record, chain_words, state_words}
 use Rattle.collation_search.specs.StateTests.{head_len}

@@ -11,15 +11,15 @@ use Rattle.collation_elements.specs.Clusters.{Cluster, clusters_from}
 use Rattle.collation_pattern.specs.Border.{same_keys, ends_with_prefix, border_up_to, border}
 use Rattle.collation_search.specs.declared.walk.Walk.{Walk}
 use Rattle.collation_search.specs.declared.walk.KeyPlace.{KeyPlace}
-use Rattle.collation_search.specs.ByClusters.{PlacedKey}
-use Rattle.collation_search.specs.ByClusters.{text_begin, has_keys, last_has_keys, ended, found, found_before_last, placed, placed_at, range_from, ended_by_keys}
-use Rattle.collation_search.specs.Selecting.{selected, remembered}
+use Rattle.collation_matches.specs.ByClusters.{PlacedKey}
+use Rattle.collation_matches.specs.ByClusters.{text_begin, has_keys, last_has_keys, ended, found, found_before_last, placed, placed_at, range_from, ended_by_keys}
+use Rattle.collation_matches.specs.Selecting.{selected, remembered}
 use Rattle.collation_search.specs.Walks.{place_of, WalksOver}
-use Rattle.collation_search.proofs.BridgeKeys.{same_keys-same}
-use Rattle.collation_search.proofs.SelectingLemmas.{selected_after, selected-append, selected-nil, remembered-nil}
-use Rattle.collation_search.proofs.BridgeGrowing.{found-more, found-begins, before_last-prefix, before_last-begins}
-use Rattle.collation_search.proofs.BridgeFlat.{ended-by_keys}
-use Rattle.collation_search.proofs.BridgeBorder.{ended-by_border, border_up_to-le}
+use Rattle.collation_matches.proofs.BridgeKeys.{same_keys-same}
+use Rattle.collation_matches.proofs.SelectingLemmas.{selected_after, selected-append, selected-nil, remembered-nil}
+use Rattle.collation_matches.proofs.BridgeGrowing.{found-more, found-begins, before_last-prefix, before_last-begins}
+use Rattle.collation_matches.proofs.BridgeFlat.{ended-by_keys}
+use Rattle.collation_matches.proofs.BridgeBorder.{ended-by_border, border_up_to-le}
 
 -- ---- clusters and their keys
 

@@ -1,10 +1,11 @@
 -- What a search has done with a piece of a text.
 use Rattle.std.specs.Prelude.{◌≡◌, ℕ, false, List, [], ◌++◌, Result, OnOk, OnErr, IfErr, Some, Err}
 use Rattle.collation_table.specs.declared.lookup.Weights.{Ghosts}
-use Rattle.collation_search.specs.declared.faults.TextFault.{TextFault}
+use Rattle.collation_matches.specs.declared.faults.TextFault.{TextFault}
 use Rattle.collation_search.specs.declared.search.Search.{Search}
-use Rattle.collation_search.specs.GoodPrefix.{is_good_so_far}
-use Rattle.collation_search.specs.Search.{HasSearched, HasReported, HasReportedNone, IsCompiledFrom, sought, answer_to}
+use Rattle.collation_matches.specs.GoodPrefix.{is_good_so_far}
+use Rattle.collation_search.specs.Search.{HasSearched, HasReported, HasReportedNone, sought}
+use Rattle.collation_matches.specs.Sought.{IsCompiledFrom, answer_to}
 
 -- The piece was taken, with this result, and the ranges were handed out in this order.
 --   stands: without a fault the search stands for the piece too

@@ -3,9 +3,9 @@ use Rattle.std.specs.Prelude.{◌≡◌, ℕ, ◌⊎◌, List, [], ◌∷◌, �
 use Rattle.std.specs.Str.{chars, IsUtf8}
 use Rattle.collation_table.specs.Table.{TableMap}
 use Rattle.collation_pattern.specs.Compiled.{Compiled}
-use Rattle.collation_search.specs.declared.faults.TextFault.{TextFault}
+use Rattle.collation_matches.specs.declared.faults.TextFault.{TextFault}
 use Rattle.collation_search.specs.declared.finder.Finder.{Finder}
-use Rattle.collation_search.specs.Answer.{Answer}
+use Rattle.collation_matches.specs.Answer.{Answer}
 use Rattle.collation_search.specs.Finding.{FinderStandsFor}
 
 -- the first range if there is one, though a fault may stand after it; else the fault; else nothing

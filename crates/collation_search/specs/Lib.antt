@@ -1,10 +1,4 @@
-pub mod Matches
-pub mod GoodPrefix
 pub mod Indexing
-pub mod Answer
-pub mod Selecting
-pub mod ByClusters
-pub mod ByClustersLaws
 pub mod Walks
 pub mod Matching
 pub mod Finding
@@ -18,8 +12,6 @@ pub mod Resuming
 pub mod WorkedStates
 pub mod Pieces
 pub mod Saving
-pub mod WorkedRows
-pub mod Lag
 pub mod AsciiUnits
 pub mod Characters
 pub mod Apart

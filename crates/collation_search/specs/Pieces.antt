@@ -2,9 +2,10 @@
 use Rattle.std.specs.Prelude.{◌≡◌, ◌⊎◌, ℕ, List, ◌++◌, Some, flat_map}
 use Rattle.std.specs.Borrow.{Bor}
 use Rattle.collation_table.specs.declared.lookup.Weights.{Ghosts}
-use Rattle.collation_search.specs.declared.faults.TextFault.{TextFault}
+use Rattle.collation_matches.specs.declared.faults.TextFault.{TextFault}
 use Rattle.collation_search.specs.declared.search.Search.{Search}
-use Rattle.collation_search.specs.Search.{Sought, sought, HasSearched, HasReported, IsCompiledFrom, answer_to}
+use Rattle.collation_search.specs.Search.{sought, HasSearched, HasReported}
+use Rattle.collation_matches.specs.Sought.{Sought, IsCompiledFrom, answer_to}
 
 -- the bytes of the pieces, one piece after another
 abbrev pub joined : List (Bor (List ℕ)) → List ℕ

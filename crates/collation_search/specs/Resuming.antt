@@ -5,13 +5,14 @@ use Rattle.collation_table.specs.Table.{longest_mapped, most_elements}
 use Rattle.collation_table.specs.declared.lookup.Weights.{Ghosts}
 use Rattle.collation_elements.specs.Weighing.{weigher}
 use Rattle.collation_search.specs.declared.faults.StateFault.{StateFault}
-use Rattle.collation_search.specs.declared.faults.TextFault.{TextFault}
+use Rattle.collation_matches.specs.declared.faults.TextFault.{TextFault}
 use Rattle.collation_search.specs.declared.finder.Finder.{Finder}
 use Rattle.collation_search.specs.declared.states.Resumed.{Resumed}
 use Rattle.collation_search.specs.declared.states.Head.{Head}
 use Rattle.collation_search.specs.declared.search.Search.{Search}
 use Rattle.collation_search.specs.Restoring.{places_in}
-use Rattle.collation_search.specs.Search.{Sought, sought, HasSearched, HasReported, HasReportedNone}
+use Rattle.collation_search.specs.Search.{sought, HasSearched, HasReported, HasReportedNone}
+use Rattle.collation_matches.specs.Sought.{Sought}
 use Rattle.collation_search.specs.State.{words_of}
 use Rattle.collation_search.specs.StateTests.{points_in, place_part, window_part, waiting_part, has_form, is_for, state_fault}
 

@@ -2,9 +2,9 @@
 use Rattle.std.specs.Prelude.{◌≡◌, ℕ, ◌+◌, ◌*◌, ◌≤◌, List, ◌++◌, length}
 use Rattle.nfd_points.specs.declared.limits.TheConstants.{MOST_WAITING}
 use Rattle.collation_table.specs.Table.{longest_mapped}
-use Rattle.collation_search.specs.declared.select.Select.{Select}
-use Rattle.collation_search.specs.declared.select.Select.TheVariants.{All, Chain}
-use Rattle.collation_search.specs.Search.{Sought}
+use Rattle.collation_matches.specs.declared.select.Select.{Select}
+use Rattle.collation_matches.specs.declared.select.Select.TheVariants.{All, Chain}
+use Rattle.collation_matches.specs.Sought.{Sought}
 
 -- the words before, and some after them
 abbrev pub BeginsWith : List ℕ → List ℕ → Type 0

@@ -6,10 +6,10 @@ use Rattle.utf8_cut.specs.State.{StandsFor}
 use Rattle.utf8_cut.specs.Value.{CutState}
 use Rattle.collation_table.specs.Table.{TableMap}
 use Rattle.collation_pattern.specs.Compiled.{Compiled}
-use Rattle.collation_search.specs.declared.faults.TextFault.{TextFault}
+use Rattle.collation_matches.specs.declared.faults.TextFault.{TextFault}
 use Rattle.collation_search.specs.declared.finder.Finder.{Finder}
 use Rattle.collation_search.specs.Finding.{FinderStandsFor}
-use Rattle.collation_search.specs.GoodPrefix.{is_good_so_far, whole}
+use Rattle.collation_matches.specs.GoodPrefix.{is_good_so_far, whole}
 
 -- The bytes `taken` went in, which are open, and the ranges were handed out.
 pub record Searched (table : TableMap) (pattern : Compiled) (cut : CutState) (finder : Finder) (fault : Option TextFault) (taken : List ℕ) (handed : List (ℕ × ℕ)) : Type 0 where

@@ -11,8 +11,8 @@ use Rattle.nfd_points.specs.Points.{decomposition, is_in_order}
 use Rattle.nfd_points.specs.Reordering.{code_points, is_non_starter, is_closed}
 use Rattle.collation_search.specs.declared.states.Resumed.{Resumed}
 use Rattle.collation_search.specs.declared.states.Head.{Head}
-use Rattle.collation_search.specs.declared.select.Select.{Select}
-use Rattle.collation_search.specs.declared.select.Select.TheVariants.{All, Chain}
+use Rattle.collation_matches.specs.declared.select.Select.{Select}
+use Rattle.collation_matches.specs.declared.select.Select.TheVariants.{All, Chain}
 use Rattle.collation_search.specs.State.{form_word, strength_word, variable_word}
 
 abbrev pub head : List ℕ → Head

@@ -5,11 +5,11 @@ use Rattle.collation_elements.specs.declared.keys.Key.{Key}
 use Rattle.collation_elements.specs.declared.keys.Item.{Item}
 use Rattle.collation_elements.specs.Clusters.{Cluster, clusters_from}
 use Rattle.collation_pattern.specs.Border.{border}
-use Rattle.collation_search.specs.ByClusters.{PlacedKey}
+use Rattle.collation_matches.specs.ByClusters.{PlacedKey}
 use Rattle.collation_search.specs.declared.walk.KeyPlace.{KeyPlace}
 use Rattle.collation_search.specs.declared.walk.Walk.{Walk}
-use Rattle.collation_search.specs.Selecting.{selected, remembered}
-use Rattle.collation_search.specs.ByClusters.{text_begin, has_keys, found, placed}
+use Rattle.collation_matches.specs.Selecting.{selected, remembered}
+use Rattle.collation_matches.specs.ByClusters.{text_begin, has_keys, found, placed}
 
 -- where a key stands, without the key
 abbrev pub place_of : PlacedKey → KeyPlace
@@ -23,7 +23,7 @@ pub record WalksOver (pattern : List Key) (items : List Item) (ranges : List (�
   pub current : Cluster
   pub clusters : (rest : List Item) → clusters_from text_begin (items ++ rest) ≡ before ++ clusters_from current rest
   pub start : walk.start ≡ current.start
-  pub has_keys : walk.has_keys ≡ Rattle.collation_search.specs.ByClusters.has_keys current
+  pub has_keys : walk.has_keys ≡ Rattle.collation_matches.specs.ByClusters.has_keys current
   pub state : walk.state ≡ border pattern (map (λ k. k.key) (placed (before ++ current ∷ [])))
   pub capacity : walk.places.capacity ≡ length pattern
   pub few : length walk.places.items ≤ length pattern

@@ -3,7 +3,7 @@
 use Rattle.std.specs.Prelude.{◌≡◌, ℕ, ◌+◌, ◌^◌, List, ◌++◌, take, slice_set, Option, None, Some}
 use Rattle.collation_elements.specs.declared.settings.Variable.TheVariants.{NonIgnorable}
 use Rattle.collation_elements.specs.declared.settings.Strength.TheVariants.{Three}
-use Rattle.collation_search.specs.declared.select.Select.TheVariants.{All, Chain}
+use Rattle.collation_matches.specs.declared.select.Select.TheVariants.{All, Chain}
 use Rattle.collation_search.specs.State.{four}
 use Rattle.collation_search.specs.declared.states.Resumed.{Resumed}
 use Rattle.collation_search.specs.StateTests.{state_fault}

@@ -14,7 +14,7 @@ ghost use Rattle.collation_elements.specs.Units.{units};
 ghost use Rattle.collation_pattern.specs.Compiled.{Compiled};
 ghost use Rattle.collation_search.specs.Apart.{IsNext, HasWalkedOn};
 ghost use Rattle.collation_search.specs.Characters.{IsCharacterUnit, IsRight};
-ghost use Rattle.collation_search.specs.GoodPrefix.{most_bytes};
+ghost use Rattle.collation_matches.specs.GoodPrefix.{most_bytes};
 ghost use Rattle.collation_search.specs.Walks.{WalksOver};
 
 use crate::characters::{CharacterUnit, Characters};
@@ -152,7 +152,7 @@ impl Finder {
     ghost use Rattle.collation_search.specs.Apart.{AreApart, IsNext, HasWalkedOn, IsPaused};
     ghost use Rattle.collation_search.specs.Characters.{IsCharacterUnit, IsRight};
     ghost use Rattle.collation_search.specs.Finding.{FinderStandsFor};
-    ghost use Rattle.collation_search.specs.GoodPrefix.{most_bytes};
+    ghost use Rattle.collation_matches.specs.GoodPrefix.{most_bytes};
 
     /// Takes characters at the front of a piece, which stands at a byte offset, and calls the sink once for each range that became
     /// known, in order. It answers how many bytes it took: those up to the first character that it can't take so, or that begins

@@ -17,7 +17,7 @@ impl Finder {
     ghost use Rattle.std.specs.Str.{IsAscii};
     ghost use Rattle.nfd_points.specs.Points.{byte_len};
     ghost use Rattle.collation_table.specs.Table.{longest_mapped as longest_key_of};
-    ghost use Rattle.collation_search.specs.GoodPrefix.{most_bytes};
+    ghost use Rattle.collation_matches.specs.GoodPrefix.{most_bytes};
     ghost use Rattle.collation_search.specs.Finding.{FinderStandsFor};
 
     /// Takes a run of ASCII, which begins at a byte offset, and calls the sink once for each range that became known, in order.
@@ -183,7 +183,7 @@ impl<'a, W: Weights> Search<'a, W> {
     ghost use Rattle.std.specs.Prelude.{◌≡◌, ℕ, ◌+◌, ◌<◌, ◌≤◌, List, length, take, None, Ok};
     ghost use Rattle.std.specs.List.{FoldsTo};
     ghost use Rattle.std.specs.Str.{IsAscii};
-    ghost use Rattle.collation_search.specs.GoodPrefix.{most_bytes};
+    ghost use Rattle.collation_matches.specs.GoodPrefix.{most_bytes};
     ghost use Rattle.collation_search.specs.Feeding.{Feeds};
 
     /// Takes the run of ASCII at the front of a piece, and calls the sink once for each range that became known, in order. It

@@ -2,7 +2,7 @@
 ghost use Rattle.std.specs.Prelude.{◌≡◌, List};
 ghost use Rattle.std.specs.List.{FoldsTo};
 
-use crate::faults::TextFault;
+use collation_matches::TextFault;
 use crate::matching::Found;
 use crate::search::Search;
 use collation_table::Weights;

@@ -6,7 +6,7 @@ ghost use Rattle.nfd_points.specs.declared.limits.TheConstants.{MOST_GIVEN, MOST
 ghost use Rattle.collation_table.specs.declared.limits.TheConstants.{MOST_STRING_POINTS};
 
 use crate::matching::{Found, cut_units, keep, push_points};
-use crate::select::Select;
+use collation_matches::Select;
 use crate::walk::Walk;
 use arrayvec::ArrayVec;
 use collation_elements::{Item, MOST_ITEMS, Weigher, Window, closed_points_append};
@@ -50,8 +50,8 @@ impl Finder {
     ghost use Rattle.collation_search.specs.Apart.{HasWalked, IsPausedBefore};
     ghost use Rattle.collation_search.specs.Finding.{FinderStandsFor};
     ghost use Rattle.collation_elements.specs.Clusters.{clusters_from};
-    ghost use Rattle.collation_search.specs.ByClusters.{text_begin, found as all_found};
-    ghost use Rattle.collation_search.specs.Selecting.{selected};
+    ghost use Rattle.collation_matches.specs.ByClusters.{text_begin, found as all_found};
+    ghost use Rattle.collation_matches.specs.Selecting.{selected};
     ghost use Rattle.collation_search.specs.Walks.{WalksOver};
 
     /// A finder at the beginning of a text.

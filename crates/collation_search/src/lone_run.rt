@@ -9,7 +9,7 @@ ghost use Rattle.collation_elements.specs.declared.keys.Item.{Item};
 ghost use Rattle.collation_elements.specs.Lone.{AreItemsOf, items_at};
 ghost use Rattle.collation_elements.specs.Weighing.{weigher, is_after_variable};
 ghost use Rattle.collation_search.specs.AsciiUnits.{IsCutOff, IsPassed, AreWalked};
-ghost use Rattle.collation_search.specs.GoodPrefix.{most_bytes};
+ghost use Rattle.collation_matches.specs.GoodPrefix.{most_bytes};
 ghost use Rattle.collation_search.specs.Walks.{WalksOver};
 
 use crate::search::Query;

@@ -10,7 +10,7 @@ ghost use Rattle.collation_elements.specs.declared.weigher.Weigher.{Weigher as W
 ghost use Rattle.collation_search.specs.declared.walk.Walk.{Walk as WalkState};
 ghost use Rattle.collation_search.specs.Characters.{IsCharacterUnit, IsPassedBy, IsRight};
 ghost use Rattle.collation_search.specs.declared.characters.TheConstants.{STEP_CHARACTERS};
-ghost use Rattle.collation_search.specs.GoodPrefix.{most_bytes};
+ghost use Rattle.collation_matches.specs.GoodPrefix.{most_bytes};
 ghost use Rattle.collation_search.specs.Passing.{HasPassed, MayPass};
 
 use crate::apart::{Walked, is_next};
@@ -189,7 +189,7 @@ impl Finder {
     ghost use Rattle.collation_elements.specs.Weighing.{is_after_variable};
     ghost use Rattle.collation_search.specs.Apart.{AreApart, HasWalkedOn};
     ghost use Rattle.collation_search.specs.Characters.{IsCharacterUnit, IsRight};
-    ghost use Rattle.collation_search.specs.GoodPrefix.{most_bytes};
+    ghost use Rattle.collation_matches.specs.GoodPrefix.{most_bytes};
 
     /// Whether characters from a byte offset on may be passed by: no key of the pattern waits. The cluster at the beginning of a text
     /// has begun before its first character.

@@ -3,13 +3,15 @@ ghost use Rattle.std.specs.Prelude.{◌≡◌, ℕ, ◌*◌, ◌≤◌, List, �
 ghost use Rattle.std.specs.List.{FoldsTo};
 ghost use Rattle.collation_search.specs.Pieces.{joined, IsUnderWay};
 ghost use Rattle.collation_search.specs.Saving.{most_records};
-ghost use Rattle.collation_search.specs.Search.{Sought, sought, IsCompiledFrom, answer_to};
+ghost use Rattle.collation_search.specs.Search.{sought};
+ghost use Rattle.collation_matches.specs.Sought.{Sought, IsCompiledFrom, answer_to};
 
-use crate::faults::{StateFault, TextFault};
+use crate::faults::StateFault;
+use collation_matches::TextFault;
 use crate::feed::hand_out;
 use crate::matching::Found;
 use crate::search::Search;
-use crate::select::Select;
+use collation_matches::Select;
 use crate::states::RECORD_WORDS;
 use collation_pattern::Pattern;
 use collation_table::Weights;

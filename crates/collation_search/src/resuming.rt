@@ -10,12 +10,13 @@ ghost use Rattle.collation_search.specs.Restoring.{last_end_in};
 ghost use Rattle.collation_search.specs.StateTests as tests;
 
 use crate::characters::Characters;
-use crate::faults::{StateFault, TextFault};
+use crate::faults::StateFault;
+use collation_matches::TextFault;
 use crate::finder::Finder;
 use crate::matching::push_points;
 use crate::saving::HEAD_WORDS;
 use crate::search::{MOST_BYTES, Query, Search};
-use crate::select::Select;
+use collation_matches::Select;
 use crate::state_points::{may_be_in_window, may_wait, read_points};
 use crate::states::{
     Head, RECORD_WORDS, Resumed, are_places, bytes_in, has_form, head_len, is_chain_end, is_for,
@@ -151,11 +152,11 @@ impl Finder {
 
 impl<'a, W: Weights> Search<'a, W> {
     ghost use Rattle.std.specs.Prelude.{◌≡◌, ◌≤◌, length, true, is_some, IfOk, OnOk, IfErr, IfSome, None};
-    ghost use Rattle.collation_search.specs.GoodPrefix.{most_bytes};
+    ghost use Rattle.collation_matches.specs.GoodPrefix.{most_bytes};
     ghost use Rattle.collation_search.specs.Search.{sought, HasReported};
     ghost use Rattle.collation_search.specs.StateTests.{state_fault};
     ghost use Rattle.collation_search.specs.Resuming.{GoesOn, BeginsWithFault, IsRefused, KeepsSaved};
-    ghost use Rattle.collation_search.specs.declared.select.Select.TheVariants.{All as AllRanges};
+    ghost use Rattle.collation_matches.specs.declared.select.Select.TheVariants.{All as AllRanges};
 
     /// The search for all minimal matches that goes on from a state, as [`Search::resume_with`] gives it.
     ///

@@ -1,6 +1,6 @@
 //! A walk that goes on from a saved one, by the places of the last keys that its state speaks of.
 
-use crate::select::Select;
+use collation_matches::Select;
 use crate::walk::{KeyPlace, Walk};
 use circular_buffer::HeapCircularBuffer;
 use collation_pattern::Pattern;

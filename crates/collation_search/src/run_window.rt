@@ -3,7 +3,7 @@ ghost use Rattle.std.specs.Prelude.{◌≡◌, ◌+◌, ◌≤◌, length, false
 ghost use Rattle.std.specs.Str.{IsAscii};
 ghost use Rattle.nfd_points.specs.Points.{ascii_point};
 ghost use Rattle.collation_search.specs.AsciiUnits.{ascii_points};
-ghost use Rattle.collation_search.specs.GoodPrefix.{most_bytes};
+ghost use Rattle.collation_matches.specs.GoodPrefix.{most_bytes};
 
 use collation_elements::Window;
 use nfd_points::Point;

@@ -11,7 +11,7 @@ ghost use Rattle.collation_search.specs.Search.{sought};
 ghost use Rattle.collation_search.specs.Saving.{BeginsWith, HasRecords, most_records};
 
 use crate::search::Search;
-use crate::select::Select;
+use collation_matches::Select;
 use crate::walk::{KeyPlace, Walk};
 use collation_elements::{Strength, Variable, Window};
 use collation_table::Weights;

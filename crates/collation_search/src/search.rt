@@ -4,16 +4,16 @@ ghost use Rattle.std.specs.Option.{ForSome};
 ghost use Rattle.collation_table.specs.Table.{longest_mapped as longest_key_of};
 ghost use Rattle.collation_search.specs.AsciiUnits.{IsAsciiUnit, IsPassed};
 ghost use Rattle.collation_search.specs.Characters.{IsRight};
-ghost use Rattle.collation_search.specs.GoodPrefix.{most_bytes};
+ghost use Rattle.collation_matches.specs.GoodPrefix.{most_bytes};
 
 use crate::ascii_units::AsciiUnit;
-use crate::bridge::matches_by_clusters;
+use collation_matches::matches_by_clusters;
 use crate::characters::Characters;
-use crate::faults::TextFault;
+use collation_matches::TextFault;
 use crate::finder::Finder;
-use crate::lag::answers_in_time;
+use collation_matches::answers_in_time;
 use crate::matching::Found;
-use crate::select::Select;
+use collation_matches::Select;
 use collation_pattern::Pattern;
 use collation_table::Weights;
 use nfd_points::laws::laws_of_faults;
@@ -64,12 +64,13 @@ impl<'a, W: Weights> Search<'a, W> {
     ghost use Rattle.utf8_cut.specs.Characters.{characters_end};
     ghost use Rattle.nfd_points.specs.declared.limits.TheConstants.{MOST_GIVEN, MOST_WAITING};
     ghost use Rattle.collation_table.specs.Table.{longest_mapped as longest_key_of};
-    ghost use Rattle.collation_search.specs.declared.faults.TextFault.{TextFault};
+    ghost use Rattle.collation_matches.specs.declared.faults.TextFault.{TextFault};
     ghost use Rattle.collation_search.specs.Finding.{FinderStandsFor};
-    ghost use Rattle.collation_search.specs.Lag.{code_points_from};
-    ghost use Rattle.collation_search.specs.declared.select.Select.TheVariants.{All};
-    ghost use Rattle.collation_search.specs.Search.{HasSearched, HasReported, HasReportedNone, IsCompiledFrom, sought, answer_to, settled_in};
-    ghost use Rattle.collation_search.specs.GoodPrefix.{fault as fault_of, is_good_so_far, most_bytes, whole};
+    ghost use Rattle.collation_matches.specs.Lag.{code_points_from};
+    ghost use Rattle.collation_matches.specs.declared.select.Select.TheVariants.{All};
+    ghost use Rattle.collation_search.specs.Search.{HasSearched, HasReported, HasReportedNone, sought};
+    ghost use Rattle.collation_matches.specs.Sought.{IsCompiledFrom, answer_to, settled_in};
+    ghost use Rattle.collation_matches.specs.GoodPrefix.{fault as fault_of, is_good_so_far, most_bytes, whole};
 
     /// A search at the beginning of a text, for all minimal matches.
     ///

@@ -8,7 +8,7 @@ ghost use Rattle.collation_search.specs.StateTests as tests;
 
 use crate::saving::{HEAD_WORDS, word_of_select, word_of_strength, word_of_variable};
 use crate::search::MOST_BYTES;
-use crate::select::Select;
+use collation_matches::Select;
 use arrayvec::ArrayVec;
 use collation_elements::{Strength, Variable};
 use nfd_points::MOST_WAITING;

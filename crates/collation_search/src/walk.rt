@@ -4,7 +4,7 @@
 ghost use Rattle.std.specs.Prelude.{ℕ, List, [], ◌++◌, IfOk};
 ghost use Rattle.collation_search.specs.Walks.{WalksOver};
 
-use crate::select::Select;
+use collation_matches::Select;
 use circular_buffer::HeapCircularBuffer;
 use collation_elements::Item;
 use collation_pattern::Pattern;
@@ -41,8 +41,8 @@ impl Walk {
     ghost use Rattle.collation_elements.specs.declared.keys.Item.{Item};
     ghost use Rattle.collation_elements.specs.declared.keys.Item.TheVariants.{ClusterStart};
     ghost use Rattle.collation_elements.specs.Clusters.{clusters_from};
-    ghost use Rattle.collation_search.specs.ByClusters.{text_begin, found};
-    ghost use Rattle.collation_search.specs.Selecting.{selected, remembered};
+    ghost use Rattle.collation_matches.specs.ByClusters.{text_begin, found};
+    ghost use Rattle.collation_matches.specs.Selecting.{selected, remembered};
     ghost use Rattle.collation_search.specs.Walks.{WalksOver};
 
     /// A walk at the beginning of a text.

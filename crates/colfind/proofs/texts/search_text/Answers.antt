@@ -1,6 +1,6 @@
 use Rattle.std.proofs.Common.{rules, ◌≡◌, ◌∙◌, ◌+◌, ◌≤◌, ◌++◌, [], length, take, ap, sym, arith, append-nil, length-append}
 use Rattle.std.proofs.lemmas.List.{length-take}
-use Rattle.collation_search.specs.GoodPrefix.{is_good_so_far}
+use Rattle.collation_matches.specs.GoodPrefix.{is_good_so_far}
 use Rattle.colfind.specs.Devices.{after_piece}
 use Rattle.colfind.proofs.Pieces.{after_piece-then}
 use Rattle.colfind.proofs.Searched.{answered, begun, open_short}

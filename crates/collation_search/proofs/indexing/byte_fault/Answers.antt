@@ -1,6 +1,6 @@
 use Rattle.std.proofs.Common.{◌≡◌, false, ◌&&◌, nat_lt, length, ap, arith}
 use Rattle.utf8_cut.specs.Characters.{is_utf8_prefix}
-use Rattle.collation_search.specs.GoodPrefix.{most_bytes, seen}
+use Rattle.collation_matches.specs.GoodPrefix.{most_bytes, seen}
 use Rattle.collation_search.proofs.IndexLemmas.{short_not, closed_not, ill_bytes, good_bytes}
 use Rattle.collation_search.proofs.indexing.byte_fault.Goals.{else-text-gt-MOST_BYTES-via-then-text-gt-MOST_BYTES+else-may_hold, else-text-gt-MOST_BYTES-via-else-text-gt-MOST_BYTES}
 use Rattle.collation_search.proofs.indexing.byte_fault.Goals as goal

@@ -3,17 +3,17 @@ use Rattle.std.specs.Prelude.{Some, None, not}
 use Rattle.std.proofs.Common.{◌≡◌, ◌∙◌, ℕ, List, [], ◌++◌, inr, refl, arith, length, sym, ap, subst}
 use Rattle.std.proofs.lemmas.Str.{chars-nil, IsUtf8-nil}
 use Rattle.nfd_points.specs.PointFaults.{point_fault}
-use Rattle.collation_search.specs.declared.faults.TextFault.{TextFault}
+use Rattle.collation_matches.specs.declared.faults.TextFault.{TextFault}
 use Rattle.collation_search.specs.Finding.{FinderStandsFor}
-use Rattle.collation_search.specs.GoodPrefix.{seen, whole}
+use Rattle.collation_matches.specs.GoodPrefix.{seen, whole}
 use Rattle.collation_elements.specs.Clusters.{clusters_from}
-use Rattle.collation_search.specs.ByClusters.{text_begin, found}
+use Rattle.collation_matches.specs.ByClusters.{text_begin, found}
 use Rattle.collation_search.specs.Indexing.{first_range}
-use Rattle.collation_search.specs.Selecting.{selected}
-use Rattle.collation_search.specs.Search.{Sought, answer_to}
-use Rattle.collation_search.specs.declared.select.Select.TheVariants.{All}
-use Rattle.collation_search.proofs.TextCheckLemmas.{fault_by_code}
-use Rattle.collation_search.proofs.LagTexts.{TextLaws}
+use Rattle.collation_matches.specs.Selecting.{selected}
+use Rattle.collation_matches.specs.Sought.{Sought, answer_to}
+use Rattle.collation_matches.specs.declared.select.Select.TheVariants.{All}
+use Rattle.collation_matches.proofs.TextCheckLemmas.{fault_by_code}
+use Rattle.collation_matches.proofs.LagTexts.{TextLaws}
 use Rattle.collation_search.proofs.SearchAnswers.{items_in}
 use Rattle.collation_search.proofs.IndexLemmas.{first-found, first-at_fault, ends-good, ends-bad, rest_after, parts_of, taken_short, some_found, none_found, none_from, some_from}
 use Rattle.collation_search.proofs.indexing.index.Goals.{then-is_none, else-is_none}

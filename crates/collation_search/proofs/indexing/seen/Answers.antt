@@ -1,7 +1,7 @@
 use Rattle.std.proofs.Common.{sym, arith}
 use Rattle.std.proofs.lemmas.List.{length-take-le}
-use Rattle.collation_search.specs.GoodPrefix.{most_bytes}
-use Rattle.collation_search.proofs.TextCheckLemmas.{seen_short}
+use Rattle.collation_matches.specs.GoodPrefix.{most_bytes}
+use Rattle.collation_matches.proofs.TextCheckLemmas.{seen_short}
 use Rattle.collation_search.proofs.indexing.seen.Goals as goal
 
 pub slice_bounds-result-end : goal.slice_bounds-result-end

@@ -1,8 +1,8 @@
 use Rattle.std.specs.List.{FoldsTo}
 use Rattle.std.proofs.Common.{rules, ◌∙◌, ℕ, List, [], ◌++◌, Option, sym, ap, subst, arith}
 use Rattle.std.proofs.lemmas.List.{take_all}
-use Rattle.collation_search.specs.declared.faults.TextFault.{TextFault}
-use Rattle.collation_search.specs.Search.{Sought}
+use Rattle.collation_matches.specs.declared.faults.TextFault.{TextFault}
+use Rattle.collation_matches.specs.Sought.{Sought}
 use Rattle.collation_search.specs.Pieces.{joined, IsUnderWay}
 use Rattle.collation_search.proofs.FeedLemmas.{folds-append}
 use Rattle.collation_search.proofs.PieceLemmas.{told, under_way-more, under_way-ends}

@@ -1,6 +1,6 @@
 use Rattle.std.specs.Str.{IsAscii}
 use Rattle.std.proofs.Common.{subst}
-use Rattle.collation_search.proofs.SearchLemmas.{take_within}
+use Rattle.collation_matches.proofs.SearchLemmas.{take_within}
 use Rattle.collation_search.proofs.search.Search.ascii_run.Goals as goal
 
 pub returns-clause-ascii : goal.returns-clause-ascii

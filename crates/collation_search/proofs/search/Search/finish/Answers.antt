@@ -2,12 +2,13 @@ use Rattle.std.specs.Str.{chars}
 use Rattle.std.proofs.Common.{◌∙◌, [], ◌++◌, sym, ap}
 use Rattle.std.proofs.lemmas.List.{append-nil}
 use Rattle.utf8_cut.specs.Characters.{characters}
-use Rattle.collation_search.specs.GoodPrefix.{fault, whole}
+use Rattle.collation_matches.specs.GoodPrefix.{fault, whole}
 use Rattle.collation_elements.specs.Clusters.{clusters_from}
-use Rattle.collation_search.specs.ByClusters.{text_begin, found}
-use Rattle.collation_search.specs.Search.{sought, answer_to}
-use Rattle.collation_search.specs.Selecting.{selected}
-use Rattle.collation_search.proofs.TextCheckLemmas.{good_end, cut_end, whole_of_good, first_fault-at}
+use Rattle.collation_matches.specs.ByClusters.{text_begin, found}
+use Rattle.collation_search.specs.Search.{sought}
+use Rattle.collation_matches.specs.Sought.{answer_to}
+use Rattle.collation_matches.specs.Selecting.{selected}
+use Rattle.collation_matches.proofs.TextCheckLemmas.{good_end, cut_end, whole_of_good, first_fault-at}
 use Rattle.collation_search.proofs.SearchAnswers.{answer-good, answer-at_fault, items_in}
 use Rattle.collation_search.proofs.search.Search.finish.Goals as goal
 

@@ -6,17 +6,17 @@ use Rattle.collation_elements.specs.declared.keys.Key.{Key}
 use Rattle.collation_elements.specs.declared.keys.Item.{Item}
 use Rattle.collation_elements.specs.Clusters.{clusters_from}
 use Rattle.collation_elements.specs.Items.{items}
-use Rattle.collation_search.specs.ByClusters.{text_begin, found}
-use Rattle.collation_search.specs.GoodPrefix.{whole}
-use Rattle.collation_search.specs.Lag.{IsUnderWay}
+use Rattle.collation_matches.specs.ByClusters.{text_begin, found}
+use Rattle.collation_matches.specs.GoodPrefix.{whole}
+use Rattle.collation_matches.specs.Lag.{IsUnderWay}
 use Rattle.collation_search.specs.Search.{sought}
-use Rattle.collation_search.proofs.LagTexts.{TextLaws}
+use Rattle.collation_matches.proofs.LagTexts.{TextLaws}
 use Rattle.collation_search.proofs.SearchAnswers.{has_key}
-use Rattle.collation_search.specs.Answer.{answer}
-use Rattle.collation_search.specs.Selecting.{selected}
-use Rattle.collation_search.proofs.FewRanges.{answered-rise}
-use Rattle.collation_search.proofs.LagLaw.{contains-in, in-contains}
-use Rattle.collation_search.proofs.SelectedInTime.{selected-among, selected-early}
+use Rattle.collation_matches.specs.Answer.{answer}
+use Rattle.collation_matches.specs.Selecting.{selected}
+use Rattle.collation_matches.proofs.FewRanges.{answered-rise}
+use Rattle.collation_matches.proofs.LagLaw.{contains-in, in-contains}
+use Rattle.collation_matches.proofs.SelectedInTime.{selected-among, selected-early}
 use Rattle.collation_search.proofs.SearchBegins.{begins-answer, begins-found}
 use Rattle.collation_search.proofs.search.Search.has_handed_out.Goals as goal
 

@@ -4,10 +4,11 @@ use Rattle.std.proofs.Common.{◌≡◌, ◌∙◌, ◌<◌, ◌≤◌, ◌-◌,
 use Rattle.collation_table.specs.Table.{TableMap}
 use Rattle.collation_pattern.specs.Compiled.{Compiled}
 use Rattle.collation_search.specs.declared.states.Head.{Head}
-use Rattle.collation_search.specs.declared.faults.TextFault.{TextFault}
+use Rattle.collation_matches.specs.declared.faults.TextFault.{TextFault}
 use Rattle.collation_search.specs.Resuming.{GoesOn, BeginsWithFault, IsRestored}
-use Rattle.collation_search.specs.Search.{Sought, sought, HasReported}
-use Rattle.collation_search.specs.declared.select.Select.{Select}
+use Rattle.collation_search.specs.Search.{sought, HasReported}
+use Rattle.collation_matches.specs.Sought.{Sought}
+use Rattle.collation_matches.specs.declared.select.Select.{Select}
 use Rattle.collation_search.specs.Restoring.{last_end_in}
 use Rattle.collation_search.specs.StateTests.{head, head_len, bytes_in, is_open_head, may_match_wait, is_chain_end, has_open_tail, is_reported}
 use Rattle.collation_search.proofs.SavedState.{SavedLaws}

@@ -1,7 +1,7 @@
 -- What a search saved is no words with a fault.
 use Rattle.std.specs.Prelude.{is_some}
 use Rattle.std.proofs.Common.{◌∙◌, sym, ap}
-use Rattle.collation_search.specs.Search.{Sought}
+use Rattle.collation_matches.specs.Sought.{Sought}
 use Rattle.collation_search.specs.StateTests.{is_for, is_state}
 use Rattle.collation_search.proofs.SavedState.{SavedLaws}
 use Rattle.collation_search.proofs.ResumeLemmas.{keeps-saved, fault-of-form, fault-of-state}

@@ -1,7 +1,8 @@
 use Rattle.std.specs.Str.{chars}
 use Rattle.std.proofs.Common.{◌≡◌, ◌∙◌, ◌∷◌, ◌++◌, ap, subst}
-use Rattle.collation_search.specs.GoodPrefix.{whole}
-use Rattle.collation_search.specs.Search.{Sought, sought}
+use Rattle.collation_matches.specs.GoodPrefix.{whole}
+use Rattle.collation_search.specs.Search.{sought}
+use Rattle.collation_matches.specs.Sought.{Sought}
 use Rattle.collation_search.specs.Walks.{WalksOver}
 use Rattle.collation_search.proofs.SearchAnswers.{answer-at_fault, items_in}
 use Rattle.collation_search.proofs.search.Search.step.Goals as goal

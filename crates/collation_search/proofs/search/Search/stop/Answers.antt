@@ -1,6 +1,6 @@
 use Rattle.std.specs.Str.{chars}
 use Rattle.std.proofs.Common.{◌++◌}
-use Rattle.collation_search.specs.GoodPrefix.{whole}
+use Rattle.collation_matches.specs.GoodPrefix.{whole}
 use Rattle.collation_search.specs.Search.{sought}
 use Rattle.collation_search.proofs.SearchAnswers.{walked-settled}
 use Rattle.collation_search.proofs.search.Search.stop.Goals as goal

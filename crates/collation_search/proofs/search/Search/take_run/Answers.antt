@@ -3,9 +3,9 @@ use Rattle.std.specs.Prelude.{Ok}
 use Rattle.std.proofs.Common.{◌≡◌, ◌∙◌, [], length, take, refl, sym, ap, subst, arith}
 use Rattle.std.proofs.lemmas.List.{length-take-le}
 use Rattle.utf8_cut.specs.Characters.{characters}
-use Rattle.collation_search.specs.GoodPrefix.{whole}
+use Rattle.collation_matches.specs.GoodPrefix.{whole}
 use Rattle.collation_search.specs.Feeding.{Feeds}
-use Rattle.collation_search.specs.Search.{Sought}
+use Rattle.collation_matches.specs.Sought.{Sought}
 use Rattle.collation_search.proofs.FeedLemmas.{feeds-none, feeds-good, none_or_some}
 use Rattle.collation_search.proofs.AsciiRunLemmas.{searched-text, offset-ascii}
 use Rattle.collation_search.proofs.search.Search.take_run.Goals as goal

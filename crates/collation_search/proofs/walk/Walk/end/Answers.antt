@@ -1,6 +1,6 @@
 -- The range that is found is handed out where the last one of a chain does not reach into it.
 use Rattle.std.proofs.Common.{ℕ, List, ◌∷◌, ◌++◌, [], option_to_list, sym, ap, ◌∙◌}
-use Rattle.collation_search.proofs.SelectingLemmas.{selected_after-nil, selected_after-passed, selected_after-taken, remembered-all}
+use Rattle.collation_matches.proofs.SelectingLemmas.{selected_after-nil, selected_after-passed, selected_after-taken, remembered-all}
 use Rattle.collation_search.proofs.WalkSteps.{walks-select}
 use Rattle.collation_search.proofs.walk.Walk.end.Goals as goal
 

@@ -1,7 +1,7 @@
 -- Of a chain the range that was handed out last ends last.
 use Rattle.std.proofs.Common.{ℕ, ◌++◌, option_to_list, Option, sym, ap, ◌∙◌}
-use Rattle.collation_search.specs.Selecting.{remembered}
-use Rattle.collation_search.proofs.SelectingLemmas.{remembered-one}
+use Rattle.collation_matches.specs.Selecting.{remembered}
+use Rattle.collation_matches.proofs.SelectingLemmas.{remembered-one}
 use Rattle.collation_search.proofs.walk.Walk.last_end_with.Goals as goal
 
 pub returns-in-Chain-Some : goal.returns-in-Chain-Some

@@ -1,0 +1,9 @@
+pub mod Matches
+pub mod GoodPrefix
+pub mod Answer
+pub mod Selecting
+pub mod ByClusters
+pub mod ByClustersLaws
+pub mod WorkedRows
+pub mod Lag
+pub mod Sought

@@ -1,5 +1,0 @@
-use Rattle.collation_search.proofs.WorkedRowLemmas.{chain_of_letters_lem}
-use Rattle.collation_search.proofs.worked.chain_of_letters.Goals as goal
-
-pub returns : goal.returns
-returns c = chain_of_letters_lem

@@ -1,5 +1,0 @@
-use Rattle.collation_search.proofs.WorkedRowLemmas.{composed_primary_lem}
-use Rattle.collation_search.proofs.worked.composed_primary.Goals as goal
-
-pub returns : goal.returns
-returns c = composed_primary_lem

@@ -1,5 +1,0 @@
-use Rattle.collation_search.proofs.WorkedRowLemmas.{discontiguous_secondary_lem}
-use Rattle.collation_search.proofs.worked.discontiguous_secondary.Goals as goal
-
-pub returns : goal.returns
-returns c = discontiguous_secondary_lem

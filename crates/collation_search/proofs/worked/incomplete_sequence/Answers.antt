@@ -1,5 +1,0 @@
-use Rattle.collation_search.proofs.WorkedRowLemmas.{incomplete_sequence_lem}
-use Rattle.collation_search.proofs.worked.incomplete_sequence.Goals as goal
-
-pub returns : goal.returns
-returns c = incomplete_sequence_lem

@@ -1,5 +1,0 @@
-use Rattle.collation_search.proofs.WorkedRowLemmas.{inside_contraction_lem}
-use Rattle.collation_search.proofs.worked.inside_contraction.Goals as goal
-
-pub returns : goal.returns
-returns c = inside_contraction_lem

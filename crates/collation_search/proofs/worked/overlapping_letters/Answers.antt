@@ -1,5 +1,0 @@
-use Rattle.collation_search.proofs.WorkedRowLemmas.{overlapping_letters_lem}
-use Rattle.collation_search.proofs.worked.overlapping_letters.Goals as goal
-
-pub returns : goal.returns
-returns c = overlapping_letters_lem

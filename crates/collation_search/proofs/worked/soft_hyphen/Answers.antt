@@ -1,5 +1,0 @@
-use Rattle.collation_search.proofs.WorkedRowLemmas.{soft_hyphen_lem}
-use Rattle.collation_search.proofs.worked.soft_hyphen.Goals as goal
-
-pub returns : goal.returns
-returns c = soft_hyphen_lem
