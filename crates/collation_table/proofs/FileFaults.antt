@@ -1,9 +1,9 @@
 -- The forms of the lines so far and of those that are left, with the table and the fault that they make; the fault of two files.
-use Rattle.std.proofs.Common.{◌≡◌, ℕ, ◌+◌, ◌<◌, ◌≤◌, List, [], ◌∷◌, ◌++◌, length, take, drop, get_or, map, Option, Some, None, refl, sym, ap, ◌∙◌, subst, inl, inr, arith, length-drop, append_assoc, append-nil, option_map}
+use Rattle.std.proofs.Common.{◌≡◌, ℕ, ◌+◌, ◌<◌, ◌≤◌, List, [], ◌∷◌, ◌++◌, length, take, drop, get_or, map, Option, Some, None, Ok, Err, Result, MatchResult, IfOk, IfErr, OnOk, refl, sym, ap, ◌∙◌, subst, inl, inr, arith, length-drop, append_assoc, append-nil, option_map}
 use Rattle.std.proofs.lemmas.List.{drop_more, take_more, take_all}
 use Rattle.std.specs.List.{filter_map, cons_option, range_with_len}
 use Rattle.collation_table.specs.declared.faults.TableFault.{TableFault}
-use Rattle.collation_table.specs.Table.{TableMap}
+use Rattle.collation_table.specs.Table.{TableMap, row_of, longest_mapped, most_elements}
 use Rattle.std.specs.Option.{option_or}
 use Rattle.std.specs.Str.Lines.{lines}
 use Rattle.collation_table.specs.Spelling.{Form, line_form}
@@ -11,8 +11,8 @@ use Rattle.collation_table.specs.declared.ranges.ImplicitRange.{ImplicitRange}
 use Rattle.collation_table.specs.declared.reader.TableFile.TheVariants.{Base, Tailor}
 use Rattle.collation_table.specs.Overlay.{overlay}
 use Rattle.collation_table.specs.Reading.{reported}
-use Rattle.collation_table.specs.WellFormed.{map_fault}
-use Rattle.collation_table.specs.Faults.{forms_of, IsFaultOrAllocationRefused, row_in, range_in, map_of, map_after, with_line, line_kind, fault_at_line, fault_of_line, first_some, first_line_fault, in_tailor, tailored_map, tailored_fault, FileAloneLaws}
+use Rattle.collation_table.specs.WellFormed.{IsWellFormed, map_fault}
+use Rattle.collation_table.specs.Faults.{forms_of, IsFaultOrAllocationRefused, row_in, range_in, map_of, map_after, with_line, line_kind, fault_at_line, fault_of_line, first_some, first_line_fault, in_tailor, tailored_map, tailored_fault, SpellsTailored, FileAloneLaws}
 use Rattle.collation_table.proofs.OverlayLemmas.{overlay-base}
 
 -- after n lines of a file, the others are left, the table is that of the n lines and of the ranges of an earlier file, and none of the
@@ -176,6 +176,38 @@ AreBothRead-from base tailor none B D R S T start right is alone ranges rest tai
       fault = (λ i. option_or (read.right i) (option_or (option_map in_tailor ((ap (λ e. first_line_fault e (forms_of tailor)) (sym read.ranges) ∙ rest) i)) (fault_at_line 0 (map_fault (tailored_map base tailor)))))
           ∙ ap (λ U. fault_at_line 0 (map_fault U)) (sym rows);
     }
+
+-- what is told of two files whose rows are judged as a whole, by the table or by the fault
+pub record IsTold {X : Type 0} (map_in : X → TableMap) (base tailor : List ℕ) (r : Result X TableFault) : Type 0 where
+  pub accepted : OnOk r (tailored_fault base tailor ≡ None)
+  pub spelled : IfOk r (λ table. SpellsTailored base tailor (map_in table))
+  pub exact : IfOk r (λ table. map_in table ≡ tailored_map base tailor)
+  pub well_formed : IfOk r (λ table. IsWellFormed (map_in table))
+  pub fault : IfErr r (IsFaultOrAllocationRefused (tailored_fault base tailor))
+
+pub IsTold-from : {X : Type 0} (map_in : X → TableMap) (base tailor : List ℕ) (T : TableMap) (r : Result X TableFault) → ((table : X) → IsWellFormed (map_in table)) → AreBothRead base tailor T
+    → MatchResult r (λ table. (map_fault T ≡ None) × (map_in table ≡ T)) (λ fault. fault_at_line 0 (map_fault T) ≡ Some fault) → IsTold map_in base tailor r
+IsTold-from map_in base tailor T (Ok table) well_formed both sealed =
+    let is : map_in table ≡ tailored_map base tailor = sealed.1 ∙ both.rows in
+    record {
+      accepted = both.fault ∙ ap (fault_at_line 0) sealed.0;
+      spelled = record {
+        rows = λ string. ap (λ U. row_of U string) is;
+        ranges = ap (λ (U : TableMap). U.ranges) is;
+        longest = ap longest_mapped is;
+        largest = ap most_elements is;
+      };
+      exact = is;
+      well_formed = well_formed table;
+      fault = tt;
+    }
+IsTold-from map_in base tailor T (Err fault) well_formed both sealed = record {
+  accepted = tt;
+  spelled = tt;
+  exact = tt;
+  well_formed = tt;
+  fault = inl (both.fault ∙ sealed);
+}
 
 -- ---- a file alone
 

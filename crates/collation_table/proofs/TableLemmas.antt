@@ -194,6 +194,7 @@ IsWellFormed-from_tests T lines none =
     let wf4 = cond_none (breaks_wf4 T) 8 _ wf2.1 in
     let wf5 = cond_none (breaks_wf5 T) 9 _ wf4.1 in
     record {
+      distinct = lines.distinct;
       rows = λ string row at. row_sound string row T.rows lines.rows at;
       ranges = lines.ranges;
       wf2 = wf2_from_test T wf2.0;

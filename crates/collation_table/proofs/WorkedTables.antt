@@ -82,6 +82,7 @@ tailored_faults-hold = record {
   prefix_that_is_not_mapped = refl;
   short_code_point = refl;
   mapped_twice = refl;
+  string_of_65 = refl;
   lead_alone = refl;
   range_of_the_base_shared = refl;
   base_first = refl;

@@ -164,7 +164,9 @@ abbrev pub IsWf5 : TableMap → Type 0
 IsWf5 T =
     (string : List ℕ) → IsTrue (is_mapped T string) → 2 < length string → 0 < class_of (slice_index string (length string - 1)) → IsTrue (is_mapped T (take (length string - 1) string))
 
+-- The rows are a finite map, no string standing twice, so that each row is that of its string; they and the ranges meet the conditions.
 pub record IsWellFormed (T : TableMap) : Type 0 where
+  pub distinct : AreStringsDistinct T.rows
   pub rows : (string : List ℕ) (row : List Element) → row_of T string ≡ Some row → IsRowSound string row
   pub ranges : AreRangesSound T.ranges
   pub wf2 : IsWf2 T

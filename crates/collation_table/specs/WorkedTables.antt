@@ -130,6 +130,7 @@ pub record TailoredFaults : Type 0 where
   pub prefix_that_is_not_mapped : HasTailoredFault letters (codes "0065 0327 0301 ; [.1C48.0020.0002]" ∷ []) 9 0
   pub short_code_point : HasTailoredFault letters (codes "61 ; [.1C00.0020.0002]" ∷ []) 61 1
   pub mapped_twice : HasTailoredFault letters (codes "0062 ; [.1C10.0020.0002]" ∷ codes "0062 ; [.1C10.0020.0002]" ∷ []) 63 2
+  pub string_of_65 : HasTailoredFault letters ((copies 65 (codes "0061 ") ++ codes "; [.1C00.0020.0002]") ∷ []) 64 1
   pub lead_alone : HasTailoredFault letters (codes "4E00 ; [.FB40.0020.0002]" ∷ []) 70 1
   pub range_of_the_base_shared : HasTailoredFault (codes "@implicitweights 17000..17005; FB00" ∷ []) (codes "@implicitweights 17005..17006; FB00" ∷ []) 71 1
   -- a line of the base at fault before one of the tailor

@@ -3,7 +3,7 @@ ghost use Rattle.std.specs.Prelude.{◌≡◌, [], MatchResult, None, Some, IfOk
 ghost use Rattle.collation_table.specs.Table as map;
 ghost use Rattle.collation_table.specs.Table.{HasSizes};
 ghost use Rattle.collation_table.specs.WellFormed.{IsWellFormed, map_fault};
-ghost use Rattle.collation_table.specs.Faults.{tailored_map, table_fault, SpellsTable, IsFaultOrAllocationRefused};
+ghost use Rattle.collation_table.specs.Faults.{fault_at_line, tailored_map, table_fault, SpellsTable, IsFaultOrAllocationRefused};
 
 use crate::elements::Element;
 use crate::faults::TableFault;
@@ -28,13 +28,13 @@ pub struct PlainTable {
 }
 
 impl PlainTable {
-    /// The table of these rows and ranges, or the kind of the first condition on the whole table that they break: 12 no row,
-    /// 6 WF2, 8 WF4, 9 WF5. Takes no memory.
-    fn seal(rows: PlainRows) -> Result<PlainTable, u8>
-        ensures { MatchResult result (λ t. (map_fault rows ≡ None) × (⟦<PlainTable as Weights>⟧.table t ≡ rows)) (λ kind. map_fault rows ≡ Some kind) }
+    /// The table of these rows and ranges, or the fault, at line 0, of the first condition on the whole table that they break: 12 no
+    /// row, 6 WF2, 8 WF4, 9 WF5. Takes no memory.
+    fn seal(rows: PlainRows) -> Result<PlainTable, TableFault>
+        ensures { MatchResult result (λ t. (map_fault rows ≡ None) × (⟦<PlainTable as Weights>⟧.table t ≡ rows)) (λ fault. fault_at_line 0 (map_fault rows) ≡ Some fault) }
     {
         match rows.fault() {
-            Some(kind) => Err(kind),
+            Some(kind) => Err(TableFault { line: 0, kind }),
             None => {
                 let longest = rows.longest_key();
                 let largest = rows.most_elements();
@@ -58,10 +58,7 @@ impl PlainTable {
         ensures fault { IfErr result (IsFaultOrAllocationRefused (table_fault bytes.now)) }
     {
         let rows = read_lines(alloc, TableFile::Base, PlainRows::new(alloc), bytes)?;
-        match PlainTable::seal(rows) {
-            Ok(table) => Ok(table),
-            Err(kind) => Err(TableFault { line: 0, kind }),
-        }
+        PlainTable::seal(rows)
     }
 }
 

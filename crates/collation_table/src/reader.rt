@@ -1,10 +1,10 @@
 //! Reading a table file, and a second one that tailors it, line by line (UTS #10, the form of allkeys.txt).
 
-ghost use Rattle.std.specs.Prelude.{◌≡◌, ◌≤◌, [], None, length, option_map, IfOk, IfErr, OnOk};
+ghost use Rattle.std.specs.Prelude.{◌≡◌, ◌≤◌, [], None, length, option_map, unwrap_or, IfOk, IfErr, IfSome, OnOk};
 ghost use Rattle.collation_table.specs.WellFormed.{IsWellFormed};
 ghost use Rattle.collation_table.specs.Spelling.{line_form};
-ghost use Rattle.collation_table.specs.Reading.{earlier_ranges, reported_kind, reported};
-ghost use Rattle.collation_table.specs.Faults.{forms_of, map_after, line_kind, fault_at_line, with_line, first_line_fault, tailored_map, tailored_fault, table_fault, SpellsTailored, SpellsTable, IsFaultOrAllocationRefused};
+ghost use Rattle.collation_table.specs.Reading.{form, HasParts, earlier_ranges, reported_kind, reported};
+ghost use Rattle.collation_table.specs.Faults.{forms_of, map_after, line_kind, fault_at_line, allocation_refused, with_line, first_line_fault, tailored_map, tailored_fault, table_fault, SpellsTailored, SpellsTable, IsFaultOrAllocationRefused};
 
 use crate::faults::{TAILOR_KINDS, TableFault};
 use crate::line_faults::line_fault;
@@ -48,19 +48,21 @@ impl TableFile {
     }
 }
 
-/// Adds what the line with this number says, or reports its fault; where memory is refused, that is reported at line 0.
-fn read_line<S: RowStore>(
+/// The rows with what a line says, or its fault. Memory is asked for only where it has none; where that is refused, it is reported
+/// at line 0.
+fn add_line<S: RowStore>(
     alloc: Global,
     file: TableFile,
     rows: S,
     number: u64,
-    text: &[u8],
+    line: Option<Line>,
 ) -> Result<S, TableFault>
-    ensures right { OnOk result (line_kind (earlier_ranges file) (S.table rows) (line_form text.now) ≡ None) }
-    ensures rows { IfOk result (λ new. S.table new ≡ with_line (S.table rows) (line_form text.now)) }
-    ensures fault { IfErr result (IsFaultOrAllocationRefused (option_map (reported file) (fault_at_line number (line_kind (earlier_ranges file) (S.table rows) (line_form text.now))))) }
+    requires parts { IfSome line HasParts }
+    ensures right { OnOk result (line_kind (earlier_ranges file) (S.table rows) (option_map form line) ≡ None) }
+    ensures rows { IfOk result (λ new. S.table new ≡ with_line (S.table rows) (option_map form line)) }
+    // A line at fault has its fault reported, whatever memory is refused.
+    ensures fault { IfErr result (λ fault. fault ≡ unwrap_or (option_map (reported file) (fault_at_line number (line_kind (earlier_ranges file) (S.table rows) (option_map form line)))) allocation_refused) }
 {
-    let line = parse_line(alloc, text)?;
     match line_fault(file.earlier_ranges(), &rows, &line) {
         Some(kind) => {
             return Err(TableFault {
@@ -77,6 +79,22 @@ fn read_line<S: RowStore>(
         }
         Some(Line::Empty | Line::Version) | None => Ok(rows),
     }
+}
+
+/// Adds what the line with this number says, or reports its fault; where memory is refused, that is reported at line 0.
+fn read_line<S: RowStore>(
+    alloc: Global,
+    file: TableFile,
+    rows: S,
+    number: u64,
+    text: &[u8],
+) -> Result<S, TableFault>
+    ensures right { OnOk result (line_kind (earlier_ranges file) (S.table rows) (line_form text.now) ≡ None) }
+    ensures rows { IfOk result (λ new. S.table new ≡ with_line (S.table rows) (line_form text.now)) }
+    ensures fault { IfErr result (IsFaultOrAllocationRefused (option_map (reported file) (fault_at_line number (line_kind (earlier_ranges file) (S.table rows) (line_form text.now))))) }
+{
+    let line = parse_line(alloc, text)?;
+    add_line(alloc, file, rows, number, line)
 }
 
 /// The rows of all lines of a file, and the ranges of an earlier file followed by its own, or the fault of the first line that has
@@ -173,9 +191,6 @@ impl Table {
         let file = TableFile::Tailor(ranges.ranges().len());
         let tailor = read_lines(alloc, file, ranges, tailor)?;
         let rows = base.overlaid(alloc, tailor)?;
-        match Table::seal(rows) {
-            Ok(table) => Ok(table),
-            Err(kind) => Err(TableFault { line: 0, kind }),
-        }
+        Table::seal(rows)
     }
 }

@@ -3,8 +3,10 @@ ghost use Rattle.std.specs.Prelude.{◌≡◌, MatchResult, None, Some};
 ghost use Rattle.collation_table.specs.Table as map;
 ghost use Rattle.collation_table.specs.Table.{HasSizes};
 ghost use Rattle.collation_table.specs.WellFormed.{IsWellFormed, map_fault};
+ghost use Rattle.collation_table.specs.Faults.{fault_at_line};
 
 use crate::elements::Element;
+use crate::faults::TableFault;
 use crate::implicit;
 use crate::lookup::Weights;
 use crate::rows::Rows;
@@ -22,13 +24,13 @@ pub struct Table {
 }
 
 impl Table {
-    /// The table of these rows and ranges, or the kind of the first condition on the whole table that they break: 12 no row,
-    /// 6 WF2, 8 WF4, 9 WF5. Takes no memory.
-    pub(crate) fn seal(rows: Rows) -> Result<Table, u8>
-        ensures { MatchResult result (λ t. (map_fault rows ≡ None) × (⟦<Table as Weights>⟧.table t ≡ rows)) (λ kind. map_fault rows ≡ Some kind) }
+    /// The table of these rows and ranges, or the fault, at line 0, of the first condition on the whole table that they break: 12 no
+    /// row, 6 WF2, 8 WF4, 9 WF5. Takes no memory.
+    pub(crate) fn seal(rows: Rows) -> Result<Table, TableFault>
+        ensures { MatchResult result (λ t. (map_fault rows ≡ None) × (⟦<Table as Weights>⟧.table t ≡ rows)) (λ fault. fault_at_line 0 (map_fault rows) ≡ Some fault) }
     {
         match rows.fault() {
-            Some(kind) => Err(kind),
+            Some(kind) => Err(TableFault { line: 0, kind }),
             None => {
                 let longest = rows.longest_key();
                 let largest = rows.most_elements();

@@ -237,6 +237,21 @@ fn accepts(rt: HostRuntime) {
     }
 }
 
+#[test]
+fn prints_a_fault(rt: HostRuntime) -> Result<(), Fail> {
+    for (kind, line, want) in [
+        (3, 2, "fault 3 at line 2"),
+        (14, 0, "fault 14 at line 0"),
+        (73, 1_048_577, "fault 73 at line 1048577"),
+    ] {
+        assert_eq!(rt;
+            TableFault { line, kind }.to_string(rt.alloc())?.as_str(),
+            want
+        );
+    }
+    Ok(())
+}
+
 /// The table of a file and a tailor, or its fault; read again where memory was refused.
 fn read_both_again(alloc: Global, file: &[u8], tailor: &[u8]) -> Result<Table, TableFault> {
     match Table::read_tailored(alloc, file, tailor) {
@@ -344,11 +359,11 @@ fn line_of(alloc: Global, points: usize, elements: usize) -> Result<String, Allo
 
 #[test]
 fn bounds_a_line(rt: HostRuntime) -> Result<(), Fail> {
-    for (points, elements, fault) in [
-        (17, 33, None),
-        (64, 128, None),
-        (65, 1, Some((4, 1))),
-        (1, 129, Some((4, 1))),
+    for (points, elements, fault, fault_of_tailor) in [
+        (17, 33, None, None),
+        (64, 128, None, None),
+        (65, 1, Some((4, 1)), Some((64, 1))),
+        (1, 129, Some((4, 1)), Some((64, 1))),
     ] {
         let line = line_of(rt.alloc(), points, elements).or_else(|_| line_of(
             rt.alloc(),
@@ -358,6 +373,11 @@ fn bounds_a_line(rt: HostRuntime) -> Result<(), Fail> {
         assert_eq!(rt;
             faults_of(rt.alloc(), line.as_bytes()),
             [fault; 2],
+            "{points} {elements}"
+        );
+        assert_eq!(rt;
+            fault_of_both(rt.alloc(), BASIC, &line),
+            fault_of_tailor,
             "{points} {elements}"
         );
     }

@@ -1,7 +1,8 @@
 //! The index of a table: from a list of code points to the place of the row that has it as its mapped string.
 //!
 //! The first code point is looked up in pages, each further one as a step from a node. A step is found in an ordered map by its
-//! node and its code point, so no mapped string is compared with another as a whole, and no file can make a look-up slow.
+//! node and its code point, so no mapped string is compared with another as a whole. That no file makes a step take longer than the
+//! logarithm of the number of steps is why the trie has this form; the time of a look-up is measured, and no clause speaks of it.
 ghost use Rattle.std.specs.Prelude.{◌≡◌, ℕ, ◌<◌, ◌≤◌, List, [], ◌∷◌, ◌++◌, false, length, is_some, None, Some, OnOk, IfOk, OnSome, IfSome};
 ghost use Rattle.collation_table.specs.Table.{TableMap, is_mapped, longest_prefix};
 ghost use Rattle.collation_table.specs.Trie.{at, place_of, seek, continues, Leads, IsTrie, IsMarked, IsSet};
@@ -191,8 +192,8 @@ impl Trie {
         entry.place
     }
 
-    /// The greatest number of code points at which a prefix of `points` is mapped, and 0 if none is. Looks at no code point
-    /// after the longest mapped string that can still match.
+    /// The greatest number of code points at which a prefix of `points` is mapped, and 0 if none is. The walk ends where no mapped
+    /// string goes on, which no clause says.
     pub fn longest(&self, points: &[u32]) -> usize
         requires { IsTrie self.now }
         ensures value { (T : TableMap) → ((string : List ℕ) → is_mapped T string ≡ is_some (place_of self.now string)) → result ≡ longest_prefix T points.now }
