@@ -7,6 +7,7 @@ ghost use Rattle.utf8_cut.specs.Characters.{characters_end};
 ghost use Rattle.nfd_points.specs.PointFaults.{point_fault};
 ghost use Rattle.collation_table.specs.Table.{longest_mapped as longest_key_of};
 ghost use Rattle.collation_matches.specs.GoodPrefix.{seen as seen_of, byte_fault as byte_fault_of};
+ghost use Rattle.collation_search.specs.Finding.{FinderStandsFor};
 ghost use Rattle.collation_search.specs.Indexing.{first_range as first_range_of, IsFirstOf, HasRead};
 ghost use Rattle.collation_matches.specs.declared.select.Select.TheVariants.{All};
 ghost use Rattle.collation_matches.specs.Sought.{IsCompiledFrom, answer_to};
@@ -38,16 +39,35 @@ pub fn index<W: Weights>(
     ensures first { (p : List ℕ) → IsCompiledFrom (record { table = W.table table.now; pattern = pattern.now; select = All }) p
         → IsFirstOf (answer_to (record { table = W.table table.now; pattern = pattern.now; select = All }) p text.now) result }
 {
-    matches_by_clusters(table);
-    whole_characters_are_the_longest_text();
-    laws_of_faults();
-    let _some = pattern.len();
-    let Ok(mut finder) = Finder::new(alloc, table, pattern, Select::All) else {
+    let Ok(finder) = Finder::new(alloc, table, pattern, Select::All) else {
         return Err(TextFault {
             kind: TextFault::NO_MEMORY,
             offset: 0,
         });
     };
+    first_of(finder, table, pattern, text)
+}
+
+/// The first range of the answer to a text, by a finder at its beginning.
+fn first_of<W: Weights>(
+    finder: Finder,
+    table: &W,
+    pattern: &Pattern,
+    text: &[u8],
+) -> Result<Option<(u64, u64)>, TextFault>
+    requires stands { FinderStandsFor (W.table table.now) pattern.now finder [] [] }
+    requires open { finder.window.has_ended ≡ false }
+    requires longest { finder.longest_key ≡ longest_key_of (W.table table.now) }
+    requires pattern_len { finder.pattern_len ≡ length pattern.now.keys }
+    requires select { finder.walk.select ≡ All }
+    ensures first { (p : List ℕ) → IsCompiledFrom (record { table = W.table table.now; pattern = pattern.now; select = All }) p
+        → result ≡ first_range_of (answer_to (record { table = W.table table.now; pattern = pattern.now; select = All }) p text.now).ranges (answer_to (record { table = W.table table.now; pattern = pattern.now; select = All }) p text.now).fault }
+{
+    matches_by_clusters(table);
+    whole_characters_are_the_longest_text();
+    laws_of_faults();
+    let _some = pattern.len();
+    let mut finder = finder;
     let whole = utf8_cut::front(seen(text)).0;
     let mut found = Found::new();
     match find_first(&mut finder, table, pattern, whole, &mut found) {

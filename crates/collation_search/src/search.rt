@@ -211,6 +211,7 @@ impl<'a, W: Weights> Search<'a, W> {
         ensures bad { (text u : List ℕ) (handed : List _) → IsCompiledFrom (sought self.entry) text → HasSearched self.entry u handed
             → IfErr result (λ f. answer_to (sought self.entry) text u ≡ record { ranges = handed ++ found.new.items; fault = Some f }) }
         ensures again { (f : TextFault) → HasReported self.entry f → (result ≡ Err f) × (found.new.items ≡ []) }
+        ensures memory { IfErr result (λ f. f.kind ≡ 35 → HasReported self.entry f) }
     {
         matches_by_clusters(self.query.table);
         whole_characters_are_the_longest_text();
