@@ -46,6 +46,7 @@ impl Finder {
     ghost use Rattle.nfd_points.specs.PointFaults.{point_fault};
     ghost use Rattle.collation_table.specs.Table.{longest_mapped as longest_key_of};
     ghost use Rattle.collation_elements.specs.Units.{units};
+    ghost use Rattle.collation_elements.specs.Windows.{is_decided};
     ghost use Rattle.collation_elements.specs.Items.{items as items_of_units};
     ghost use Rattle.collation_search.specs.Apart.{HasWalked, IsPausedBefore};
     ghost use Rattle.collation_search.specs.Finding.{FinderStandsFor};
@@ -109,6 +110,7 @@ impl Finder {
             → IsPausedBefore (W.table table.now) pattern.now self.old.reorder self.old.window self.old.weigher self.old.walk taken ranges c
             → offset ≡ byte_len taken → begins_with_starter (points_of offset c) ≡ true
             → OnOk result (FinderStandsFor (W.table table.now) pattern.now self.new (taken ++ c ∷ []) (ranges ++ found.new.items)) }
+        ensures undecided { OnOk result (is_decided (W.table table.now) self.new.window ≡ false) }
         ensures apart { self.old.reorder.held ≡ [] → result ≡ Ok tt }
         ensures kind { IfErr result (λ f. f.kind ≡ 32) }
         ensures ascii { c < 128 → result ≡ Ok tt }

@@ -9,7 +9,7 @@ ghost use Rattle.collation_elements.specs.declared.keys.Item.{Item};
 ghost use Rattle.collation_elements.specs.ItemParts.{item_starts};
 ghost use Rattle.collation_elements.specs.UnitValues.{IsUnitOf};
 ghost use Rattle.collation_elements.specs.Weighing.{value_items, weigher_after, WeigherStandsFor};
-ghost use Rattle.collation_elements.specs.Windows.{WindowStandsFor};
+ghost use Rattle.collation_elements.specs.Windows.{WindowStandsFor, is_decided};
 ghost use Rattle.collation_search.specs.Matching.{HasMatched};
 ghost use Rattle.collation_search.specs.Walks.{WalksOver};
 
@@ -186,6 +186,7 @@ pub(crate) fn cut_units<W: Weights>(
     ensures rest { window.old.has_ended ≡ false → is_closed window.old.points ≡ true → length window.new.points ≤ longest_mapped (W.table table.now) }
     ensures last { window.old.has_ended ≡ false → is_closed window.old.points ≡ true → is_closed window.new.points ≡ true }
     ensures all { window.old.has_ended ≡ true → window.new.points ≡ [] }
+    ensures undecided { is_decided (W.table table.now) window.new ≡ false }
     ensures state { walk.new.state ≤ length pattern.now.keys }
     ensures select { walk.new.select ≡ walk.old.select }
 {
