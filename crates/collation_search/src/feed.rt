@@ -2,9 +2,9 @@
 ghost use Rattle.std.specs.Prelude.{◌≡◌, List};
 ghost use Rattle.std.specs.List.{FoldsTo};
 
-use collation_matches::TextFault;
 use crate::matching::Found;
 use crate::search::Search;
+use collation_matches::TextFault;
 use collation_table::Weights;
 
 /// Calls the sink once for each range, in order.

@@ -6,10 +6,10 @@ ghost use Rattle.nfd_points.specs.declared.limits.TheConstants.{MOST_GIVEN, MOST
 ghost use Rattle.collation_table.specs.declared.limits.TheConstants.{MOST_STRING_POINTS};
 
 use crate::matching::{Found, cut_units, keep, push_points};
-use collation_matches::Select;
 use crate::walk::Walk;
 use arrayvec::ArrayVec;
 use collation_elements::{Item, MOST_ITEMS, Weigher, Window, closed_points_append};
+use collation_matches::Select;
 use collation_pattern::Pattern;
 use collation_table::{MOST_STRING_POINTS, Weights};
 use nfd_points::laws::{laws_of_decompositions, laws_of_faults, laws_of_ordering, laws_of_runs};

@@ -12,12 +12,10 @@ ghost use Rattle.collation_search.specs.Indexing.{first_range as first_range_of,
 ghost use Rattle.collation_matches.specs.declared.select.Select.TheVariants.{All};
 ghost use Rattle.collation_matches.specs.Sought.{IsCompiledFrom, answer_to};
 
-use collation_matches::matches_by_clusters;
-use collation_matches::TextFault;
 use crate::finder::Finder;
 use crate::matching::Found;
 use crate::search::MOST_BYTES;
-use collation_matches::Select;
+use collation_matches::{Select, TextFault, matches_by_clusters};
 use collation_pattern::Pattern;
 use collation_table::Weights;
 use nfd_points::laws::laws_of_faults;

@@ -7,12 +7,11 @@ ghost use Rattle.collation_search.specs.Search.{sought};
 ghost use Rattle.collation_matches.specs.Sought.{Sought, IsCompiledFrom, answer_to};
 
 use crate::faults::StateFault;
-use collation_matches::TextFault;
 use crate::feed::hand_out;
 use crate::matching::Found;
 use crate::search::Search;
-use collation_matches::Select;
 use crate::states::RECORD_WORDS;
+use collation_matches::{Select, TextFault};
 use collation_pattern::Pattern;
 use collation_table::Weights;
 use std::alloc::{AllocError, Global};

@@ -11,12 +11,10 @@ ghost use Rattle.collation_search.specs.StateTests as tests;
 
 use crate::characters::Characters;
 use crate::faults::StateFault;
-use collation_matches::TextFault;
 use crate::finder::Finder;
 use crate::matching::push_points;
 use crate::saving::HEAD_WORDS;
 use crate::search::{MOST_BYTES, Query, Search};
-use collation_matches::Select;
 use crate::state_points::{may_be_in_window, may_wait, read_points};
 use crate::states::{
     Head, RECORD_WORDS, Resumed, are_places, bytes_in, has_form, head_len, is_chain_end, is_for,
@@ -25,6 +23,7 @@ use crate::states::{
 use crate::walk::Walk;
 use arrayvec::ArrayVec;
 use collation_elements::{Weigher, Window, clusters_are_parts};
+use collation_matches::{Select, TextFault};
 use collation_pattern::Pattern;
 use collation_table::{MOST_STRING_POINTS, Weights};
 use nfd_points::laws::{laws_of_points, laws_of_reordering};

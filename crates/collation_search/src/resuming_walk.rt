@@ -1,8 +1,8 @@
 //! A walk that goes on from a saved one, by the places of the last keys that its state speaks of.
 
-use collation_matches::Select;
 use crate::walk::{KeyPlace, Walk};
 use circular_buffer::HeapCircularBuffer;
+use collation_matches::Select;
 use collation_pattern::Pattern;
 use std::alloc::{AllocError, Global};
 

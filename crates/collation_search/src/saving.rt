@@ -11,9 +11,9 @@ ghost use Rattle.collation_search.specs.Search.{sought};
 ghost use Rattle.collation_search.specs.Saving.{BeginsWith, HasRecords, most_records};
 
 use crate::search::Search;
-use collation_matches::Select;
 use crate::walk::{KeyPlace, Walk};
 use collation_elements::{Strength, Variable, Window};
+use collation_matches::Select;
 use collation_table::Weights;
 use nfd_points::Point;
 use std::alloc::AllocError;

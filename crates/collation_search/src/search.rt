@@ -7,13 +7,10 @@ ghost use Rattle.collation_search.specs.Characters.{IsRight};
 ghost use Rattle.collation_matches.specs.GoodPrefix.{most_bytes};
 
 use crate::ascii_units::AsciiUnit;
-use collation_matches::matches_by_clusters;
 use crate::characters::Characters;
-use collation_matches::TextFault;
 use crate::finder::Finder;
-use collation_matches::answers_in_time;
 use crate::matching::Found;
-use collation_matches::Select;
+use collation_matches::{Select, TextFault, answers_in_time, matches_by_clusters};
 use collation_pattern::Pattern;
 use collation_table::Weights;
 use nfd_points::laws::laws_of_faults;

@@ -8,9 +8,9 @@ ghost use Rattle.collation_search.specs.StateTests as tests;
 
 use crate::saving::{HEAD_WORDS, word_of_select, word_of_strength, word_of_variable};
 use crate::search::MOST_BYTES;
-use collation_matches::Select;
 use arrayvec::ArrayVec;
 use collation_elements::{Strength, Variable};
+use collation_matches::Select;
 use nfd_points::MOST_WAITING;
 use utf8_cut::Cut;
 

@@ -4,9 +4,9 @@
 ghost use Rattle.std.specs.Prelude.{ℕ, List, [], ◌++◌, IfOk};
 ghost use Rattle.collation_search.specs.Walks.{WalksOver};
 
-use collation_matches::Select;
 use circular_buffer::HeapCircularBuffer;
 use collation_elements::Item;
+use collation_matches::Select;
 use collation_pattern::Pattern;
 use std::alloc::{AllocError, Global};
 
