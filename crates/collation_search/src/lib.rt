@@ -4,9 +4,9 @@
 //! piece, [`Search::step`] one byte, [`Search::finish`] ends the text, [`Search::stop`] gives it up. It holds what the layers
 //! below hold of the text's end, the places of the last keys, as many as the pattern has, what its table says of the ASCII
 //! characters and of others that it met, in places of a fixed number, and nothing that grows with the text. What it hands out is, in
-//! order, the answer of `specs/Answer.antt`: the minimal matches by equal sort keys or, up to the first fault, the settled ones.
+//! order, the answer of `collation_matches`: the minimal matches by equal sort keys or, up to the first fault, the settled ones.
 //!
-//! It stands on `collation_pattern` (patterns, their borders, and the law that keys decide what sort keys decide),
+//! It stands on `collation_matches` (what a match is, and the laws about matches), `collation_pattern` (patterns, their borders, and the law that keys decide what sort keys decide),
 //! `collation_elements` (windows, units, items), `nfd_points` and `utf8_cut` (where a text is good), and `collation_table`.
 //! [`Search::save`] gives what a search holds as words, and [`Search::resume`] goes on from them; which words are a state
 //! stands in `specs/StateTests.antt`, with worked rows in [`worked_states`]. [`search_in_pieces`] has the whole in one contract:
