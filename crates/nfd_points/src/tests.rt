@@ -102,6 +102,18 @@ fn points_of_characters(rt: HostRuntime) {
 }
 
 #[test]
+fn decomposed_code_points(rt: HostRuntime) {
+    // the last one has a compatibility decomposition alone
+    for c in ['a', '\u{301}', '\u{1100}', '\u{4E00}', '\u{FB01}'] {
+        assert!(rt; Point::is_decomposed(c));
+    }
+    // a letter with its mark, two marks, a syllable, and two code points that stand for another one
+    for c in ['\u{E9}', '\u{F73}', '\u{AC01}', '\u{2126}', '\u{F900}'] {
+        assert!(rt; !Point::is_decomposed(c));
+    }
+}
+
+#[test]
 fn worked_pushes(rt: HostRuntime) -> Result<(), Fail> {
     let mut out = ArrayVec::new();
 
