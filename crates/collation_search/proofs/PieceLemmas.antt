@@ -1,8 +1,8 @@
 -- A search that is under way takes a piece, goes on from its state, and ends.
-use Rattle.std.specs.Prelude.{Result, OnOk, IfErr, Ok, Err, Option, None, Some}
+use Rattle.std.specs.Prelude.{max, Result, OnOk, IfErr, Ok, Err, Option, None, Some}
 use Rattle.std.specs.Borrow.{Bor}
 use Rattle.std.specs.Result.{result_err}
-use Rattle.std.proofs.Common.{◌≡◌, ◌∙◌, ◌<◌, ℕ, ◌+◌, List, [], ◌∷◌, ◌++◌, length, take, get_or, sym, ap, subst, append_assoc, inl, inr}
+use Rattle.std.proofs.Common.{◌≡◌, ◌∙◌, ◌<◌, ℕ, ◌+◌, List, [], ◌∷◌, ◌++◌, length, take, get_or, sym, ap, subst, refl, append_assoc, inl, inr, arith}
 use Rattle.std.proofs.lemmas.List.{append-nil, take_more}
 use Rattle.std.proofs.lemmas.Grind.{flat_map-append}
 use Rattle.collation_table.specs.declared.lookup.Weights.{Ghosts}
@@ -14,7 +14,7 @@ use Rattle.collation_search.specs.State.{words_of}
 use Rattle.collation_search.specs.Search.{HasSearched, HasReported, sought}
 use Rattle.collation_matches.specs.Sought.{IsCompiledFrom, Sought, answer_to}
 use Rattle.collation_search.specs.Feeding.{Feeds}
-use Rattle.collation_search.specs.Pieces.{joined, HasEnded, IsUnderWay}
+use Rattle.collation_search.specs.Pieces.{joined, HasEnded, IsUnderWay, AreUnderWay, Passes, AreStates, HasStates, most_words}
 use Rattle.collation_search.specs.Resuming.{GoesOn, KeepsSaved}
 
 abbrev pub told : List (ℕ × ℕ) → Option TextFault → Answer
@@ -27,6 +27,12 @@ joined-more pieces i piece here =
     ap joined (take_more pieces i piece here)
     ∙ flat_map-append (λ (p : Bor (List ℕ)). p.now) (take i pieces) (get_or pieces i piece ∷ [])
     ∙ ap (λ (t : List ℕ). joined (take i pieces) ++ t) (append-nil (get_or pieces i piece).now)
+
+-- the longest with one state more
+pub most-more : (states : List (List ℕ)) (words : List ℕ) → most_words (states ++ words ∷ []) ≡ max (most_words states) (length words)
+unfolding most_words
+most-more [] words = omega arith
+most-more (first ∷ rest) words = let e = most-more rest words in omega (arith, e)
 
 module _ {W : Type 0} {G : Ghosts W} where
   -- a piece that a search without a fault has taken
@@ -117,30 +123,58 @@ module _ {W : Type 0} {G : Ghosts W} where
       (ends-at last text u handed found r good bad again (subst (λ (t : Sought). IsCompiledFrom t text) (sym h.0) compiled)
       (subst (λ (t : Sought). IsUnderWay last t u handed) (sym h.0) h))
 
-  -- a search that is under way takes a piece, and goes on from the words of its state
-  pub under_way-taken : (old fed new : Search W G) (piece : List ℕ) (r : Result (Unit {0}) TextFault) (found : List (ℕ × ℕ)) (words : List ℕ) →
-      Feeds old piece r found fed → words ≡ words_of fed → GoesOn new (sought old) words →
-      (s : Sought) (u : List ℕ) (handed : List (ℕ × ℕ)) → IsUnderWay old s u handed → IsUnderWay new s (u ++ piece) (handed ++ found)
-  under_way-taken old fed new piece r found words feeds same on s u handed h =
-      under_way-resumed fed new s words same (subst (λ (t : Sought). GoesOn new t words) h.0 on) (u ++ piece) (handed ++ found)
-      (under_way-fed old fed piece r found feeds s u handed h)
+  -- what goes on from the words of a search that is under way is under way
+  pub under_way-on : (s : Sought) (words u : List ℕ) (handed : List (ℕ × ℕ)) (resumed : Search W G) → GoesOn resumed s words → AreUnderWay G s words u handed → IsUnderWay resumed s u handed
+  under_way-on s words u handed resumed on h = under_way-resumed h.saved resumed s words h.words_same on u handed h.under_way
+
+  -- the words of a new search
+  pub under_way-begun : (s : Sought) (words : List ℕ) → HasStates G s [] [] words → AreUnderWay G s words [] []
+  unfolding AreStates
+  under_way-begun s words h = record { saved = h.begun; words_same = sym h.reached; under_way = (h.same, inl h.stands) }
+
+  -- from one state to the next
+  pub under_way-passed : (s : Sought) (words piece next u : List ℕ) (handed found : List (ℕ × ℕ)) → Passes G s words piece found next →
+      AreUnderWay G s words u handed → AreUnderWay G s next (u ++ piece) (handed ++ found)
+  under_way-passed s words piece next u handed found p h = record {
+    saved = p.fed;
+    words_same = p.saved;
+    under_way = under_way-fed p.resumed p.fed piece p.result found p.feeds s u handed (under_way-on s words u handed p.resumed p.goes_on h);
+  }
 
   -- one piece more of those before
-  pub under_way-more : (old new : Search W G) (s : Sought) (pieces : List (Bor (List ℕ))) (i : ℕ) (piece : Bor (List ℕ)) (handed found : List (ℕ × ℕ)) → i < length pieces →
-      ((s : Sought) (u : List ℕ) (handed : List (ℕ × ℕ)) → IsUnderWay old s u handed → IsUnderWay new s (u ++ (get_or pieces i piece).now) (handed ++ found)) →
-      IsUnderWay old s (joined (take i pieces)) handed → IsUnderWay new s (joined (take (i + 1) pieces)) (handed ++ found)
-  under_way-more old new s pieces i piece handed found here taken h =
-      subst (λ (t : List ℕ). IsUnderWay new s t (handed ++ found)) (sym (joined-more pieces i piece here)) (taken s (joined (take i pieces)) handed h)
+  pub under_way-more : (s : Sought) (pieces : List (Bor (List ℕ))) (i : ℕ) (piece : Bor (List ℕ)) (words next : List ℕ) (handed found : List (ℕ × ℕ)) → i < length pieces →
+      Passes G s words (get_or pieces i piece).now found next →
+      AreUnderWay G s words (joined (take i pieces)) handed → AreUnderWay G s next (joined (take (i + 1) pieces)) (handed ++ found)
+  under_way-more s pieces i piece words next handed found here passed h =
+      subst (λ (t : List ℕ). AreUnderWay G s next t (handed ++ found)) (sym (joined-more pieces i piece here))
+      (under_way-passed s words (get_or pieces i piece).now next (joined (take i pieces)) handed found passed h)
+
+  -- one state more behind the others
+  states-more : (s : Sought) (first : List ℕ) (pieces : List (Bor (List ℕ))) (states : List (List ℕ)) (last : List ℕ) (piece : Bor (List ℕ)) (found : List (ℕ × ℕ)) (next : List ℕ) →
+      AreStates G s first pieces states last → Passes G s last piece.now found next → AreStates G s first (pieces ++ piece ∷ []) (states ++ next ∷ []) next
+  unfolding AreStates
+  states-more s first [] [] last piece found next h p = ((found, subst (λ (t : List ℕ). Passes G s t piece.now found next) (sym h) p), refl)
+  states-more s first (q ∷ pieces) (words ∷ states) last piece found next h p = (h.0, states-more s words pieces states last piece found next h.1 p)
+  states-more s first [] (words ∷ states) last piece found next h p = elim h [ ]
+  states-more s first (q ∷ pieces) [] last piece found next h p = elim h [ ]
+
+  pub has_states-more : (s : Sought) (pieces : List (Bor (List ℕ))) (i : ℕ) (piece : Bor (List ℕ)) (states : List (List ℕ)) (last : List ℕ) (found : List (ℕ × ℕ)) (next : List ℕ) → i < length pieces →
+      HasStates G s (take i pieces) states last → Passes G s last (get_or pieces i piece).now found next →
+      HasStates G s (take (i + 1) pieces) (states ++ next ∷ []) next
+  has_states-more s pieces i piece states last found next here h p = record {
+    begun = h.begun;
+    same = h.same;
+    stands = h.stands;
+    reached = subst (λ (t : List (Bor (List ℕ))). AreStates G s (words_of h.begun) t (states ++ next ∷ []) next) (sym (take_more pieces i piece here))
+        (states-more s (words_of h.begun) (take i pieces) states last (get_or pieces i piece) found next h.reached p);
+  }
 
   saved-kept : (saved : Search W G) (result : Result (Search W G) StateFault) (s : Sought) (words : List ℕ) → words ≡ words_of saved → KeepsSaved result s words →
       (u : List ℕ) (handed : List (ℕ × ℕ)) → IsUnderWay saved s u handed → IfErr result (λ f. f.kind ≡ 53)
   saved-kept saved result s words same kept u handed (sought_same, inl h) = kept.searched saved u handed (sought_same, same, h)
   saved-kept saved result s words same kept u handed (sought_same, inr h) = kept.reported saved h.0 (sought_same, same, h.1.reported)
 
-  -- the words of a search that was under way and has taken a piece are refused for want of memory only
-  pub under_way-kept : (old fed : Search W G) (piece : List ℕ) (r : Result (Unit {0}) TextFault) (found : List (ℕ × ℕ)) (words : List ℕ) (result : Result (Search W G) StateFault) →
-      Feeds old piece r found fed → words ≡ words_of fed → KeepsSaved result (sought old) words →
-      (s : Sought) (u : List ℕ) (handed : List (ℕ × ℕ)) → IsUnderWay old s u handed → IfErr result (λ f. f.kind ≡ 53)
-  under_way-kept old fed piece r found words result feeds same kept s u handed h =
-      saved-kept fed result s words same (subst (λ (t : Sought). KeepsSaved result t words) h.0 kept) (u ++ piece) (handed ++ found)
-      (under_way-fed old fed piece r found feeds s u handed h)
+  -- the words of a search that is under way are refused for want of memory only
+  pub under_way-kept : (s : Sought) (words u : List ℕ) (handed : List (ℕ × ℕ)) (result : Result (Search W G) StateFault) →
+      KeepsSaved result s words → AreUnderWay G s words u handed → IfErr result (λ f. f.kind ≡ 53)
+  under_way-kept s words u handed result kept h = saved-kept h.saved result s words h.words_same kept u handed h.under_way

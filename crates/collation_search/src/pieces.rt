@@ -1,10 +1,10 @@
 //! A whole search over a text in pieces, saved and resumed after each.
-ghost use Rattle.std.specs.Prelude.{◌≡◌, ℕ, ◌*◌, ◌≤◌, List, ◌++◌, length, IfOk};
+ghost use Rattle.std.specs.Prelude.{◌≡◌, ℕ, ◌*◌, ◌≤◌, List, [], length, IfOk};
 ghost use Rattle.std.specs.List.{FoldsTo};
-ghost use Rattle.collation_search.specs.Pieces.{joined, IsUnderWay};
+ghost use Rattle.collation_search.specs.Pieces.{joined, most_words, AreUnderWay, Passes, HasStates};
+ghost use Rattle.collation_search.specs.Resuming.{GoesOn};
 ghost use Rattle.collation_search.specs.Saving.{most_records};
-ghost use Rattle.collation_search.specs.Search.{sought};
-ghost use Rattle.collation_matches.specs.Sought.{Sought, IsCompiledFrom, answer_to};
+ghost use Rattle.collation_matches.specs.Sought.{IsCompiledFrom, answer_to};
 
 use crate::faults::StateFault;
 use crate::feed::hand_out;
@@ -21,13 +21,13 @@ use std::alloc::{AllocError, Global};
 pub struct PiecesSearched {
     /// The first fault of the text, at which it counts as ended.
     pub fault: Option<TextFault>,
-    /// How many records of four words the greatest state between two pieces had.
+    /// How many records of four words the greatest of the states after a piece had; 0 where there is no piece.
     pub most_records: usize,
 }
 
 /// Searches a text in pieces, of any number and size, and calls the sink once for each range of the answer, or of the chain of
-/// them, in order. After each piece the search is saved as words and dropped, and a search that is resumed from these words takes
-/// the next piece. The sink must take any two numbers.
+/// them, in order. Between two pieces there are the words of a saved search alone: a search that is resumed from them takes the next
+/// piece, and is saved and dropped. The sink must take any two numbers.
 ///
 /// # Errors
 ///
@@ -44,16 +44,19 @@ pub fn search_in_pieces<W: Weights, F: FnMut(u64, u64)>(
     ensures answer { (text : List ℕ) → IsCompiledFrom (record { table = W.table table.now; pattern = pattern.now; select = select }) text
         → IfOk result (λ told. (found : List (ℕ × ℕ)) × FoldsTo (λ f range g. F.step f range.0 range.1 tt g) sink.old found sink.new
         × (answer_to (record { table = W.table table.now; pattern = pattern.now; select = select }) text (joined pieces.now) ≡ record { ranges = found; fault = told.fault })) }
+    ensures states { IfOk result (λ told. (states : List (List ℕ)) × (last : List ℕ)
+        × HasStates W.Weights (record { table = W.table table.now; pattern = pattern.now; select = select }) pieces.now states last
+        × (4 * told.most_records ≡ most_words states)) }
     ensures few { IfOk result (λ told. told.most_records ≤ most_records (record { table = W.table table.now; pattern = pattern.now; select = select })) }
     ensures callable { F.IsAlwaysCallable sink.new }
 {
-    let mut search = Search::new_with(alloc, table, pattern, select)?;
-    let mut words = Vec::new(alloc);
+    let mut words = first_state(alloc, table, pattern, select)?;
     let mut most_records = 0;
     for piece in pieces {
-        let records = take_piece(alloc, &mut search, piece, &mut words, sink)?;
+        let records = take_piece(alloc, table, pattern, select, &mut words, piece, sink)?;
         most_records = most_records.max(records);
     }
+    let search = go_on(alloc, table, pattern, select, &words)?;
     let mut found = Found::new();
     let fault = search.finish(&mut found).err();
     hand_out(found.as_slice(), sink);
@@ -63,39 +66,72 @@ pub fn search_in_pieces<W: Weights, F: FnMut(u64, u64)>(
     })
 }
 
-/// Takes a piece, and goes on with a search that is resumed from the state after it: how many records this has. A fault is not
-/// answered here, for the search answers it again.
+/// The state of a new search.
 ///
 /// # Errors
 ///
 /// Only where memory was refused.
-fn take_piece<'a, W: Weights, F: FnMut(u64, u64)>(
+fn first_state<W: Weights>(
     alloc: Global,
-    search: &mut Search<'a, W>,
-    piece: &[u8],
+    table: &W,
+    pattern: &Pattern,
+    select: Select,
+) -> Result<Vec<u64>, AllocError>
+    ensures begun { IfOk result (λ words. HasStates W.Weights (record { table = W.table table.now; pattern = pattern.now; select = select }) [] [] words.items) }
+{
+    let mut words = Vec::new(alloc);
+    let search = Search::new_with(alloc, table, pattern, select)?;
+    search.save(&mut words)?;
+    Ok(words)
+}
+
+/// Takes a piece, from the state before it to the one after it: how many records this has. A fault is not answered here, for a
+/// search that goes on from the state answers it again.
+///
+/// # Errors
+///
+/// Only where memory was refused.
+fn take_piece<W: Weights, F: FnMut(u64, u64)>(
+    alloc: Global,
+    table: &W,
+    pattern: &Pattern,
+    select: Select,
     words: &mut Vec<u64>,
+    piece: &[u8],
     sink: &mut F,
 ) -> Result<usize, AllocError>
     requires callable { F.IsAlwaysCallable sink.old }
-    requires under_way { (s : Sought) × (taken : List ℕ) × (handed : List (ℕ × ℕ)) × IsUnderWay search.old s taken handed }
-    ensures taken { IfOk result (λ records. (found : List (ℕ × ℕ)) × FoldsTo (λ f range g. F.step f range.0 range.1 tt g) sink.old found sink.new
-        × ((s : Sought) (taken : List ℕ) (handed : List (ℕ × ℕ)) → IsUnderWay search.old s taken handed
-        → IsUnderWay search.new s (taken ++ piece.now) (handed ++ found))) }
-    ensures few { IfOk result (λ records. (length words.new.items ≡ 4 * records)
-        × (records ≤ most_records (sought search.old))) }
+    requires under_way { (taken : List ℕ) × (handed : List (ℕ × ℕ)) × AreUnderWay W.Weights (record { table = W.table table.now; pattern = pattern.now; select = select }) words.old.items taken handed }
+    ensures passed { IfOk result (λ records. (found : List (ℕ × ℕ)) × FoldsTo (λ f range g. F.step f range.0 range.1 tt g) sink.old found sink.new
+        × Passes W.Weights (record { table = W.table table.now; pattern = pattern.now; select = select }) words.old.items piece.now found words.new.items) }
+    ensures counted { IfOk result (λ records. length words.new.items ≡ 4 * records) }
+    ensures few { IfOk result (λ records. records ≤ most_records (record { table = W.table table.now; pattern = pattern.now; select = select })) }
     ensures callable { F.IsAlwaysCallable sink.new }
 {
-    let table = search.query.table;
-    let pattern = search.query.pattern;
-    let select = search.finder.walk.select;
+    let mut search = go_on(alloc, table, pattern, select, words)?;
     let _fault = search.feed(piece, sink);
     words.clear();
     search.save(words)?;
+    Ok(words.len() / RECORD_WORDS)
+}
+
+/// A search that goes on from the words of one that is under way.
+///
+/// # Errors
+///
+/// Only where memory was refused.
+fn go_on<'a, W: Weights>(
+    alloc: Global,
+    table: &'a W,
+    pattern: &'a Pattern,
+    select: Select,
+    words: &[u64],
+) -> Result<Search<'a, W>, AllocError>
+    requires { (taken : List ℕ) × (handed : List (ℕ × ℕ)) × AreUnderWay W.Weights (record { table = W.table table.now; pattern = pattern.now; select = select }) words.now taken handed }
+    ensures goes_on { IfOk result (λ search. GoesOn search (record { table = W.table table.now; pattern = pattern.now; select = select }) words.now) }
+{
     match Search::resume_with(alloc, table, pattern, select, words) {
-        Ok(resumed) => {
-            *search = resumed;
-            Ok(words.len() / RECORD_WORDS)
-        }
+        Ok(search) => Ok(search),
         Err(fault) => {
             prove_eq!(fault.kind, StateFault::NO_MEMORY);
             Err(AllocError)

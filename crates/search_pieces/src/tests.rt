@@ -13,6 +13,7 @@ mod first_ranges;
 mod handing_out;
 mod long_keys;
 mod long_texts;
+mod plain_tables;
 mod refusals;
 mod resuming;
 mod searches;

@@ -1,37 +1,12 @@
-//! Runs of ASCII, which are taken at once: the answers are those of steps, and no memory is asked for.
+//! Runs of ASCII, which are taken at once: the answers are those of steps.
 
 use super::answers::{compare_with_steps, fed, stepped};
-use super::calls::{Query, begin, compile, feed, finish, read};
+use super::calls::{Query, compile, read};
 use super::{KEPT, ONE, SHIFTED, TABLE, THREE};
-use collation_search::Found;
 use std::test::Fail;
 
 /// Letters, a contraction, a variable element and characters without a row.
 const LETTERS: [u8; 12] = *b"ach aA-bu\na\0";
-
-/// To be run with each allocation refused in turn: once the search is there, none is made (there is room for the ranges before), and
-/// the ranges are those of ample memory.
-#[test]
-fn million_letters_ask_for_no_memory(rt: HostRuntime) -> Result<(), Fail> {
-    let table = read(rt.alloc(), TABLE)?;
-    let pattern = compile(rt.alloc(), &table, "ab", THREE, KEPT)?;
-    let text = "ab".repeat(rt.alloc(), 500_000)?;
-    let mut ranges = Vec::with_capacity(rt.alloc(), 500_000)?;
-    let mut found = Found::new();
-    let mut search = begin(rt.alloc(), Query::all(&table, &pattern))?;
-    let fed = feed(&rt, &mut search, text.as_bytes(), &mut ranges);
-    assert_eq!(rt; fed, Ok(()));
-    let mut next = 0u64;
-    for (start, end) in ranges.as_slice() {
-        assert_eq!(rt; *start, next);
-        next = next.wrapping_add(2);
-        assert_eq!(rt; *end, next);
-    }
-    assert_eq!(rt; next, 999_998);
-    assert_eq!(rt; finish(search, &mut found), Ok(()));
-    assert_eq!(rt; found.as_slice(), [(999_998, 1_000_000)].as_slice());
-    Ok(())
-}
 
 /// Runs of 0 to 200 characters in turn, with a letter and a mark that are no ASCII after each, the first of them at each offset
 /// of a block.

@@ -12,7 +12,17 @@ fn first_range_or_fault(rt: HostRuntime) -> Result<(), Fail> {
         kind: 31,
         offset: 2,
     };
-    let rows: [(&str, &[u8], Result<Option<Range>, TextFault>); 6] = [
+    let run = TextFault {
+        kind: 32,
+        offset: 61,
+    };
+    let mut marks = "e".to_owned(rt.alloc())?;
+    marks.push_str(&"\u{301}".repeat(rt.alloc(), 31)?)?;
+    let mut letters = "aaa".to_owned(rt.alloc())?;
+    letters.push_str(&marks)?;
+    let rows: [(&str, &[u8], Result<Option<Range>, TextFault>); 8] = [
+        ("aa", letters.as_bytes(), Ok(Some((0, 2)))),
+        ("e", marks.as_bytes(), Err(run)),
         ("aa", b"aaa", Ok(Some((0, 2)))),
         ("a", b"ab \xff", Ok(Some((0, 1)))),
         ("b", b"ab\xc3", Err(cut)),

@@ -34,10 +34,12 @@ fn string_of_seventeen(rt: HostRuntime) -> Result<(), Fail> {
     for (letters, of_text, want) in cases {
         let letters = "b".repeat(alloc, letters)?;
         let text = "b".repeat(alloc, of_text)?;
-        let pattern = compile(alloc, &table, &letters, ONE, KEPT)?;
-        let answer = fed(&rt, alloc, Query::all(&table, &pattern), text.as_bytes(), 3)?;
-        assert_eq!(rt; answer.0.as_slice(), want);
-        assert!(rt; answer.1.is_none());
+        for strength in [ONE, THREE] {
+            let pattern = compile(alloc, &table, &letters, strength, KEPT)?;
+            let answer = fed(&rt, alloc, Query::all(&table, &pattern), text.as_bytes(), 3)?;
+            assert_eq!(rt; answer.0.as_slice(), want);
+            assert!(rt; answer.1.is_none());
+        }
     }
     Ok(())
 }

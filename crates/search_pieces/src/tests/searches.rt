@@ -73,8 +73,9 @@ fn accents(rt: HostRuntime) -> Result<(), Fail> {
 
 #[test]
 fn letters(rt: HostRuntime) -> Result<(), Fail> {
-    let rows: [Row; 11] = [
+    let rows: [Row; 12] = [
         (THREE, KEPT, "a", b"", &[], None),
+        (ONE, KEPT, "aab", b"aabaab", &[(0, 3), (3, 6)], None),
         (THREE, KEPT, "aa", b"aaa", &[(0, 2), (1, 3)], None),
         (THREE, KEPT, "aab", b"aabaab", &[(0, 3), (3, 6)], None),
         (THREE, SHIFTED, "ab", b"a - b", &[(0, 5)], None),

@@ -191,6 +191,9 @@ fn reported_fault_is_resumed(rt: HostRuntime) -> Result<(), Fail> {
     let mut found = Found::new();
     assert_eq!(rt; step(&mut search, b'a', &mut found), Err(bad));
     assert_eq!(rt; reported(&search), Some(bad));
+    let mut ranges = Vec::new(rt.alloc());
+    assert_eq!(rt; feed(&rt, &mut search, b"aaaa", &mut ranges), Err(bad));
+    assert!(rt; ranges.is_empty());
     stop(search, &mut found);
     assert!(rt; found.is_empty());
     Ok(())

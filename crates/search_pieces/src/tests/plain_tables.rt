@@ -1,0 +1,70 @@
+//! Worked rows with a plain table, whose rows stand in an ordered map.
+
+use super::{KEPT, Range, TABLE, THREE};
+use collation_pattern::Pattern;
+use collation_search::{Found, Search, TextFault, index};
+use collation_table::PlainTable;
+use std::alloc::Global;
+use std::test::Fail;
+
+fn read(alloc: Global) -> Result<PlainTable, Fail> {
+    Ok(PlainTable::read(alloc, TABLE.as_bytes())?)
+}
+
+fn compile(alloc: Global, table: &PlainTable, letters: &str) -> Result<Pattern, Fail> {
+    Ok(Pattern::compile(alloc, table, letters, THREE, KEPT)?)
+}
+
+fn step(search: &mut Search<'_, PlainTable>, byte: u8, found: &mut Found) -> Result<(), TextFault> {
+    search.step(byte, found)
+}
+
+fn first_range(
+    alloc: Global,
+    table: &PlainTable,
+    pattern: &Pattern,
+    text: &[u8],
+) -> Result<Option<Range>, TextFault> {
+    index(alloc, table, pattern, text)
+}
+
+/// The ranges that are handed out after each byte, and at the end of the text.
+#[test]
+fn steps_with_a_plain_table(rt: HostRuntime) -> Result<(), Fail> {
+    let table = read(rt.alloc())?;
+    let rows: [(&str, &[(u8, &[Range])], &[Range]); 2] = [
+        ("a", &[(b'a', &[]), (b'b', &[]), (b'b', &[(0, 1)])], &[]),
+        ("aa", &[(b'a', &[]), (b'a', &[]), (b'a', &[])], &[(0, 2), (1, 3)]),
+    ];
+    for (letters, steps, last) in rows {
+        let pattern = compile(rt.alloc(), &table, letters)?;
+        let mut search = Search::new(rt.alloc(), &table, &pattern)?;
+        let mut found = Found::new();
+        for (byte, want) in steps {
+            step(&mut search, *byte, &mut found)?;
+            assert_eq!(rt; found.as_slice(), *want);
+        }
+        search.finish(&mut found)?;
+        assert_eq!(rt; found.as_slice(), last);
+    }
+    Ok(())
+}
+
+#[test]
+fn first_ranges_with_a_plain_table(rt: HostRuntime) -> Result<(), Fail> {
+    let table = read(rt.alloc())?;
+    let cut = TextFault {
+        kind: 31,
+        offset: 2,
+    };
+    let rows: [(&str, &[u8], Result<Option<Range>, TextFault>); 3] = [
+        ("aa", b"aaa", Ok(Some((0, 2)))),
+        ("a", b"ab \xff", Ok(Some((0, 1)))),
+        ("b", b"ab\xc3", Err(cut)),
+    ];
+    for (letters, text, want) in rows {
+        let pattern = compile(rt.alloc(), &table, letters)?;
+        assert_eq!(rt; first_range(rt.alloc(), &table, &pattern, text), want);
+    }
+    Ok(())
+}
