@@ -187,6 +187,37 @@ fn each_write_fails_in_turn(rt: HostRuntime) {
     }
 }
 
+/// A writer that takes three bytes and then fails, and a reader that gives two and then fails.
+#[test]
+fn a_device_fails_in_the_middle(rt: HostRuntime) {
+    let alloc = rt.alloc();
+    let mut out = FailingTarget::new(alloc, 3, 1);
+    let mut reader = MemorySource::new(b"aaa", 4);
+    let outcome = outcome_of(&rt, alloc, "aa", Output::Ranges, &mut reader, &mut out);
+    assert_eq!(rt; outcome, Outcome::Write);
+    assert_eq!(rt; out.bytes(), b"0:2".as_slice());
+    let mut out = FailingTarget::new(alloc, 3, u64::MAX);
+    let mut reader = FailingSource::new(b"ab", 2, 1);
+    let outcome = outcome_of(&rt, alloc, "a", Output::Ranges, &mut reader, &mut out);
+    assert_eq!(rt; outcome, Outcome::Read(2));
+    assert_eq!(rt; out.bytes(), b"0:1\n".as_slice());
+}
+
+/// Of the letters that were read the matches that end before the last one are settled.
+#[test]
+fn each_read_fails_in_turn(rt: HostRuntime) {
+    let alloc = rt.alloc();
+    let all = b"0:2\n1:3\n2:4\n3:5\n4:6\n".as_slice();
+    for reads in 0..8u64 {
+        let mut reader = FailingSource::new(b"aaaaaaaa", 1, reads);
+        let mut out = FailingTarget::new(alloc, 5, u64::MAX);
+        let outcome = outcome_of(&rt, alloc, "aa", Output::Ranges, &mut reader, &mut out);
+        assert_eq!(rt; outcome, Outcome::Read(reads));
+        let lines = 4 * reads.saturating_sub(2) as usize;
+        assert_eq!(rt; Some(out.bytes()), all.get(..lines));
+    }
+}
+
 #[test]
 fn a_flush_fails(rt: HostRuntime) {
     let alloc = rt.alloc();

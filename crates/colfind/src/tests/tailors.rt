@@ -86,7 +86,15 @@ fn reports_the_fault_of_a_tailor(rt: HostRuntime) -> Result<(), Fail> {
     let lead = "4E00 ; [.FB40.0020.0002]";
     let between = "007A ; [.0201.0020.0002]";
     let light = "0301 ; [.0000.0020.0002]";
-    let rows: [Row; 6] = [
+    let alloc = rt.alloc();
+    let code_points = "0062 ".repeat(alloc, 65)?;
+    let string = format!(in alloc; "{code_points}; [.1C18.0020.0002]")?;
+    let elements = "[.1E00.0020.0002]".repeat(alloc, 129)?;
+    let row = format!(in alloc; "0078 ; {elements}")?;
+    let long = "colfind: fault 64 at 1\n";
+    let rows: [Row; 8] = [
+        (string.as_str(), "3", "a", b"a", 2, "", long),
+        (row.as_str(), "3", "a", b"a", 2, "", long),
         (between, "3", "a", b"a", 2, "", "colfind: fault 8 at 0\n"),
         (light, "3", "a", b"a", 2, "", "colfind: fault 6 at 0\n"),
         (LONGER, "3", "a", b"a", 2, "", "colfind: fault 9 at 0\n"),

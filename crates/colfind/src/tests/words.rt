@@ -36,7 +36,8 @@ fn each_form_of_output(rt: HostRuntime) -> Result<(), Fail> {
     let path = file_with(&rt, "forms", TABLE)?;
     let cut = "colfind: fault 31 at 2\n";
     let marks = "[0\n]1\n[1\n]2\n";
-    let rows: [Row; 7] = [
+    let overlapping = "[0\n]2\n[1\n]3\n";
+    let rows: [Row; 8] = [
         (&["--output", "count"], "aa", b"aaa", 0, "2\n", ""),
         (&["--output", "count"], "b", b"ab\xc3", 2, "0\n", cut),
         (&["--output", "count"], "a", b"", 1, "0\n", ""),
@@ -49,6 +50,7 @@ fn each_form_of_output(rt: HostRuntime) -> Result<(), Fail> {
             "",
         ),
         (&["--output", "marks"], "b", b"a", 1, "", ""),
+        (&["--output", "marks"], "aa", b"aaa", 0, overlapping, ""),
         (&["--output", "ranges"], "aa", b"aaa", 0, "0:2\n1:3\n", ""),
         (&[], "aa", b"aaa", 0, "0:2\n1:3\n", ""),
     ];
@@ -161,8 +163,9 @@ fn other_words_are_no_command(rt: HostRuntime) {
     compare_unasked(&rt, &rt, &words, 2, "", usage);
     let words = ["--table", "t", "--output", "count"];
     compare_unasked(&rt, &rt, &words, 2, "", usage);
-    let words = ["--help"];
-    compare_unasked(&rt, &rt, &words, 2, "", usage);
+    for word in ["--help", "--version"] {
+        compare_unasked(&rt, &rt, &[word], 2, "", usage);
+    }
 }
 
 #[test]
