@@ -19,20 +19,17 @@ fn main(rt: HostRuntime) -> Result<()> {
     let pattern = Pattern::compile(alloc, &table, sought, Strength::One, Variable::NonIgnorable)?;
     let mut search = Search::new(alloc, &table, &pattern)?;
     let (mut input, mut out) = (rt.stdin(), rt.stdout());
-    let mut text = Vec::new(alloc);
-    let mut piece = [0; 4096];
+    let (mut text, mut piece) = (Vec::new(alloc), [0; 4096]);
     for _ in 0..u64::MAX {
         let len = input.read(&mut piece)?;
         text.extend_from_slice(&piece[..len])?;
         let mut printed = Ok(());
-        let fed = search.feed(
-            &piece[..len],
-            &mut |start, end| {
-                if printed.is_ok() {
-                    printed = print_part(&mut out, &text, start, end);
-                }
-            },
-        );
+        let mut print = |start, end| {
+            if printed.is_ok() {
+                printed = print_part(&mut out, &text, start, end);
+            }
+        };
+        let fed = search.feed(&piece[..len], &mut print);
         printed?;
         if len == 0 || fed.is_err() {
             break;
@@ -48,7 +45,6 @@ fn main(rt: HostRuntime) -> Result<()> {
 
 /// Prints the bytes of the text from `start` to before `end`, and ends the line.
 fn print_part<O: Write>(out: &mut O, text: &[u8], start: u64, end: u64) -> io::Result<()> {
-    let part = text.get(start as usize..end as usize).unwrap_or(b"");
-    out.write_all(part)?;
+    out.write_all(text.get(start as usize..end as usize).unwrap_or(b""))?;
     out.write_all(b"\n")
 }

@@ -1,12 +1,12 @@
-//! `example_resume TABLE PATTERN WORDS` takes standard input as the next part of a text, and prints the ranges that became known. The
-//! search is kept in the file WORDS from one run to the next. A run with an empty input ends the text.
+//! `example_resume TABLE PATTERN WORDS` takes standard input as the next part of a text, and prints the ranges that became known.
+//! The search is kept in the file WORDS from one run to the next. A run with an empty input ends the text.
 #![tactic(auto)]
 
 use anyhow::{Result, bail};
 use collation_elements::{Strength, Variable};
 use collation_pattern::Pattern;
 use collation_search::{Found, Search};
-use collation_table::Table;
+use collation_table::{Table, Weights};
 use std::alloc::Global;
 use std::io::{BufWriter, ErrorKind, Read, Write};
 use std::{env, fs};
@@ -24,42 +24,49 @@ fn main(rt: HostRuntime) -> Result<()> {
         Err(error) if error.kind() == ErrorKind::NotFound => Search::new(alloc, &table, &pattern)?,
         Err(error) => return Err(error.into()),
     };
-    let mut piece = Vec::new(alloc);
-    rt.stdin().read_to_end(&mut piece)?;
-    let mut out = rt.stdout();
-    if piece.is_empty() {
-        let mut found = Found::new();
-        let ended = search.finish(&mut found);
-        for (start, end) in found.as_slice() {
-            writeln!(out, "{start}:{end}")?;
-        }
-        return Ok(ended?);
+    let mut part = Vec::new(alloc);
+    rt.stdin().read_to_end(&mut part)?;
+    if part.is_empty() {
+        return end(search, &mut rt.stdout());
     }
-    let mut printed = Ok(());
-    let fed = search.feed(
-        &piece,
-        &mut |start, end| {
-            if printed.is_ok() {
-                printed = writeln!(out, "{start}:{end}");
-            }
-        },
-    );
-    printed?;
+    take(&mut search, &part, &mut rt.stdout())?;
     let mut words = Vec::new(alloc);
     search.save(&mut words)?;
     let mut file = BufWriter::new(alloc, fs::create(&rt, path)?)?;
     for word in &words {
         writeln!(file, "{word}")?;
     }
-    file.flush()?;
-    Ok(fed?)
+    Ok(file.flush()?)
 }
 
-/// The words of a kept search, a line each.
+/// The words of a search that was kept, a line each.
 fn words_in(alloc: Global, kept: &str) -> Result<Vec<u64>> {
     let mut words = Vec::new(alloc);
     for line in kept.lines() {
         words.push(line.parse::<u64>()?)?;
     }
     Ok(words)
+}
+
+/// Prints the ranges that a part of the text makes known.
+fn take<W: Weights, O: Write>(search: &mut Search<'_, W>, part: &[u8], out: &mut O) -> Result<()> {
+    let mut printed = Ok(());
+    let mut print = |start, end| {
+        if printed.is_ok() {
+            printed = writeln!(out, "{start}:{end}");
+        }
+    };
+    let fed = search.feed(part, &mut print);
+    printed?;
+    Ok(fed?)
+}
+
+/// Prints the rest of the ranges.
+fn end<W: Weights, O: Write>(search: Search<'_, W>, out: &mut O) -> Result<()> {
+    let mut found = Found::new();
+    let ended = search.finish(&mut found);
+    for (start, end) in found.as_slice() {
+        writeln!(out, "{start}:{end}")?;
+    }
+    Ok(ended?)
 }
