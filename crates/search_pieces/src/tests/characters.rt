@@ -35,7 +35,7 @@ const LINES: &str =
     \u{3b7}\u{1f97}\u{1f91}\u{3b1}\u{1f80}\u{301}e\u{3b1}\u{f73}\u{345}a\n";
 
 /// However a text is cut into pieces, at the end of each the ranges so far and the words of the state are those of steps. How many
-/// ranges there are before the end is what `docs/comparison/states.py` says.
+/// ranges there are before the end is what `tools/compare/states.py` says.
 #[test]
 fn pieces_leave_what_steps_leave(rt: HostRuntime) -> Result<(), Fail> {
     let mut rows = TABLE.to_owned(rt.alloc())?;
