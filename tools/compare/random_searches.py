@@ -1,9 +1,7 @@
 """Compares what colfind prints with what model.py gives, on random small tables, tailors, patterns and texts, for the whole
 command: strengths, weightings, forms of output, texts in files and from standard input, there in pieces of all sizes.
 
-    python3 random_searches.py COLFIND SEED TABLES [--select]
-
-With --select the option `--select all|chain` is tried too.
+    python3 random_searches.py COLFIND SEED TABLES
 """
 
 import os
@@ -166,17 +164,17 @@ def random_bytes(choice, text):
 class Search:
     """The settings of one search, and where its text stands."""
 
-    def __init__(self, choice, knows_select):
+    def __init__(self, choice):
         self.strength, self.is_shifted = choice.choice([1, 2, 3]), choice.random() < 0.5
         self.output = choice.choice(["ranges", "ranges", "count", "marks"])
-        self.is_chain = knows_select and choice.random() < 0.5
+        self.is_chain = choice.random() < 0.5
         self.is_in_file = choice.random() < 0.3
         text = random_runs(choice) if choice.random() < 0.4 else random_text(choice, 14)
         self.pattern, self.data = random_pattern(choice, text), random_bytes(choice, text)
         kind = choice.random()
         self.lacks = None if kind > 0.02 else choice.choice(["words", "table", "tailor", "text"])
 
-    def options(self, choice, paths, has_tailor, knows_select):
+    def options(self, choice, paths, has_tailor):
         """The options, in random order and spelling; those that are the default may be left out."""
         named = [("table", paths["none"] if self.lacks == "table" else paths["table"])]
         if has_tailor or self.lacks == "tailor":
@@ -185,9 +183,8 @@ class Search:
             ("strength", str(self.strength), "3"),
             ("variable", "shifted" if self.is_shifted else "non-ignorable", "non-ignorable"),
             ("output", self.output, "ranges"),
+            ("select", "chain" if self.is_chain else "all", "all"),
         ]
-        if knows_select:
-            settings.append(("select", "chain" if self.is_chain else "all", "all"))
         if self.lacks == "words":
             name, _, default = settings.pop(choice.randrange(len(settings)))
             settings.append((name, choice.choice(["", "0", "none", default + " "]), None))
@@ -198,8 +195,8 @@ class Search:
             words += [f"--{name}={value}"] if choice.random() < 0.3 else [f"--{name}", value]
         return words
 
-    def words(self, choice, paths, has_tailor, knows_select):
-        words = self.options(choice, paths, has_tailor, knows_select)
+    def words(self, choice, paths, has_tailor):
+        words = self.options(choice, paths, has_tailor)
         names_file = self.is_in_file or self.lacks == "text"
         if self.pattern.startswith("-") or choice.random() < 0.7:
             words.append("--")
@@ -249,8 +246,8 @@ def given(choice, words, data):
 
 
 class Comparison:
-    def __init__(self, colfind, choice, folder, knows_select):
-        self.colfind, self.choice, self.knows_select = colfind, choice, knows_select
+    def __init__(self, colfind, choice, folder):
+        self.colfind, self.choice = colfind, choice
         self.paths = {name: os.path.join(folder, name) for name in ("table", "tailor", "text", "none")}
         self.searches = self.with_matches = self.with_faults = self.different = 0
 
@@ -266,11 +263,11 @@ class Comparison:
         self.write("tailor", spelled_file(choice, tailor or []).encode())
         table, fault = model.table_of(lines, tailor or [])
         for _ in range(1 if fault else 6):
-            search = Search(choice, self.knows_select)
+            search = Search(choice)
             self.compare(search, lines, tailor, search.wanted(table, fault))
 
     def compare(self, search, lines, tailor, wanted):
-        words = search.words(self.choice, self.paths, tailor is not None, self.knows_select)
+        words = search.words(self.choice, self.paths, tailor is not None)
         self.write("text", search.data)
         # what comes to standard input beside a text file is not read
         data = self.choice.choice([b"", b"aba\xff"]) if search.is_in_file else search.data
@@ -284,10 +281,9 @@ class Comparison:
 
 
 def main():
-    words = [word for word in sys.argv[1:] if word != "--select"]
-    colfind, seed, tables = os.path.abspath(words[0]), int(words[1]), int(words[2])
+    colfind, seed, tables = os.path.abspath(sys.argv[1]), int(sys.argv[2]), int(sys.argv[3])
     with tempfile.TemporaryDirectory() as folder:
-        compared = Comparison(colfind, random.Random(seed), folder, "--select" in sys.argv)
+        compared = Comparison(colfind, random.Random(seed), folder)
         for _ in range(tables):
             compared.try_table()
     print(

@@ -13,8 +13,9 @@ import sys
 import tempfile
 import unicodedata
 
-LETTERS = os.path.join(os.path.dirname(os.path.abspath(__file__)), "..", "example", "letters.txt")
+LETTERS = os.path.join(os.path.dirname(os.path.abspath(__file__)), "..", "..", "docs", "example", "letters.txt")
 MEGABYTE = 1 << 20
+PLAIN_MEGABYTES = 64  # that the time of plain text is measured over
 ROUNDS = 3
 
 
@@ -162,6 +163,19 @@ def rising_marks():
     return [by_class[combining] for combining in sorted(by_class)[:30]]
 
 
+def seconds_of(bench, case, sizes):
+    """The seconds for the text of a case in some sizes of megabytes; those for an empty text are taken off."""
+    name, words, pattern, make, matches = case
+    words = words + ["--output", "count", "--", pattern]
+    start = bench.seconds(name, words, bench.file("none", b""), counted(0))
+    times = []
+    for megabytes in sizes:
+        text = make(megabytes * MEGABYTE)
+        wanted = counted(matches(text) if matches else 0)
+        times.append(bench.seconds(name, words, bench.file("text", text), wanted) - start)
+    return times
+
+
 def texts(bench):
     letters = ["--table", LETTERS]
     b64 = ["--table", LETTERS, "--tailor", bench.file("b64", line([0x62] * 64, 0x1D00))]
@@ -179,6 +193,7 @@ def texts(bench):
     shifted = "--variable", "shifted"
     # A name, the words, the pattern, the text of a size, and how many matches there are in it, if not 0.
     cases = [
+        ("plain text, no match", letters, "zz", plain_text, None),
         ("letters `a`, pattern `a`", letters, "a", lambda n: b"a" * n, len),
         ("letters `a`, pattern of 65,536 of them", letters, "a" * most, lambda n: b"a" * n, lambda t: len(t) - most + 1),
         ("the same, each 65,536th letter a `b`", letters, "a" * most, lambda n: repeated(b"a" * (most - 1) + b"b", n), None),
@@ -206,23 +221,12 @@ def texts(bench):
         ("a row of 128 elements at each letter", x128, "xxx", lambda n: b"x" * n, lambda t: len(t) - 2),
         ("the same, pattern of 65,536 of them, 8,388,608 keys", x128, "x" * most, lambda n: b"x" * n, lambda t: len(t) - most + 1),
     ]
-    size = MEGABYTE
-    none = bench.file("none", b"")
-    plain = bench.file("plain", plain_text(4 * size))
-    base = bench.seconds("plain", letters + ["zz"], plain, (1, b"", b"")) / 4
     print("| text and pattern | seconds, 1 MB | 4 MB | ratio | beside plain text |")
     print("|---|---|---|---|---|")
-    print(f"| plain text, no match | {base:.3f} | {4 * base:.3f} | | 1.0 |", flush=True)
-    for name, words, pattern, make, matches in cases:
-        times = []
-        words = words + ["--output", "count", "--", pattern]
-        start = bench.seconds(name, words, none, counted(0))
-        for megabytes in (1, 4):
-            text = make(megabytes * size)
-            wanted = counted(matches(text) if matches else 0)
-            times.append(bench.seconds(name, words, bench.file("text", text), wanted) - start)
-        ratio = times[1] / max(times[0], 1e-3)
-        print(f"| {name} | {times[0]:.3f} | {times[1]:.3f} | {ratio:.1f} | {times[1] / 4 / base:.1f} |", flush=True)
+    plain = seconds_of(bench, cases[0], [PLAIN_MEGABYTES])[0] / PLAIN_MEGABYTES
+    for case in cases:
+        one, four = seconds_of(bench, case, [1, 4])
+        print(f"| {case[0]} | {one:.3f} | {four:.3f} | {four / max(one, 1e-3):.1f} | {four / 4 / plain:.1f} |", flush=True)
 
 
 def main():

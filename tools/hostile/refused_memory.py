@@ -17,7 +17,7 @@ import tempfile
 import time
 
 FOLDER = os.path.dirname(os.path.abspath(__file__))
-LETTERS = os.path.join(FOLDER, "..", "example", "letters.txt")
+LETTERS = os.path.join(FOLDER, "..", "..", "docs", "example", "letters.txt")
 REFUSALS = {b"colfind: fault %d at 0\n" % kind for kind in (14, 24, 36)}
 REFUSED_TEST = re.compile(
     rb"\s*error: (.*Alloc(Error|Failed).*|TableFault \{ line: 0, kind: 14 \}|PatternFault \{ kind: 24 \}|StateFault \{ kind: 53 \}"

@@ -1,7 +1,7 @@
 #!/usr/bin/perl
 # Compares the ranges that colfind prints with the matches that Perl's Unicode::Collate finds, over the same table.
 #
-#   perl compare.pl COLFIND TABLE
+#   perl perl.pl COLFIND TABLE
 #
 # COLFIND is the built program, TABLE a file of the form of allkeys.txt. Each word of words.txt is looked for in text.txt
 # at each strength and both weightings: in the text in NFD and in NFC. Perl searches the text in NFD and normalizes
@@ -18,7 +18,7 @@ use Unicode::Collate;
 use Unicode::Normalize qw(NFC NFD);
 
 my ($colfind, $table) = @ARGV;
-die "usage: perl compare.pl COLFIND TABLE\n" if !defined $table;
+die "usage: perl perl.pl COLFIND TABLE\n" if !defined $table;
 
 # Unicode::Collate looks for its table below a folder Unicode/Collate of @INC.
 my $folder = tempdir(CLEANUP => 1);
