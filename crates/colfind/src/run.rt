@@ -13,8 +13,9 @@ use crate::devices::{Source, Target};
 use crate::lines::Lines;
 use crate::output::Output;
 use crate::texts::{Ending, search_text};
+use collation_matches::one_range_begins_at_an_offset;
 use collation_pattern::Pattern;
-use collation_search::{Found as Ranges, Search, Select, TextFault, one_range_begins_at_an_offset};
+use collation_search::{Found as Ranges, Search, Select, TextFault};
 use collation_table::Weights;
 use std::alloc::Global;
 
