@@ -27,7 +27,8 @@ use utf8_cut::{Cut, whole_characters_are_the_longest_text};
 ///
 /// # Errors
 ///
-/// The first fault of the text, where no range was found before it, or 36 at 0 where the search was refused memory.
+/// The first fault of the text, where no range was found before it, or 36 at 0 where the one request for memory was refused. That
+/// this is for no other reason no clause says, for none can name the request: it is read off the body, and tested.
 pub fn index<W: Weights>(
     alloc: Global,
     table: &W,

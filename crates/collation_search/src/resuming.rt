@@ -185,7 +185,7 @@ impl<'a, W: Weights> Search<'a, W> {
     ///
     /// 51 where the words are no state, or one of the other form: the first form is of a search for all ranges, the second one of a
     /// search for a chain. 52 where they are one of another pattern, table, strength or variable weighting, and 53 where memory
-    /// was refused.
+    /// was refused. That 53 is for no other reason no clause says: it is tested.
     pub fn resume_with(
         alloc: Global,
         table: &'a W,

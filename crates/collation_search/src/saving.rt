@@ -27,7 +27,7 @@ impl<'a, W: Weights> Search<'a, W> {
     ///
     /// # Errors
     ///
-    /// Only where memory was refused; then `words` has what it had before.
+    /// Where memory was refused; then `words` has what it had before. That it is for no other reason no clause says: it is tested.
     pub fn save(&self, words: &mut Vec<u64>) -> Result<(), AllocError>
         ensures saved { OnOk result (words.new.items ≡ words.old.items ++ words_of self.now) }
         ensures kept { OnErr result (words.new.items ≡ words.old.items) }

@@ -73,7 +73,7 @@ impl<'a, W: Weights> Search<'a, W> {
     ///
     /// # Errors
     ///
-    /// Only where memory was refused.
+    /// Where memory was refused. That it is for no other reason no clause says: the body has no other `Err`, and it is tested.
     pub fn new(alloc: Global, table: &'a W, pattern: &'a Pattern) -> Result<Self, AllocError>
         ensures stands { IfOk result (λ s. HasSearched s [] []) }
         ensures sought { IfOk result (λ s. sought s ≡ record { table = W.table table.now; pattern = pattern.now; select = All }) }
@@ -85,7 +85,7 @@ impl<'a, W: Weights> Search<'a, W> {
     ///
     /// # Errors
     ///
-    /// Only where memory was refused.
+    /// Where memory was refused. That it is for no other reason no clause says: the body has no other `Err`, and it is tested.
     pub fn new_with(
         alloc: Global,
         table: &'a W,
