@@ -41,11 +41,16 @@ impl Model for Window {
 impl Window {
     /// An empty window for a table whose longest mapped string has `longest_key` points, with room for those and for what one
     /// call of a `nfd_points::Reorder` gives.
+    ///
+    /// With the points of another window pushed, which was not told the end, it goes on as that one.
     pub fn with_capacity(alloc: Global, longest_key: usize) -> Result<Self, AllocError>
         requires some { 1 ≤ longest_key }
         requires few { longest_key ≤ MOST_STRING_POINTS }
         ensures empty { IfOk result (λ w. w ≡ record { points = []; capacity = longest_key + MOST_GIVEN; has_ended = false }) }
         ensures stands { IfOk result (λ w. (table : TableMap) → WindowStandsFor table w [] []) }
+        ensures stands_for { IfOk result (λ w. (table : TableMap) (read : Held) (taken : List Point) (given : List (List Point))
+            → WindowStandsFor table read taken given → read.has_ended ≡ false → read.points ≡ []
+            → WindowStandsFor table w taken given) }
     {
         Ok(Window {
             queue: Queue::with_capacity(alloc, longest_key + MOST_GIVEN)?,
@@ -89,6 +94,10 @@ impl Window {
         ensures stands { (table : TableMap) (taken : List Point) (given : List (List Point))
             → WindowStandsFor table self.old taken given
             → WindowStandsFor table self.new (taken ++ p ∷ []) given }
+        // and once it has the points that were read from a window, it goes on as that one
+        ensures stands_for { (table : TableMap) (read : Held) (taken : List Point) (given : List (List Point))
+            → WindowStandsFor table read taken given → read.has_ended ≡ false → read.points ≡ self.old.points ++ p ∷ []
+            → WindowStandsFor table self.new taken given }
     {
         self.queue.push(p);
     }
