@@ -34,7 +34,11 @@ fn steps_with_a_plain_table(rt: HostRuntime) -> Result<(), Fail> {
     let table = read(rt.alloc())?;
     let rows: [(&str, &[(u8, &[Range])], &[Range]); 2] = [
         ("a", &[(b'a', &[]), (b'b', &[]), (b'b', &[(0, 1)])], &[]),
-        ("aa", &[(b'a', &[]), (b'a', &[]), (b'a', &[])], &[(0, 2), (1, 3)]),
+        (
+            "aa",
+            &[(b'a', &[]), (b'a', &[]), (b'a', &[])],
+            &[(0, 2), (1, 3)],
+        ),
     ];
     for (letters, steps, last) in rows {
         let pattern = compile(rt.alloc(), &table, letters)?;

@@ -87,9 +87,10 @@ fn refused_searches_are_asked_again(rt: HostRuntime) -> Result<(), Fail> {
 fn million_letters_ask_for_no_memory(rt: HostRuntime) -> Result<(), Fail> {
     let alloc = rt.alloc();
     let table = read(alloc, TABLE)?;
-    for (strength, letters, repeated, count) in
-        [(THREE, "ab", "ab", 500_000), (ONE, "e", "\u{e9}", 1_000_000)]
-    {
+    for (strength, letters, repeated, count) in [
+        (THREE, "ab", "ab", 500_000),
+        (ONE, "e", "\u{e9}", 1_000_000),
+    ] {
         let pattern = compile(alloc, &table, letters, strength, KEPT)?;
         let text = repeated.repeat(alloc, count)?;
         let mut ranges = Vec::with_capacity(alloc, count)?;
