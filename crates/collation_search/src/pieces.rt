@@ -51,7 +51,7 @@ pub fn search_in_pieces<W: Weights, F: FnMut(u64, u64)>(
     ensures callable { F.IsAlwaysCallable sink.new }
 {
     let mut words = first_state(alloc, table, pattern, select)?;
-    let mut most_records = 0;
+    let mut most_records = 0usize;
     for piece in pieces {
         let records = take_piece(alloc, table, pattern, select, &mut words, piece, sink)?;
         most_records = most_records.max(records);

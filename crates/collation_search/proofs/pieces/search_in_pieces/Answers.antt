@@ -1,5 +1,5 @@
 use Rattle.std.specs.List.{FoldsTo}
-use Rattle.std.proofs.Common.{rules, ◌≡◌, ◌∙◌, ℕ, List, [], ◌∷◌, ◌++◌, Option, Bor, sym, ap, subst, refl, arith}
+use Rattle.std.proofs.Common.{rules, ◌≡◌, ◌∙◌, ℕ, max, List, [], ◌∷◌, ◌++◌, Option, Bor, sym, ap, subst, refl, arith}
 use Rattle.std.proofs.lemmas.List.{take_all}
 use Rattle.collation_matches.specs.declared.faults.TextFault.{TextFault}
 use Rattle.collation_matches.specs.Sought.{Sought}
@@ -31,9 +31,10 @@ loop-piece-preserved g c =
     let passed = c.in_ok-records.ensures.passed in
     let few = c.in_ok-records.ensures.few in
     let counted = c.in_ok-records.ensures.counted in
+    let greatest : c.max-most_records.result ≡ max c.loop-piece.most_records c.in_ok-records.records = c.max-most_records.ensures in
     let most = most-more states.0 c.take_piece.new.words.items in (
       c.take_piece.ensures.callable,
-      omega (arith, c.max-most_records.ensures, few, c.loop-piece.invariant.1),
+      omega (arith, greatest, few, c.loop-piece.invariant.1),
       (
         before.0 ++ passed.0,
         folds-append (λ f range t. goal.F-step g f range.0 range.1 tt t) c.args.sink.now before.0 passed.0 c.loop-piece.sink c.take_piece.new.sink before.1 passed.1,
@@ -42,7 +43,7 @@ loop-piece-preserved g c =
       (
         states.0 ++ c.take_piece.new.words.items ∷ [],
         has_states-more s pieces i none states.0 c.loop-piece.words.items passed.0 c.take_piece.new.words.items c.loop-piece-test.true states.1 passed.2,
-        omega (arith, c.max-most_records.ensures, most, counted, states.2),
+        omega (arith, greatest, most, counted, states.2),
       ),
     )
 
