@@ -12,25 +12,31 @@ use crate::{
     CharacterItems, Item, ItemsFault, Key, MOST_ITEMS, Strength, Variable, Weigher, Window,
 };
 use arrayvec::ArrayVec;
-use collation_table::{Table, Weights};
+use collation_table::{Element, Table, Weights};
 use nfd_points::Point;
 use std::alloc::{AllocError, Global};
 use std::test::Fail;
 
-const ACCENTED: &str = "0020 ; [*0201.0020.0002]
+const TABLE: &str = "@version 0.0.0
+0020 ; [*0201.0020.0002]
 002D ; [*0202.0020.0002]
 0061 ; [.1C00.0020.0002]
+0041 ; [.1C00.0020.0008]
 0062 ; [.1C10.0020.0002]
 0063 ; [.1C20.0020.0002]
 0063 0068 ; [.1C28.0020.0002]
 0065 ; [.1C40.0020.0002]
 0068 ; [.1C50.0020.0002]
+006D ; [.1C60.0020.0002]
+0072 ; [.1C70.0020.0002]
+0073 ; [.1C80.0020.0002]
 0075 ; [.1C90.0020.0002]
 0075 0301 ; [.1C98.0020.0002]
 0300 ; [.0000.0025.0002]
 0301 ; [.0000.0024.0002]
 0327 ; [.0000.0030.0002]
 20DD ; [.0000.0040.0002]
+00AD ; [.0000.0000.0000]
 2F00 ; [.FB40.0020.0004][.CE00.0000.0000]
 ";
 
@@ -83,7 +89,35 @@ fn window_of(alloc: Global, table: &Table, text: &str) -> Result<Window, AllocEr
     Ok(window)
 }
 
-/// The units that are decided, each by its first code point and the primary weight of its first element.
+/// The points that a window holds.
+fn points_in(alloc: Global, window: &Window) -> Result<Vec<Point>, AllocError> {
+    let mut points = Vec::new(alloc);
+    for i in 0..window.len() {
+        points.push(window.point(i))?;
+    }
+    Ok(points)
+}
+
+/// Writes the code points of the points that were held and are not left.
+fn write_points(units: &mut String, held: &[Point], left: &[Point]) -> Result<(), Fail> {
+    for point in held {
+        if !left.contains(point) {
+            write!(units, "{:X} ", point.cp)?;
+        }
+    }
+    Ok(())
+}
+
+/// Writes a row.
+fn write_row(units: &mut String, row: &[Element]) -> Result<(), Fail> {
+    for e in row {
+        write!(units, "[{:04X}.{:04X}.{:04X}]", e.w1, e.w2, e.w3)?;
+    }
+    write!(units, " ")?;
+    Ok(())
+}
+
+/// The units that are decided, each by its first code point, those that it takes out of the window, and its row.
 fn units_of(alloc: Global, file: &str, text: &str, has_ended: bool) -> Result<String, Fail> {
     let table = Table::read(alloc, file.as_bytes())?;
     let mut window = window_of(alloc, &table, text)?;
@@ -91,9 +125,13 @@ fn units_of(alloc: Global, file: &str, text: &str, has_ended: bool) -> Result<St
         window.end();
     }
     let mut units = String::new(alloc);
+    let mut held = points_in(alloc, &window)?;
     while let Some(unit) = window.next_unit(&table) {
-        let weight = unit.elements().first().map_or(0, |e| e.w1);
-        write!(units, "{:X}:{:X} ", unit.first_point().cp, weight)?;
+        let left = points_in(alloc, &window)?;
+        write!(units, "{:X}: ", unit.first_point().cp)?;
+        write_points(&mut units, held.as_slice(), left.as_slice())?;
+        write_row(&mut units, unit.elements())?;
+        held = left;
     }
     Ok(units)
 }
@@ -105,7 +143,7 @@ fn items_of(
     strength: Strength,
     variable: Variable,
 ) -> Result<String, Fail> {
-    let table = Table::read(alloc, ACCENTED.as_bytes())?;
+    let table = Table::read(alloc, TABLE.as_bytes())?;
     let mut window = window_of(alloc, &table, text)?;
     window.end();
     let mut weigher = Weigher::new(strength, variable);
@@ -123,24 +161,39 @@ fn items_of(
 #[test]
 fn cuts_decided_units(rt: HostRuntime) -> Result<(), Fail> {
     for (file, text, has_ended, units) in [
-        (ACCENTED, "u\u{327}\u{301}", false, ""),
-        (ACCENTED, "u\u{327}\u{301}a", false, "75:1C98 327:0 "),
-        (ACCENTED, "u\u{300}\u{301}", true, "75:1C90 300:0 301:0 "),
-        (ACCENTED, "c", false, ""),
-        (ACCENTED, "ch", false, ""),
-        (ACCENTED, "cha", false, "63:1C28 "),
+        (TABLE, "u\u{327}\u{301}", false, ""),
+        (
+            TABLE,
+            "u\u{327}\u{301}a",
+            false,
+            "75: 75 301 [1C98.0020.0002] 327: 327 [0000.0030.0002] ",
+        ),
+        (
+            TABLE,
+            "u\u{300}\u{301}",
+            true,
+            "75: 75 [1C90.0020.0002] 300: 300 [0000.0025.0002] 301: 301 [0000.0024.0002] ",
+        ),
+        (TABLE, "c", false, ""),
+        (TABLE, "ch", false, ""),
+        (TABLE, "cha", false, "63: 63 68 [1C28.0020.0002] "),
         (
             ONE_CONTRACTION,
             "x\u{327}\u{301}",
             true,
-            "78:1CA0 327:FBC0 ",
+            "78: 78 301 [1CA0.0020.0002] 327: 327 [FBC0.0020.0002][8327.0000.0000] ",
         ),
-        (CONTRACTED, "u\u{327}\u{323}\u{302}a", false, "75:1C92 "),
+        (
+            CONTRACTED,
+            "u\u{327}\u{323}\u{302}a",
+            false,
+            "75: 75 323 302 [1C92.0020.0002] ",
+        ),
         (
             CONTRACTED,
             "u\u{323}\u{327}\u{302}a",
             true,
-            "75:1C92 327:1C05 ",
+            "75: 75 323 302 [1C92.0020.0002] 327: 327 61 [1C05.0020.0002] ",
         ),
     ] {
         let given = units_of(rt.alloc(), file, text, has_ended)?;
@@ -186,7 +239,7 @@ fn gives_keys_up_to_the_strength(rt: HostRuntime) -> Result<(), Fail> {
 
 #[test]
 fn answers_each_call(rt: HostRuntime) -> Result<(), Fail> {
-    let table = Table::read(rt.alloc(), ACCENTED.as_bytes())?;
+    let table = Table::read(rt.alloc(), TABLE.as_bytes())?;
     let window = window_of(rt.alloc(), &table, "ab")?;
     assert_eq!(rt; window.len(), 2);
     assert_eq!(rt; window.point(1).cp, 0x62);
@@ -222,7 +275,7 @@ fn answers_each_call(rt: HostRuntime) -> Result<(), Fail> {
 
 #[test]
 fn keeps_the_items_of_a_character(rt: HostRuntime) -> Result<(), Fail> {
-    let table = Table::read(rt.alloc(), ACCENTED.as_bytes())?;
+    let table = Table::read(rt.alloc(), TABLE.as_bytes())?;
     let mut window = Window::with_capacity(rt.alloc(), table.longest_key())?;
     let weigher = Weigher::restore(Strength::Two, Variable::Shifted, true);
     let letter = Point::new('e', 0, true);
