@@ -7,7 +7,6 @@ use collation_elements::{Strength, Variable};
 use collation_pattern::Pattern;
 use collation_search::{Found, Search};
 use collation_table::{Table, Weights};
-use std::alloc::Global;
 use std::io::{BufWriter, ErrorKind, Read, Write};
 use std::{env, fs};
 
@@ -19,10 +18,10 @@ fn main(rt: HostRuntime) -> Result<()> {
     };
     let table = Table::read(alloc, &fs::read(&rt, table)?)?;
     let pattern = Pattern::compile(alloc, &table, sought, Strength::One, Variable::NonIgnorable)?;
-    let mut search = match fs::read_to_string(&rt, path) {
-        Ok(kept) => Search::resume(alloc, &table, &pattern, &words_in(alloc, &kept)?)?,
-        Err(error) if error.kind() == ErrorKind::NotFound => Search::new(alloc, &table, &pattern)?,
-        Err(error) => return Err(error.into()),
+    let kept = kept_words(&rt, path)?;
+    let mut search = match &kept {
+        Some(words) => Search::resume(alloc, &table, &pattern, words)?,
+        None => Search::new(alloc, &table, &pattern)?,
     };
     let mut part = Vec::new(alloc);
     rt.stdin().read_to_end(&mut part)?;
@@ -39,13 +38,18 @@ fn main(rt: HostRuntime) -> Result<()> {
     Ok(file.flush()?)
 }
 
-/// The words of a search that was kept, a line each.
-fn words_in(alloc: Global, kept: &str) -> Result<Vec<u64>> {
-    let mut words = Vec::new(alloc);
-    for line in kept.lines() {
+/// The words in the file at `path`, a line each, or `None` where there is no such file.
+fn kept_words(rt: &HostRuntime, path: &str) -> Result<Option<Vec<u64>>> {
+    let text = match fs::read_to_string(rt, path) {
+        Ok(text) => text,
+        Err(error) if error.kind() == ErrorKind::NotFound => return Ok(None),
+        Err(error) => return Err(error.into()),
+    };
+    let mut words = Vec::new(rt.alloc());
+    for line in text.lines() {
         words.push(line.parse::<u64>()?)?;
     }
-    Ok(words)
+    Ok(Some(words))
 }
 
 /// Prints the ranges that a part of the text makes known.
