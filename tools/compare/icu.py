@@ -4,8 +4,8 @@ strength and both weightings.
     python3 icu.py COLFIND TABLE
 
 TABLE is allkeys_CLDR.txt, whose weights are those of ICU's root locale. The texts and the program over ICU are those of tools/bench.
-Left out are words where the two mean different things: ICU takes no match that begins or ends inside a grapheme cluster, and none of
-its matches takes in the ignorable marks behind it.
+Left out are words where the two differ: ICU takes no match that begins or ends inside a grapheme cluster, and none of its matches takes
+in the ignorable marks behind it; under shifted weighting it takes some ideographs for others, as 4E01 for 4E00.
 """
 
 import os
@@ -28,6 +28,16 @@ PATTERNS = {
     "polish": ["książka", "zrodlo", "do"],
     "source code": ["example", "self.", "not in"],
 }
+NOT_SHIFTED = {"一"}
+
+
+def cases(patterns):
+    """Each pattern at each strength, and whether weighting is shifted."""
+    for pattern in patterns:
+        for strength in (1, 2, 3):
+            yield pattern, strength, False
+            if pattern not in NOT_SHIFTED:
+                yield pattern, strength, True
 
 
 def lines_of(words):
@@ -65,7 +75,7 @@ def main():
             path = os.path.join(given, name)
             with open(path, "wb") as file:
                 file.write(texts.text(name, folder, MEGABYTES))
-            for case in [(pattern, strength, bool(shifted)) for pattern in patterns for strength in (1, 2, 3) for shifted in (0, 1)]:
+            for case in cases(patterns):
                 found, is_same = compare(colfind, table, icu, path, *case)
                 searches, matches, different = searches + 1, matches + found, different + (not is_same)
     print(f"ICU: {searches} searches, {matches} matches, {different} different")
