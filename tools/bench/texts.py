@@ -9,7 +9,7 @@ import random
 import sysconfig
 import unicodedata
 
-FOLDER = os.path.dirname(os.path.abspath(__file__))
+WORDS = os.path.join(os.path.dirname(os.path.abspath(__file__)), "words.txt")
 AMERICAN, FRENCH = "/usr/share/dict/american-english", "/usr/share/dict/french"
 LINE_LENGTH = 72
 
@@ -36,7 +36,7 @@ def decomposed(text):
 def listed_words():
     """The lists of words.txt by their names."""
     lists, name = {}, None
-    with open(os.path.join(FOLDER, "words.txt"), encoding="utf-8") as file:
+    with open(WORDS, encoding="utf-8") as file:
         for line in file:
             if line.endswith(":\n"):
                 name = line[:-2]
@@ -222,10 +222,10 @@ def front(data, size):
 
 
 def text(name, folder, megabytes=None):
-    """The bytes of a text, or of its front; it is made if `folder` does not have it."""
+    """The bytes of a text, or of its front; it is made if `folder` has none that is newer than this file and its words."""
     path = os.path.join(folder, name.replace(" ", "_") + ".txt")
     make, most = TEXTS[name]
-    if not os.path.exists(path):
+    if not os.path.exists(path) or os.path.getmtime(path) < max(map(os.path.getmtime, (__file__, WORDS))):
         made = front(make(random.Random(name), most * 1_000_000).encode(), most * 1_000_000)
         with open(path + ".new", "wb") as file:
             file.write(made)
