@@ -221,6 +221,7 @@ def texts(bench):
         ("a row of 128 elements at each letter", x128, "xxx", lambda n: b"x" * n, lambda t: len(t) - 2),
         ("the same, pattern of 65,536 of them, 8,388,608 keys", x128, "x" * most, lambda n: b"x" * n, lambda t: len(t) - most + 1),
     ]
+    print()
     print("| text and pattern | seconds, 1 MB | 4 MB | ratio | beside plain text |")
     print("|---|---|---|---|---|")
     plain = seconds_of(bench, cases[0], [PLAIN_MEGABYTES])[0] / PLAIN_MEGABYTES
@@ -237,7 +238,7 @@ def main():
         for part in (tables, texts):
             if len(sys.argv) < 3 or sys.argv[2] == part.__name__:
                 part(bench)
-    print(f"{bench.wrong} wrong answers")
+    print(f"\n{bench.wrong} wrong answers")
     sys.exit(1 if bench.wrong else 0)
 
 
