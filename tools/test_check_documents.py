@@ -56,6 +56,11 @@ class CheckDocumentsTest(unittest.TestCase):
         self.finds("[a](docs/NONE.md)\n", "README.md:1: no such file: docs/NONE.md")
         self.finds("[a](docs/GUIDE.md#none)\n", "README.md:1: no such heading: docs/GUIDE.md#none")
 
+    def test_shown_files(self):
+        self.finds("```text docs/example/text.txt\nabc d\n```\n")
+        self.finds("```text docs/example/text.txt\nabc e\n```\n", "README.md:1: not what the file has: docs/example/text.txt")
+        self.finds("```text docs/none.txt\nabc d\n```\n", "README.md:1: no such file: docs/none.txt")
+
     def test_fenced_blocks_have_no_names(self):
         self.finds("```\n`other_name`\n```\n")
 
