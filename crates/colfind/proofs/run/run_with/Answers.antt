@@ -1,7 +1,7 @@
 use Rattle.std.proofs.Common.{◌∙◌, ◌++◌, [], ℕ, List, sym, ap, subst, arith}
 use Rattle.colfind.specs.Gathering.{Prints}
 use Rattle.colfind.specs.Patterns.{answer_to, settled_in}
-use Rattle.collation_search.specs.Search as search
+use Rattle.collation_matches.specs.Sought as looked_for
 use Rattle.colfind.specs.declared.run.TextEnd.TheVariants.{Good, Fault, Unread}
 use Rattle.colfind.proofs.Concluding.{at_most_one, concluded, compiled_from, unwritten, no_failure, one_failure}
 use Rattle.colfind.proofs.Runs.{prints_all, prints_to_fault, prints_settled, prints_prefix, at_err, at_ok}
@@ -24,7 +24,7 @@ returns-in_default-search_text-clause-write_failure g c = λ _ p compiled.
     let same = c.search_text.ensures.sought ∙ c.in-Ok.ensures.sought in
     let begins = searched.begun p (compiled_from table pattern c.args.select p _ same compiled) in
     unwritten (answer_to c.args.select table p pattern) (settled_in c.args.select table p pattern) c.args.form c.search_text.new.lines _ _ searched.bytes searched.handed _ _ held _ failures _
-    c.in_default-search_text.ensures.err searched.from_reader (begins.0, ap (λ s. (search.answer_to s p searched.bytes).ranges) (sym same) ∙ begins.1) printed
+    c.in_default-search_text.ensures.err searched.from_reader (begins.0, ap (λ s. (looked_for.answer_to s p searched.bytes).ranges) (sym same) ∙ begins.1) printed
 
 pub returns-then-is_err-clause-write_failure : goal.returns-then-is_err-clause-write_failure
 returns-then-is_err-clause-write_failure g c = λ _ p compiled.
