@@ -47,7 +47,7 @@ module _ (all : List ℕ → Answer) (settled : List ℕ → List (ℕ × ℕ)) 
     to_writer = wrote ∙ ap (λ rs. with_piece (output form rs) held) finds.found.1;
   }
 
--- whether the reader failed, as its count tells
+-- whether the reader failed, as its count says
 pub has_risen : (a b : ℕ) (end : TextEnd) → b ≡ a + failures_of end → nat_lt a b ≡ nat_lt 0 (failures_of end)
 has_risen a b Good e = grind (arith, nat_tests)
 has_risen a b (Fault f) e = grind (arith, nat_tests)

@@ -1,13 +1,13 @@
--- What one call of a reader or a writer does to the bytes that it tells, and when it counts as a failure.
+-- What one call of a reader or a writer does to its observable bytes, and when it counts as a failure.
 use Rattle.std.specs.Prelude.{◌≡◌, ◌==◌, ◌&&◌, ◌<◌, ℕ, Bool, true, not, List, [], ◌++◌, length, take, Option, Result, Ok, Err, IfSome, if◌then◌else◌}
 use Rattle.std.specs.Option.{option_map}
 use Rattle.colfind.specs.declared.devices.DeviceFault.{DeviceFault}
 
--- the piece, and then the bytes that are left, where they are told
+-- the piece, and then the bytes that are left, where they are observable
 abbrev pub after_piece : List ℕ → Option (List ℕ) → Option (List ℕ)
 after_piece piece = option_map (λ rest. piece ++ rest)
 
--- the bytes that are held, where they are told, and then the piece
+-- the bytes that are held, where they are observable, and then the piece
 abbrev pub with_piece : List ℕ → Option (List ℕ) → Option (List ℕ)
 with_piece piece = option_map (λ bytes. bytes ++ piece)
 
@@ -25,6 +25,6 @@ takes_nothing (Err _) buffer = true
 abbrev pub one_if : Bool → ℕ
 one_if failed = if failed then 1 else 0
 
--- a `read` into a non-empty buffer that gives nothing tells the end, and then nothing is left
+-- a `read` into a non-empty buffer that gives nothing reports the end, and then nothing is left
 abbrev pub EndsOnlyAtEnd : Result ℕ DeviceFault → List ℕ → Option (List ℕ) → Type 0
 EndsOnlyAtEnd result buffer left = result ≡ Ok 0 → 0 < length buffer → IfSome left (λ rest. rest ≡ [])

@@ -30,7 +30,7 @@ fault_of (Read count) = At 41 count
 fault_of Write = At 42 0
 fault_of Memory = At 36 0
 
--- a prefix of the line of this fault was written, and the whole line unless the writer failed, as its failures before and after tell
+-- a prefix of the line of this fault was written, and the whole line unless the writer failed, as its failures before and after show
 abbrev pub ReportsLine : Fault → Option (List ℕ) → Option (List ℕ) → ℕ → ℕ → Type 0
 ReportsLine fault before after failures_before failures_after =
     WritesPrefix before after (fault_line fault)

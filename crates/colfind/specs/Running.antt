@@ -10,7 +10,7 @@ use Rattle.colfind.specs.Devices.{after_piece, with_piece}
 use Rattle.colfind.specs.Printing.{output}
 use Rattle.colfind.specs.Writing.{WritesPrefix}
 
--- nothing is left to read, where the reader tells it
+-- nothing is left to read, where the bytes of the reader are observable
 abbrev pub IsAtEnd : Option (List ℕ) → Type 0
 IsAtEnd left = IfSome left (λ rest. rest ≡ [])
 

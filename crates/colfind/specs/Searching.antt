@@ -28,7 +28,7 @@ pub record FindsSelected (table : TableMap) (strength : Strength) (variable : Va
   pub counted : count ≡ length (selected select (matches table strength variable pattern bytes))
   pub to_writer : held_after ≡ with_piece (output form (selected select (matches table strength variable pattern bytes))) held_before
 
--- what is left of the text, where the words tell its bytes: no clause can name those of a text file
+-- what is left of the text, where its bytes are observable: no clause can name those of a text file
 abbrev pub left_of : Settings → Option (List ℕ) → Option (List ℕ)
 left_of asked left = if is_some asked.text then None else left
 

@@ -1,5 +1,5 @@
 //! The reader and the writer that the program asks for bytes: a contract sees the bytes that each
-//! has left or holds, where it tells them, and how often it has failed.
+//! has left or holds, where they are observable, and how often it has failed.
 ghost use Rattle.std.specs.Prelude.{◌≡◌, ◌+◌, ◌^◌, ◌<◌, ◌≤◌, ℕ, List, Option, length, not, is_ok, IfOk};
 ghost use Rattle.colfind.specs.Devices.{after_piece, with_piece, moved, takes_nothing, one_if, EndsOnlyAtEnd};
 
@@ -9,14 +9,14 @@ pub struct DeviceFault;
 
 /// Bytes to read.
 pub trait Source {
-    /// The bytes that are left, or `None` of a reader that does not tell them.
+    /// The bytes that are left, or `None` of a reader whose bytes are not observable.
     ghost left: { Self → Option (List ℕ) };
 
     /// How often a read has failed.
     ghost failures: { Self → ℕ };
 
     /// Reads up to `buf.len()` bytes into the beginning of `buf`, and answers how many. `Ok(0)` for
-    /// a buffer that is not empty tells the end. An `Err` reads nothing.
+    /// a buffer that is not empty reports the end. An `Err` reads nothing.
     fn read(&mut self, buf: &mut [u8]) -> Result<usize, DeviceFault>
         requires { failures self.old < 2 ^ 63 }
         ensures within { IfOk result (λ k. k ≤ length buf.old) }
@@ -27,7 +27,7 @@ pub trait Source {
 
 /// A place to write bytes to.
 pub trait Target {
-    /// The bytes that were written, or `None` of a writer that does not tell them.
+    /// The bytes that were written, or `None` of a writer whose bytes are not observable.
     ghost held: { Self → Option (List ℕ) };
 
     /// How often a write or a flush has failed.

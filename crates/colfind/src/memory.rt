@@ -1,4 +1,4 @@
-//! Devices over memory, which tell their bytes.
+//! Devices over memory, whose bytes are observable.
 ghost use Rattle.std.specs.Prelude.{◌≡◌, ◌<◌, Some, []};
 
 use crate::devices::{DeviceFault, Source, Target};

@@ -1,5 +1,5 @@
-//! The readers and writers of the standard library as devices. They tell no bytes, and count their
-//! failures.
+//! The readers and writers of the standard library as devices. Their bytes are not observable, and
+//! they count their failures.
 ghost use Rattle.std.specs.Prelude.{◌≡◌, None};
 
 use crate::devices::{DeviceFault, Source, Target};

@@ -15,7 +15,7 @@ use collation_table::Weights;
 /// How the reading of a text has ended.
 #[derive(Clone, Copy, Debug, PartialEq, Eq)]
 pub enum Ending {
-    /// The reader told its end.
+    /// The reader reported its end.
     End,
     /// The text so far has a fault, whatever follows.
     Closed(TextFault),

@@ -1,4 +1,4 @@
--- A unit that is cut: what its code points, its first point and its elements are, and what a window then stands for.
+-- A unit that is cut: what its code points, its first point and its elements are, and what a window then represents.
 use Rattle.std.proofs.Common.{◌≡◌, ℕ, zero, suc, ◌<◌, Bool, true, false, cond, List, [], ◌∷◌, ◌++◌, length, take, drop, Option, Some, None, slice_get, unwrap_or, IfNone, refl, sym, ◌∙◌, ap, arith, append_assoc, length-append, length-take}
 use Rattle.std.proofs.lemmas.Option.{none-some, same_Some}
 use Rattle.nfd_points.specs.declared.points.Point.{Point}
@@ -61,7 +61,7 @@ pub IfNone-from : {A P : Type 0} (o : Option A) → P → IfNone o P
 IfNone-from None h = h
 IfNone-from (Some x) h = tt
 
--- ---- what a window stands for
+-- ---- what a window represents
 
 pub WindowStandsFor-cut : (T : TableMap) (old new : Held) (taken : List Point) (given : List (List Point)) → is_decided T old ≡ true → new.points ≡ (next_cut T old.points).rest → new.has_ended ≡ old.has_ended → WindowStandsFor T old taken given → WindowStandsFor T new taken (given ++ (next_cut T old.points).unit ∷ [])
 WindowStandsFor-cut T old new taken given decided rest same stands = record {

@@ -24,7 +24,7 @@ starter_from (p ∷ ps) i h =
 pub longest_of_prefix : (T : TableMap) (ps : List Point) (prefix : List ℕ) → prefix ≡ take (longest_mapped T) (code_points ps) → longest_prefix T prefix ≡ longest_prefix T (code_points ps)
 longest_of_prefix T ps prefix is = ap (longest_prefix T) is ∙ longest_prefix-take T (code_points ps) (longest_mapped T) (omega arith)
 
--- the end was told, or a starter after the front decides
+-- the end was announced, or a starter after the front decides
 pub decided_by : (T : TableMap) (held : Held) (n : ℕ) → 0 < length held.points → (held.has_ended ≡ false → longest_mapped T ≤ length held.points) → n ≡ prefix_length T held.points → is_decided T held ≡ (held.has_ended || list_any is_starter (drop n held.points))
 decided_by T held n some long is =
     by_end held.has_ended (nat_lt 0 (length held.points)) (nat_le (longest_mapped T) (length held.points)) (list_any is_starter (drop (prefix_length T held.points) held.points)) (lt-ltb 0 (length held.points) some) (λ e. le-leb (longest_mapped T) (length held.points) (long e))

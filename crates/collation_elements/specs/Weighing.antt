@@ -1,4 +1,4 @@
--- What a weigher gives for one unit, and what it stands for.
+-- What a weigher gives for one unit, and what it represents.
 use Rattle.std.specs.Prelude.{◌≡◌, Bool, false, List, [], ◌∷◌, Some}
 use Rattle.nfd_points.specs.declared.points.Point.{Point}
 use Rattle.collation_table.specs.declared.elements.Element.{Element as CollationElement}
@@ -41,7 +41,7 @@ abbrev pub after_units : TableMap → Variable → Bool → List (List Point) �
 after_units table variable after [] = after
 after_units table variable after (unit ∷ rest) = after_units table variable (after_unit table variable after unit) rest
 
--- What a weigher stands for: `units` are the units that it was given, from the beginning of a text on, and `given` the
+-- What a weigher represents: `units` are the units that it was given, from the beginning of a text on, and `given` the
 -- items that it gave for them.
 pub record WeigherStandsFor (table : TableMap) (w : Weigher) (units : List (List Point)) (given : List Item) : Type 0 where
   pub items : given ≡ items table w.strength w.variable false units

@@ -1,4 +1,4 @@
--- What a window of points holds, and what it stands for.
+-- What a window of points holds, and what it represents.
 use Rattle.std.specs.Prelude.{◌≡◌, ℕ, Bool, true, ◌||◌, ◌&&◌, nat_lt, nat_le, List, [], ◌∷◌, ◌++◌, drop, length, Option, Some, slice_get}
 use Rattle.std.specs.List.{list_any}
 use Rattle.nfd_points.specs.declared.points.Point.{Point}
@@ -7,13 +7,13 @@ use Rattle.collation_table.specs.declared.elements.Element.{Element}
 use Rattle.collation_table.specs.Table.{TableMap, BeginsNoLongerString, row_of, longest_mapped}
 use Rattle.collation_elements.specs.Units.{Cut, prefix_length, first_unit, units}
 
--- the points of a window, how many it may hold, and whether it was told that none follows
+-- the points of a window, how many it may hold, and whether it was announced that none follows
 pub record Held : Type 0 where
   pub points : List Point
   pub capacity : ℕ
   pub has_ended : Bool
 
--- The unit at the front of a window is decided where the end was told and the window is not empty, or where the window
+-- The unit at the front of a window is decided where the end was announced and the window is not empty, or where the window
 -- holds at least as many points as the longest mapped string and a starter stands in it after the longest prefix that is
 -- mapped.
 abbrev pub is_decided : TableMap → Held → Bool
@@ -36,8 +36,8 @@ BeginsAlone table points = (p : Point) → slice_get points 0 ≡ Some p → Beg
 abbrev pub HasFirstRow : TableMap → List Point → Option (List Element) → Type 0
 HasFirstRow table points row = (p : Point) → slice_get points 0 ≡ Some p → row ≡ row_of table (p.cp ∷ [])
 
--- What a window stands for: `taken` are the points that it was given, and `given` the units that were cut from it, where
--- with each list of points that may follow (none, once the end was told) the units of all are those given and then those
+-- What a window represents: `taken` are the points that it was given, and `given` the units that were cut from it, where
+-- with each list of points that may follow (none, once the end was announced) the units of all are those given and then those
 -- of what the window holds and what follows.
 pub record WindowStandsFor (table : TableMap) (held : Held) (taken : List Point) (given : List (List Point)) : Type 0 where
   pub continues : (more : List Point) → (held.has_ended ≡ true → more ≡ []) → units table (taken ++ more) ≡ given ++ units table (held.points ++ more)

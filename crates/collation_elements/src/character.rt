@@ -1,5 +1,5 @@
-//! The items of points by themselves, wherever they stand: what is kept of a character, or of a base character with its marks, so
-//! that the table is not asked again.
+//! The items of points by themselves, wherever they stand: what is cached for a character, or for a base character with its marks,
+//! so that the table is not asked again.
 ghost use Rattle.std.specs.Prelude.{◌≡◌, ◌+◌, ◌<◌, ◌≤◌, ◌∷◌, ◌++◌, List, [], Bool, true, false, length, map, All, IfSome, OnSome, IfNone, if◌then◌else◌, drop};
 ghost use Rattle.std.specs.Option.{option_to_list};
 ghost use Rattle.nfd_points.specs.Reordering.{IsSoundPoint};
@@ -113,7 +113,7 @@ fn split_key(items: &[Item]) -> (Option<Key>, &[Item])
     }
 }
 
-/// Cuts the units of a window whose end was told, and gathers their items; `None` as soon as these have no room.
+/// Cuts the units of a window whose end was announced, and gathers their items; `None` as soon as these have no room.
 fn gather<W: Weights>(
     table: &W,
     window: &mut Window,

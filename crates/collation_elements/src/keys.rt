@@ -5,7 +5,7 @@
 pub enum Key {
     /// The primary, secondary and tertiary weight of an element with a primary weight.
     Primary(u16, u16, u16),
-    /// A pair of elements that stands for one character (UTS #10, section 10.1.3): both primary weights, and the
+    /// A pair of elements that represents one character (UTS #10, section 10.1.3): both primary weights, and the
     /// secondary and tertiary weight of the first.
     Pair(u16, u16, u16, u16),
     /// The secondary and tertiary weight of an element without a primary weight.

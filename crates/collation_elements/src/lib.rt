@@ -12,7 +12,7 @@
 //! after it, and a Hangul syllable that is spelled with three jamo is mostly three.
 //!
 //! What units, elements, keys, items and boundaries of a whole text are stands in `specs/`. The contracts say of each call what
-//! the window or the weigher stands for after it, so that what was given begins what the whole text has.
+//! the window or the weigher represents after it, so that what was given begins what the whole text has.
 //! `Window::with_capacity` and `items_of_text` alone take memory.
 #![tactic(auto)]
 

@@ -1,4 +1,4 @@
-//! The items of a unit of one starter, wherever it stands: what is kept of a character so that its table is not asked again.
+//! The items of a unit of one starter, wherever it stands: what is cached for a character so that its table is not asked again.
 ghost use Rattle.std.specs.Prelude.{◌≡◌, ◌<◌, ◌∷◌, List, [], length, map, IfSome, IfNone};
 ghost use Rattle.std.specs.Option.{option_to_list};
 ghost use Rattle.nfd_points.specs.Points.{ascii_point};

@@ -42,7 +42,7 @@ impl Window {
     /// An empty window for a table whose longest mapped string has `longest_key` points, with room for those and for what one
     /// call of a `nfd_points::Reorder` gives.
     ///
-    /// With the points of another window pushed, which was not told the end, it goes on as that one.
+    /// With the points of another window pushed, whose end was not announced, it goes on as that one.
     pub fn with_capacity(alloc: Global, longest_key: usize) -> Result<Self, AllocError>
         requires some { 1 ≤ longest_key }
         requires few { longest_key ≤ MOST_STRING_POINTS }
@@ -83,7 +83,7 @@ impl Window {
         self.queue.is_full()
     }
 
-    /// Adds a point after the others. It is asked only where there is room and the end was not told, and with a code point.
+    /// Adds a point after the others. It is asked only where there is room and the end was not announced, and with a code point.
     #[inline(always)]
     pub fn push(&mut self, p: Point)
         requires room { length self.old.points < self.old.capacity }
@@ -111,7 +111,7 @@ impl Window {
         self.queue.skip(count);
     }
 
-    /// Tells it that no point follows.
+    /// Announces that no point follows.
     pub fn end(&mut self)
         ensures ended { self.new ≡ record self.old { has_ended = true } }
         ensures stands { (table : TableMap) (taken : List Point) (given : List (List Point))

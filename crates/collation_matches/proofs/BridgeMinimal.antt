@@ -11,7 +11,7 @@ use Rattle.collation_matches.proofs.BridgeRanges.{Below, Before, Before-asym, in
 use Rattle.collation_matches.proofs.BridgeClusters.{bound, prefix, keyed, in_bounds, bound_in, bound_rises, prefix_grows, prefix_keyed, prefix_unkeyed}
 use Rattle.collation_matches.proofs.BridgeFound.{Spans, in_found, found_in, rising_found, later_place}
 
--- the test tells of a range between two boundaries whether the keys there are the pattern's
+-- the test says of a range between two boundaries whether the keys there are the pattern's
 abbrev pub Tests : (ℕ × ℕ → Bool) → List Key → List Cluster → ℕ → Type 0
 Tests test pattern cs end =
     (i j : ℕ) → i ≤ j → j ≤ length cs → Decides (test (bound end cs i, bound end cs j)) (prefix cs j ≡ prefix cs i ++ pattern)

@@ -1,4 +1,4 @@
--- Faults and open texts, from what a cutter of characters and a reorderer stand for.
+-- Faults and open texts, from what a cutter of characters and a reorderer represent.
 use Rattle.std.specs.Str.{chars, IsUtf8}
 use Rattle.std.specs.Char.{len_utf8, encode_utf8}
 use Rattle.std.specs.Prelude.{encode_utf8_all}

@@ -16,7 +16,7 @@ use Rattle.collation_matches.specs.Matches.{ranges_among, minimal, matches, sett
 use Rattle.collation_matches.specs.ByClusters.{last_has_keys, ended, found, found_before_last, placed, range_from, ended_by_keys, text_items}
 
 -- Of all ranges between boundaries whose clusters have the pattern's keys, those with no other one within them are those
--- found cluster by cluster, in the same order. `test` tells whether the clusters of a range have these keys.
+-- found cluster by cluster, in the same order. `test` says whether the clusters of a range have these keys.
 abbrev pub minimal_ranges_are_found : Type 0
 minimal_ranges_are_found =
     (test : ℕ × ℕ → Bool) (pattern : List Key) (cs : List Cluster) (end : ℕ) →

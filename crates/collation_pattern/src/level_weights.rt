@@ -15,7 +15,7 @@ pub enum Level {
     Third,
 }
 
-/// The weights of a key at a level, where 0 stands for none. Only a pair at the first level has two.
+/// The weights of a key at a level, where 0 represents none. Only a pair at the first level has two.
 fn weights_of(key: &Key, at: Level) -> (u16, u16)
     ensures { level (result.0 ∷ result.1 ∷ []) ≡ level (weights_of_key at key.now) }
 {

@@ -36,7 +36,7 @@ pub not_false : (b : Bool) → false ≡ not b → b ≡ true
 not_false true h = refl
 not_false false h = cc
 
--- what a search stands for after bytes that are whole characters
+-- what a search represents after bytes that are whole characters
 pub searched-text : (table : TableMap) (pattern : Compiled) (old new : CutState) (finder later : Finder) (fault : Option TextFault) (u text cs : List ℕ) (n : ℕ) (handed ranges : List (ℕ × ℕ)) →
     Searched table pattern old finder fault u handed → n ≡ length text → old.count + n ≤ most_bytes → new ≡ between_characters (old.count + n) →
     StandsFor new (u ++ text) (characters u ++ with_offsets old.count cs) →

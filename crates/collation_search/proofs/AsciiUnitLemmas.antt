@@ -1,4 +1,4 @@
--- The characters kept in turn, and one more of them; which of them are passed by.
+-- The characters cached in turn, and one more of them; which of them are skipped.
 use Rattle.std.specs.Option.{ForSome, option_to_list}
 use Rattle.std.proofs.Common.{◌≡◌, ◌<◌, ◌+◌, ◌⊎◌, ℕ, zero, suc, Bool, true, false, cond, List, [], ◌∷◌, ◌++◌, map, Option, Some, ap, ap₂, length, set, get_or, slice_get, inl, inr, arith, refl, sym, ◌∙◌, subst}
 use Rattle.std.proofs.lemmas.List.Elements.{All-same, All-cons, All-nil}
@@ -41,7 +41,7 @@ kept_items table pattern cp after s v w kept strength variable made is = λ lone
     subst (λ (w' : Weigher). AreItemsOf table w' cp lone) (made ∙ ap₂ (λ (s' : Strength) (v' : Variable). weigher s' v' after) strength variable)
     (subst (λ (o : Option LoneItems). IfSome o (λ l. AreItemsOf table w cp l)) at is)
 
--- a character that is passed by, by what is kept of it
+-- a character that is skipped, by what is cached for it
 pub passed_from : AloneLaw → BeforeLaw → (table : TableMap) (pattern : Compiled) (c : ℕ) (unit : AsciiUnit) (lone : LoneItems) (key : Key) (continues : Bool) → unit.items ≡ Some lone → lone.key ≡ Some key →
     lone.begins_cluster ≡ true → lone.after_variable ≡ false → IsAsciiUnit table pattern c unit → (unit.begins_longer ≡ false ⊎ continues ≡ false) →
     (continues ≡ false → (next : ℕ) → next < 128 → ContinuesNoString table next) → ((ks : List Key) → border pattern.keys ks ≡ 0 → border pattern.keys (ks ++ key ∷ []) ≡ 0) → IsPassed table pattern c

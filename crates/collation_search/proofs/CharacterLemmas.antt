@@ -1,4 +1,4 @@
--- Characters that are taken at once: what is kept of two of them, the walk over their items, and the bytes so far.
+-- Characters that are taken at once: what is cached for two of them, the walk over their items, and the bytes so far.
 use Rattle.std.specs.Char.{len_utf8, encode_utf8}
 use Rattle.std.specs.Str.{chars, IsUtf8}
 use Rattle.std.specs.List.{All}
@@ -126,7 +126,7 @@ points-shifted law start c = sym (from_one start c) ∙ points_are_shifted law s
 same-settings : (pattern : Compiled) (w : Weigher) → w.strength ≡ pattern.strength → w.variable ≡ pattern.variable → weigher pattern.strength pattern.variable w.after_variable ≡ w
 same-settings pattern w strength variable = ap₂ (λ (s : Strength) (v : Variable). weigher s v w.after_variable) (sym strength) (sym variable)
 
--- points that are passed by, from an offset on
+-- points that are skipped, from an offset on
 pub passed-on : GoesOnLaw → (table : TableMap) (pattern : Compiled) (w : Weigher) (walk : Walk) (start : ℕ) (ps here : List Point) → here ≡ map (shifted start) ps → IsPassedBy table pattern ps →
     w.after_variable ≡ false → walk.state ≡ 0 → 1 ≤ length pattern.keys → 0 < start → HasWalkedOn table pattern w walk w (record walk { start = start; has_keys = true }) (units table here) []
 passed-on law table pattern w walk start ps here same p none waits some_key after = λ before ranges h.

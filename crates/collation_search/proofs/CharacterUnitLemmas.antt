@@ -1,4 +1,4 @@
--- What is kept of a character, wherever it stands.
+-- What is cached for a character, wherever it stands.
 use Rattle.std.specs.Option.{ForSome, IfSome, option_to_list}
 use Rattle.std.specs.List.{All}
 use Rattle.std.proofs.Common.{◌≡◌, ◌∙◌, ℕ, ◌≤◌, Bool, true, false, cond, List, [], ◌∷◌, ◌++◌, length, map, Option, Some, slice_get, arith, refl, sym, ap, subst}
@@ -50,7 +50,7 @@ kept_from table w ps qs kept points is = λ it at.
     subst (λ (ps' : List Point). AreItemsOfPoints table w ps' it) points
     (subst (λ (o : Option CharacterItems). IfSome o (λ i. AreItemsOfPoints table w ps i)) at is)
 
--- ---- points that are passed by
+-- ---- points that are skipped
 
 item_keys-map : (ks : List Key) → item_keys (map (λ key. Element key) ks) ≡ ks
 item_keys-map [] = refl

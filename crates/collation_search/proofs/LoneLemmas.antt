@@ -1,4 +1,5 @@
--- What is kept of a character, and a character that is a unit by itself, taken out of the front of a window as the next one comes.
+-- What is cached for a character, and a character that is a unit by itself, taken out of the front of a window as the next one
+-- comes.
 use Rattle.std.specs.Option.{ForSome, IfSome, OnSome}
 use Rattle.std.specs.List.{Contains}
 use Rattle.std.proofs.lemmas.List.Elements.{All-same, All-tail}
@@ -21,7 +22,7 @@ use Rattle.collation_search.specs.AsciiUnits.{IsAsciiUnit, IsCutOff}
 use Rattle.collation_search.specs.Matching.{HasMatched}
 use Rattle.collation_search.specs.Walks.{WalksOver}
 
--- ---- what is kept of two characters
+-- ---- what is cached for two characters
 
 pub on_some : {A : Type 0} → (o : Option A) (P : Type 0) → P → OnSome o P
 on_some None P p = tt

@@ -1,4 +1,4 @@
--- Characters that are passed by where no key of the pattern waits.
+-- Characters that are skipped where no prefix of the pattern has matched.
 use Rattle.std.specs.Str.{IsAscii}
 use Rattle.std.specs.List.{All}
 use Rattle.std.proofs.Common.{◌≡◌, ◌∙◌, ℕ, zero, suc, ◌+◌, ◌-◌, ◌<◌, ◌≤◌, Bool, true, false, not, List, [], ◌∷◌, ◌++◌, length, map, drop, get_or, refl, sym, ap, ap₂, subst, arith, append_assoc}
@@ -39,7 +39,7 @@ none_kept : (n : ℕ) (xs : List KeyPlace) → n ≡ 0 → keep_last n xs ≡ []
 none_kept n xs none =
     let all : length xs - n ≡ length xs = omega (arith, none) in ap (λ i. drop i xs) all ∙ drop-length xs
 
--- where no key waits, it is of no account which places the walk has
+-- where no prefix of the pattern has matched, it is of no account which places the walk has
 pub walks-at_none : (pattern : List Key) (items : List Item) (ranges : List (ℕ × ℕ)) (v : Walk) (places : Buffer KeyPlace) → WalksOver pattern items ranges v → v.state ≡ 0 →
     places.capacity ≡ length pattern → length places.items ≤ length pattern → WalksOver pattern items ranges (record v { places = places })
 walks-at_none pattern items ranges v places h none capacity few =
@@ -73,7 +73,7 @@ walks-stay pattern items ranges w (k ∷ ks) h none some stay =
     subst (λ (is : List Item). WalksOver pattern is ranges w) (append_assoc items (Element k ∷ []) (map (λ key. Element key) ks))
     (walks-stay pattern (items ++ Element k ∷ []) ranges w ks there none some (All-tail (Stays pattern) k ks stay))
 
--- the start of a cluster and a key, where not all keys of the pattern wait
+-- the start of a cluster and a key, where not all keys of the pattern have matched
 pub walks-step : (pattern : List Key) (items : List Item) (ranges : List (ℕ × ℕ)) (w : Walk) (s after : ℕ) (k : Key) → WalksOver pattern items ranges w → w.state < length pattern → 0 < s →
     ((ks : List Key) → border pattern ks ≡ w.state → border pattern (ks ++ k ∷ []) ≡ after) →
     WalksOver pattern (items ++ (ClusterStart s ∷ Element k ∷ [])) (ranges ++ [])

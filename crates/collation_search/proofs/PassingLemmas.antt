@@ -1,4 +1,4 @@
--- Characters that are passed by, one after the other.
+-- Characters that are skipped, one after the other.
 use Rattle.std.specs.Char.{len_utf8}
 use Rattle.std.specs.Str.{chars, IsUtf8}
 use Rattle.std.proofs.Common.{◌≡◌, ◌∙◌, ℕ, ◌+◌, ◌≤◌, true, List, [], ◌∷◌, ◌++◌, length, take, drop, inr, refl, sym, ap, subst, arith, append_assoc}
@@ -26,7 +26,7 @@ use Rattle.collation_search.proofs.CharacterLemmas.{AloneLaw, BeforeLaw, GoesOnL
 joined : (cs others : List ℕ) (c next : ℕ) → (cs ++ c ∷ others) ++ next ∷ [] ≡ (cs ++ c ∷ []) ++ (others ++ next ∷ [])
 joined cs others c next = append_assoc cs (c ∷ others) (next ∷ []) ∙ sym (append_assoc cs (c ∷ []) (others ++ next ∷ []))
 
--- nothing was passed by yet
+-- nothing was skipped yet
 pub passed-none : Laws → (table : TableMap) (pattern : Compiled) (w : Weigher) (walk : Walk) (piece : List ℕ) (start c : ℕ) → (len_utf8 c ≤ length piece) × SpellsCharacter (take (len_utf8 c) piece) c →
     begins_with_starter (points_of start c) ≡ true → HasPassed table pattern w walk piece start c 0 c walk.start
 passed-none laws table pattern w walk piece start c first begins =
@@ -78,7 +78,7 @@ stepped-more laws table pattern w walk piece start first at next begins n later 
           (units table (points_from start cs)) (units table (points_from here more)) (units table (points_from start (chars (take (at + n) piece)))) [] [] cut i.walked one;
     }
 
--- it is passed by
+-- it is skipped
 pub passed-more : Laws → PointsAreShifted → GoesOnLaw → (table : TableMap) (pattern : Compiled) (w : Weigher) (walk : Walk) (piece : List ℕ) (start first at next begins n later : ℕ) →
     MayPass pattern w walk start → HasPassed table pattern w walk piece start first at next begins → Comes table (drop at piece) next n later →
     IsPassedBy table pattern (points_from 0 (chars (take n (drop at piece)))) → HasPassed table pattern w walk piece start first (at + n) later (start + at)
@@ -133,7 +133,7 @@ step-more laws shift law alone before table pattern w walk piece start first at 
           (subst (λ (u : Walk). HasWalkedOn table pattern w v w u (units table (points_of here c)) []) keyed one)),
     )
 
--- where no key waits, it is of no account which places the walk has
+-- where no prefix of the pattern has matched, it is of no account which places the walk has
 pub stepped-none : (table : TableMap) (pattern : Compiled) (w : Weigher) (walk : Walk) (piece : List ℕ) (start first at c begins waiting : ℕ) (places : Buffer KeyPlace) → MayPass pattern w walk start →
     HasStepped table pattern w walk piece start first at c begins waiting places → waiting ≡ 0 → HasPassed table pattern w walk piece start first at c begins
 stepped-none table pattern w walk piece start first at c begins waiting places may h none =

@@ -1,4 +1,4 @@
--- What is restored from the words of a search stands for what that search stood for.
+-- What is restored from the words of a search represents what that search represented.
 use Rattle.std.specs.Prelude.{All, Contains}
 use Rattle.std.specs.Str.{chars}
 use Rattle.std.proofs.Common.{◌≡◌, ℕ, ◌+◌, false, List, None, refl, sym, ap, ap₂, ◌∙◌, subst}

@@ -1,4 +1,4 @@
--- What the words of a saved walk say, and that a walk restored from them stands for the same.
+-- What the words of a saved walk say, and that a walk restored from them represents the same.
 use Rattle.std.proofs.Common.{◌≡◌, ℕ, ◌-◌, List, [], ◌∷◌, ◌++◌, length, map, refl, sym, ap, ◌∙◌, arith}
 use Rattle.std.proofs.lemmas.List.{length-drop}
 use Rattle.collation_elements.specs.declared.keys.Key.{Key}
@@ -33,7 +33,7 @@ kept_places-length pattern items ranges w h =
 
 -- ---- a restored walk
 
--- one that has the places kept of another one, and else what that has, stands for the same
+-- one that has the places kept of another one, and else what that has, represents the same
 pub walks-restored : (pattern : List Key) (items : List Item) (ranges : List (ℕ × ℕ)) (old new : Walk) → WalksOver pattern items ranges old →
     new.state ≡ old.state → new.start ≡ old.start → new.has_keys ≡ old.has_keys → new.places.items ≡ kept_places old → new.places.capacity ≡ length pattern →
     new.select ≡ old.select → new.last_end ≡ old.last_end → WalksOver pattern items ranges new

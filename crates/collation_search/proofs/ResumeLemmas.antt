@@ -1,4 +1,4 @@
--- What a search that is resumed from words stands for, and which words are kept.
+-- What a search that is resumed from words represents, and which words are kept.
 use Rattle.std.specs.Prelude.{IfOk, IfSome, slice_index, nat_le, ◌*◌, ◌&&◌, is_some}
 use Rattle.std.proofs.lemmas.Bool.{and_parts, le-leb, leb-true, lt-leb, eq-eqb, ne_eqb, eqb-true}
 use Rattle.std.proofs.Common.{◌≡◌, ℕ, ◌+◌, ◌-◌, ◌<◌, ◌≤◌, ◌==◌, Bool, true, false, List, length, take, drop, Option, Some, None, Result, Ok, Err, refl, sym, ap, ap₂, ◌∙◌, subst, arith}

@@ -156,7 +156,7 @@ walked-append table pattern held s n m cs w w' w'' walk walk' walk'' found other
     (subst (λ (rs : List (ℕ × ℕ)). HasMatched table pattern (run_window capacity held ((s + n) + m) (drop m (drop n cs))) w'' walk''
     ((points ++ ascii_points (s + held) (take n left)) ++ ascii_points ((s + n) + held) (take m (drop held (drop n cs)))) rs) (append_assoc ranges found others) both)))
 
--- after so many characters none was passed by, and one was walked over or none
+-- after so many characters none was skipped, and one was walked over or none
 pub walked-then : (table : TableMap) (pattern : Compiled) (held s at n m : ℕ) (cs : List ℕ) (w w' w'' : Weigher) (walk walk' walk-then walk'' : Walk) (found others : List (ℕ × ℕ)) → at + held ≤ length cs → n ≤ 0 →
     AreWalked table pattern held s cs at w walk w' walk' found → AreWalked table pattern held (s + at) (drop at cs) n w' walk' w' walk-then [] →
     AreWalked table pattern held (s + at) (drop at cs) m w' walk-then w'' walk'' others → AreWalked table pattern held s cs (at + m) w walk w'' walk'' (found ++ others)

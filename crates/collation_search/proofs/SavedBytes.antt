@@ -1,4 +1,4 @@
--- The number that stands for the bytes held gives them back.
+-- The number that represents the bytes held gives them back.
 use Rattle.std.specs.Int.{is_in_range}
 use Rattle.std.specs.Str.Lossy.{second_byte_min, second_byte_max}
 use Rattle.std.proofs.Common.{◌≡◌, ℕ, ◌+◌, ◌*◌, ◌/◌, ◌%◌, ◌<◌, ◌≤◌, ◌==◌, true, nat_le, cond, ◌&&◌, List, [], ◌∷◌, length, refl, ap, ap₂, ◌∙◌, arith, inl, inr}

@@ -1,4 +1,4 @@
--- What a search keeps of the ASCII characters, and what it has done with a run of them.
+-- What a search caches for the ASCII characters, and what it has done with a run of them.
 use Rattle.std.specs.Prelude.{◌≡◌, ℕ, ◌+◌, ◌<◌, true, false, List, [], ◌∷◌, ◌++◌, length, map, take, drop, All}
 use Rattle.std.specs.Option.{ForSome}
 use Rattle.collation_table.specs.Table.{TableMap, BeginsNoLongerString, ContinuesNoString}
@@ -38,9 +38,9 @@ IsCutOff table first next =
 abbrev pub keys_alone : TableMap → Compiled → ℕ → List Key
 keys_alone table pattern c = item_keys (unit_items table pattern.strength pattern.variable false (ascii_point 0 c ∷ []))
 
--- What a search passes by where no key of the pattern waits: a character that is a unit by itself before any ASCII character,
--- begins a cluster and has one key, which is not the pattern's first, where the last element that was variable or primary was
--- not variable; nor is it after the character.
+-- What a search skips where no prefix of the pattern has matched and the last element that was variable or primary was not
+-- variable: a character that is a unit by itself before any ASCII character, begins a cluster and has one key, which is not the
+-- pattern's first. After the character, too, the last such element is not variable.
 pub record IsPassed (table : TableMap) (pattern : Compiled) (c : ℕ) : Type 0 where
   pub apart : (next : ℕ) → next < 128 → IsCutOff table c next
   pub items : (start : ℕ) → unit_items table pattern.strength pattern.variable false (ascii_point start c ∷ []) ≡ ClusterStart start ∷ map (λ key. Element key) (keys_alone table pattern c)

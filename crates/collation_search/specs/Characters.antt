@@ -1,4 +1,4 @@
--- What a search keeps of a character.
+-- What a search caches for a character.
 use Rattle.std.specs.Prelude.{◌≡◌, ℕ, ◌+◌, ◌*◌, ◌<◌, ◌≤◌, true, false, List, [], ◌∷◌, ◌++◌, length, map, slice_get, slice_index, All}
 use Rattle.std.specs.Option.{ForSome, option_to_list}
 use Rattle.collation_table.specs.Table.{TableMap, BeginsNoLongerString, ContinuesNoString}
@@ -31,24 +31,25 @@ units_alone table start ps = units table (map (shifted start) ps)
 abbrev pub keys_alone : TableMap → Compiled → List Point → List Key
 keys_alone table pattern ps = item_keys (items_of table pattern.strength pattern.variable false (units_alone table 0 ps))
 
--- What a search passes by where no key of the pattern waits, and the last element that was variable or primary was not variable:
--- points that begin a cluster and no other one, and have keys, of which none is the pattern's first; nor is it variable after them.
+-- What a search skips where no prefix of the pattern has matched and the last element that was variable or primary was not
+-- variable: points that begin a cluster and no other one, and have keys, of which none is the pattern's first. After them, too,
+-- the last such element is not variable.
 pub record IsPassedBy (table : TableMap) (pattern : Compiled) (ps : List Point) : Type 0 where
   pub items : (start : ℕ) → items_of table pattern.strength pattern.variable false (units_alone table start ps) ≡ ClusterStart start ∷ map (λ key. Element key) (keys_alone table pattern ps)
   pub after : (start : ℕ) → after_units table pattern.variable false (units_alone table start ps) ≡ false
   pub some_key : 1 ≤ length (keys_alone table pattern ps)
   pub stays : All (λ key. (ks : List Key) → border pattern.keys ks ≡ 0 → border pattern.keys (ks ++ key ∷ []) ≡ 0) (keys_alone table pattern ps)
 
--- What is kept of a character is right wherever it stands: whether its decomposition begins with a starter, whether none of its
+-- What is cached for a character is right wherever it stands: whether its decomposition begins with a starter, whether none of its
 -- points begins a longer mapped string, whether its first point is a starter that stands in no mapped string after the first
--- place, and whether it is passed by.
+-- place, and whether it is skipped.
 pub record IsCharacterUnit (table : TableMap) (pattern : Compiled) (c : ℕ) (unit : CharacterUnit) : Type 0 where
   pub starter : unit.begins_with_starter ≡ true → (start : ℕ) → begins_with_starter (points_of start c) ≡ true
   pub alone : unit.is_alone ≡ true → (start : ℕ) → All (λ p. BeginsNoLongerString table p.cp) (points_of start c)
   pub apart : unit.begins_apart ≡ true → (start : ℕ) → ForSome (slice_get (points_of start c) 0) (λ p. (is_starter p ≡ true) × ContinuesNoString table p.cp)
   pub passed : unit.is_passed ≡ true → IsPassedBy table pattern (points_of 0 c)
 
--- and so is what is kept in a place
+-- and so is what is cached in a place
 abbrev pub IsKeptUnit : TableMap → Compiled → KeptUnit → Type 0
 IsKeptUnit table pattern kept = IsCharacterUnit table pattern kept.code_point kept.unit
 
@@ -65,12 +66,12 @@ characters_of s = s.base ∷ s.mark ∷ option_to_list s.second_mark
 abbrev pub AreItemsOfCharacters : TableMap → Weigher → List ℕ → CharacterItems → Type 0
 AreItemsOfCharacters table w cs it = (ordered (points_from 0 cs) ≡ points_from 0 cs) × AreItemsOfPoints table w (points_from 0 cs) it
 
--- the points of these characters are in canonical order, and they are passed by
+-- the points of these characters are in canonical order, and they are skipped
 abbrev pub ArePassedBy : TableMap → Compiled → List ℕ → Type 0
 ArePassedBy table pattern cs = (ordered (points_from 0 cs) ≡ points_from 0 cs) × IsPassedBy table pattern (points_from 0 cs)
 
 -- the items of a sequence's units, where the last element that was variable or primary was not variable, and where it was, and
--- whether it is passed by
+-- whether it is skipped
 pub record AreKeptForSequence (table : TableMap) (pattern : Compiled) (kept : KeptSequence) : Type 0 where
   pub items : ForSome kept.items (AreItemsOfCharacters table (weigher pattern.strength pattern.variable false) (characters_of kept.sequence))
   pub items_after_variable : ForSome kept.items_after_variable (AreItemsOfCharacters table (weigher pattern.strength pattern.variable true) (characters_of kept.sequence))
@@ -85,8 +86,8 @@ pub record IsOnlyKey (table : TableMap) (pattern : Compiled) (c : ℕ) (key : Ke
   pub items : (start : ℕ) → items_of table pattern.strength pattern.variable false (units_alone table start (points_of 0 c)) ≡ ClusterStart start ∷ Element key ∷ []
   pub flag : (start : ℕ) → after_units table pattern.variable false (units_alone table start (points_of 0 c)) ≡ false
 
--- The step of a character that stands in no mapped string after the first place and has one key: how many keys of the pattern wait
--- after it, where so many waited before it, and these were not all.
+-- The step of a character that stands in no mapped string after the first place and has one key: how many keys of the pattern
+-- have matched after it, where so many had before it, and these were not all.
 pub record IsStep (table : TableMap) (pattern : Compiled) (waiting c after : ℕ) : Type 0 where
   pub apart : IsCharacterUnit table pattern c apart_unit
   pub items : (start : ℕ) → items_of table pattern.strength pattern.variable false (units_alone table start (points_of 0 c)) ≡ ClusterStart start ∷ map (λ key. Element key) (keys_alone table pattern (points_of 0 c))
@@ -95,7 +96,7 @@ pub record IsStep (table : TableMap) (pattern : Compiled) (waiting c after : ℕ
   pub some : waiting < length pattern.keys
   pub waits : All (λ key. (ks : List Key) → border pattern.keys ks ≡ waiting → border pattern.keys (ks ++ key ∷ []) ≡ after) (keys_alone table pattern (points_of 0 c))
 
--- what is kept is right
+-- what is cached is right
 abbrev pub IsRight : TableMap → Compiled → Characters → Type 0
 IsRight table pattern kept =
     All (IsKeptUnit table pattern) kept.units.items × (All (AreKeptItems table pattern) kept.items.items × (All (AreKeptForSequence table pattern) kept.sequences.items

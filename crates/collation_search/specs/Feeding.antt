@@ -8,7 +8,7 @@ use Rattle.collation_search.specs.Search.{HasSearched, HasReported, HasReportedN
 use Rattle.collation_matches.specs.Sought.{IsCompiledFrom, answer_to}
 
 -- The piece was taken, with this result, and the ranges were handed out in this order.
---   stands: without a fault the search stands for the piece too
+--   stands: without a fault the search represents the piece too
 --   answer: with a fault what was handed out is all of the answer, whatever follows the piece
 --   closed: a fault is reported only where no text goes on from the bytes
 --   again: a fault that was reported before is reported again, and nothing is handed out

@@ -1,4 +1,4 @@
--- What a finder of ranges stands for, while the characters of a text come.
+-- What a finder of ranges represents, while the characters of a text come.
 use Rattle.std.specs.Prelude.{ℕ, List}
 use Rattle.nfd_points.specs.declared.points.Point.{Point}
 use Rattle.nfd_points.specs.Reordering.{HasReordered}

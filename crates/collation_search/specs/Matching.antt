@@ -1,4 +1,4 @@
--- What a window, a weigher and a walk stand for together.
+-- What a window, a weigher and a walk represent together.
 use Rattle.std.specs.Prelude.{◌≡◌, ℕ, List, All, Contains}
 use Rattle.nfd_points.specs.declared.points.Point.{Point}
 use Rattle.collation_table.specs.Table.{TableMap}

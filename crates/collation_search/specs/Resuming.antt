@@ -35,7 +35,7 @@ AreSaved {W} {G} saved s words taken handed = (sought saved ≡ s) × (words ≡
 abbrev pub AreSavedAfter : {W : Type 0} {G : Ghosts W} → Search W G → Sought → List ℕ → TextFault → Type 0
 AreSavedAfter {W} {G} saved s words fault = (sought saved ≡ s) × (words ≡ words_of saved) × HasReported saved fault
 
--- What a search was resumed from is what it goes on with: it stands for all that a search stood for whose words these are.
+-- What a search was resumed from is what it goes on with: it represents all that a search represented whose words these are.
 pub record GoesOn {W : Type 0} {G : Ghosts W} (resumed : Search W G) (s : Sought) (words : List ℕ) : Type 0 where
   pub stands : (saved : Search W G) (taken : List ℕ) (handed : List (ℕ × ℕ)) → AreSaved saved s words taken handed → HasSearched resumed taken handed
   pub reported : (saved : Search W G) (fault : TextFault) → AreSavedAfter saved s words fault → HasReported resumed fault

@@ -1,4 +1,4 @@
--- What a search looks for, and what it stands for.
+-- What a search looks for, and what it represents.
 use Rattle.std.specs.Prelude.{◌≡◌, ℕ, List, None, Some}
 use Rattle.collation_table.specs.declared.lookup.Weights.{Ghosts}
 use Rattle.collation_matches.specs.declared.faults.TextFault.{TextFault}

@@ -1,4 +1,4 @@
--- What a search stands for, by the values that it holds.
+-- What a search represents, by the values that it holds.
 use Rattle.std.specs.Prelude.{◌≡◌, ℕ, ◌≤◌, true, List, Option, None, length}
 use Rattle.std.specs.Str.{chars}
 use Rattle.utf8_cut.specs.Characters.{characters}

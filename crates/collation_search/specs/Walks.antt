@@ -1,4 +1,5 @@
--- What a walk over some items of a text stands for: the ranges that end with the clusters that have ended, and where the last keys stand.
+-- What a walk over some items of a text represents: the ranges that end with the clusters that have ended, and where the last keys
+-- stand.
 use Rattle.std.specs.Prelude.{◌≡◌, ℕ, ◌≤◌, List, [], ◌∷◌, ◌++◌, length, map}
 use Rattle.circular_buffer.specs.Buffer.{keep_last}
 use Rattle.collation_elements.specs.declared.keys.Key.{Key}

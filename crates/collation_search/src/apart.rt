@@ -285,7 +285,7 @@ impl Finder {
     }
 
     /// Walks over the character `c` at the front of a piece, which stands at a byte offset, with the marks behind it, if no unit
-    /// reaches from them to the next one; where they are passed by, over those that follow and are, too.
+    /// reaches from them to the next one; where they are skipped, over those that follow and are skipped, too.
     #[inline(always)]
     fn walk_some<W: Weights, F: FnMut(u64, u64)>(
         &mut self,

@@ -1,6 +1,6 @@
-//! What a search keeps of the ASCII characters, made once, so that its table is not asked for them again: the items of each as a
-//! unit by itself, whether it stands in the longer strings that the table maps, and whether it is passed by where no key of the
-//! pattern waits.
+//! What a search caches for the ASCII characters, made once, so that its table is not asked for them again: the items of each as a
+//! unit by itself, whether it stands in the longer strings that the table maps, and whether it is skipped where no prefix of the
+//! pattern has matched.
 ghost use Rattle.std.specs.Prelude.{◌≡◌, ℕ, ◌<◌, ◌||◌, Bool, true, false, not, slice_get, if◌then◌else◌};
 ghost use Rattle.std.specs.Option.{ForSome};
 ghost use Rattle.collation_table.specs.Table.{TableMap, ContinuesNoString};
@@ -14,7 +14,7 @@ use collation_table::Weights;
 /// How many ASCII characters there are.
 pub(crate) const ASCII: usize = 128;
 
-/// What is kept of one character.
+/// What is cached for one character.
 #[derive(Clone, Copy)]
 pub(crate) struct AsciiUnit {
     /// Whether a mapped string of two or more code points may begin with it.
@@ -72,8 +72,8 @@ fn any_continues(units: &[AsciiUnit]) -> bool
     false
 }
 
-/// Whether a character is passed by where no key of the pattern waits: not where it begins a longer string and some character
-/// goes on with one.
+/// Whether a character is skipped where no prefix of the pattern has matched: not where it begins a longer string and some
+/// character goes on with one.
 fn is_passed(pattern: &Pattern, unit: &AsciiUnit, some_continues: bool) -> bool
     ensures { result ≡ true → (table : TableMap) (c : ℕ) → IsAsciiUnit table pattern.now c unit.now
         → (some_continues ≡ false → (next : ℕ) → next < 128 → ContinuesNoString table next) → IsPassed table pattern.now c }
@@ -94,7 +94,7 @@ fn is_passed(pattern: &Pattern, unit: &AsciiUnit, some_continues: bool) -> bool
     pattern.advance(0, &key) == 0
 }
 
-/// Which characters are passed by, each at the place of its code point.
+/// Which characters are skipped, each at the place of its code point.
 fn passed_units(pattern: &Pattern, units: &[AsciiUnit; 128]) -> [bool; 128]
     ensures { (table : TableMap) → ((c : ℕ) → ForSome (slice_get units.now c) (IsAsciiUnit table pattern.now c))
         → (c : ℕ) → ForSome (slice_get result c) (λ (passed : Bool). passed ≡ true → IsPassed table pattern.now c) }
@@ -171,7 +171,7 @@ impl<'a, W: Weights> Query<'a, W> {
         items_of(unit, after_variable)
     }
 
-    /// How many characters at the front of a run are passed by where no key of the pattern waits.
+    /// How many characters at the front of a run are skipped where no prefix of the pattern has matched.
     #[inline(always)]
     pub(crate) fn passed_len(&self, run: &[u8]) -> usize
         requires { IsAscii run.now }

@@ -72,7 +72,7 @@ fn begins_apart<W: Weights>(table: &W, points: &[Point]) -> bool
     }
 }
 
-/// Whether points with these items, if they have some, are passed by where no key of the pattern waits.
+/// Whether points with these items, if they have some, are skipped where no prefix of the pattern has matched.
 pub(crate) fn are_passed(pattern: &Pattern, items: &Option<CharacterItems>) -> bool
     ensures { result ≡ true → (table : TableMap) (points : List PointValue)
         → ForSome items.now (AreItemsOfPoints table (weigher pattern.now.strength pattern.now.variable false) points) → IsPassedBy table pattern.now points }
@@ -83,7 +83,7 @@ pub(crate) fn are_passed(pattern: &Pattern, items: &Option<CharacterItems>) -> b
     }
 }
 
-/// Whether points with these items are passed by where no key of the pattern waits.
+/// Whether points with these items are skipped where no prefix of the pattern has matched.
 fn is_passed(pattern: &Pattern, items: &CharacterItems) -> bool
     ensures { result ≡ true → (table : TableMap) (points : List PointValue)
         → AreItemsOfPoints table (weigher pattern.now.strength pattern.now.variable false) points items.now → IsPassedBy table pattern.now points }
@@ -96,7 +96,7 @@ fn is_passed(pattern: &Pattern, items: &CharacterItems) -> bool
         && stays(pattern, items.third)
 }
 
-/// Whether no key of the pattern waits after this key, if there is one, where none waits before it.
+/// Whether no prefix of the pattern has matched after this key, if there is one, where none had before it.
 fn stays(pattern: &Pattern, key: Option<Key>) -> bool
     ensures { result ≡ true → All (λ k. (ks : List KeyValue) → border pattern.now.keys ks ≡ 0 → border pattern.now.keys (ks ++ k ∷ []) ≡ 0) (option_to_list key) }
 {

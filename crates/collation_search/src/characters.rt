@@ -1,5 +1,5 @@
-//! What a search keeps of the characters that it met, so that their points, units and items are not looked for again. Characters share
-//! places; each place holds what is known of the last one that came there.
+//! What a search caches for the characters that it met, so that their points, units and items are not looked for again. Characters
+//! share places; each place holds what is known of the last one that came there.
 ghost use Rattle.std.specs.Prelude.{◌≡◌, ◌≤◌, [], length, false};
 ghost use Rattle.collation_search.specs.declared.combining.TheConstants.{MOST_SEQUENCE_POINTS, SEQUENCE_PLACES};
 ghost use Rattle.collation_search.specs.declared.characters.TheConstants.{UNIT_PLACES, ITEM_PLACES, STEPS, STEP_CHARACTERS, NO_STEP};
@@ -28,7 +28,7 @@ pub(crate) struct CharacterUnit {
     pub(crate) is_alone: bool,
     /// Whether its first point is a starter that stands in no mapped string after the first place.
     pub(crate) begins_apart: bool,
-    /// Whether it is passed by where no key of the pattern waits.
+    /// Whether it is skipped where no prefix of the pattern has matched.
     pub(crate) is_passed: bool,
 }
 
@@ -49,7 +49,7 @@ pub(crate) struct KeptItems {
     pub(crate) items_after_variable: Option<CharacterItems>,
 }
 
-/// Fewer keys of the pattern than these may wait where a character is walked over by its step.
+/// Fewer keys of the pattern than these may have matched where a character is walked over by its step.
 pub(crate) const STEPS: usize = 4;
 
 /// The code points of characters that have steps are less than this: Latin, Greek and Cyrillic letters among them.
@@ -76,13 +76,13 @@ const NO_ITEMS: KeptItems = KeptItems {
     items_after_variable: None,
 };
 
-/// What is kept of the characters.
+/// What is cached for the characters.
 #[derive(Drop)]
 pub(crate) struct Characters {
     pub(crate) units: Vec<KeptUnit>,
     pub(crate) items: Vec<KeptItems>,
     pub(crate) sequences: Vec<KeptSequence>,
-    /// For a character, times `STEPS`, and so many keys that wait, how many wait after it, where that is known.
+    /// For a character, times `STEPS`, and so many keys that have matched, how many have after it, where that is known.
     pub(crate) steps: [u8; STEPS * STEP_CHARACTERS],
     /// Room for the points of one character or sequence.
     window: Window,
@@ -163,7 +163,7 @@ impl Characters {
         }
     }
 
-    /// What is kept of a character's items, which are found out where they are not.
+    /// What is cached for a character's items. It is found out where it is not cached.
     #[inline(always)]
     fn kept_items<W: Weights>(&mut self, table: &W, pattern: &Pattern, c: char) -> KeptItems
         requires { IsRight (W.table table.now) pattern.now self.old }
@@ -188,7 +188,7 @@ impl Characters {
         place < STEP_CHARACTERS && self.steps[place * STEPS] < NO_STEP
     }
 
-    /// How many keys wait after a character that has steps, where so many waited before it; `NO_STEP` where that is not known.
+    /// How many keys have matched after a character that has steps, where so many had before it; `NO_STEP` where that is not known.
     #[inline(always)]
     pub(crate) fn step(&self, waiting: usize, c: char) -> u8
         requires few { waiting < STEPS }
@@ -210,7 +210,7 @@ impl Characters {
         NO_UNIT.unit
     }
 
-    /// Finds out what decides whether a character is taken at once, and keeps it.
+    /// Finds out what decides whether a character is taken at once, and caches it.
     #[inline(never)]
     fn find_unit<W: Weights>(&mut self, table: &W, pattern: &Pattern, c: char) -> CharacterUnit
         requires { IsRight (W.table table.now) pattern.now self.old }
@@ -293,7 +293,7 @@ impl Characters {
         }
     }
 
-    /// Whether a character is passed by where no key of the pattern waits.
+    /// Whether a character is skipped where no prefix of the pattern has matched.
     fn is_passed<W: Weights>(&mut self, table: &W, pattern: &Pattern, c: char) -> bool
         requires { IsRight (W.table table.now) pattern.now self.old }
         ensures right { IsRight (W.table table.now) pattern.now self.new }
@@ -302,7 +302,7 @@ impl Characters {
         are_passed(pattern, &self.items_of(table, pattern, c, false))
     }
 
-    /// Finds out the items of a character, and keeps them.
+    /// Finds out the items of a character, and caches them.
     #[inline(never)]
     fn find_items<W: Weights>(&mut self, table: &W, pattern: &Pattern, c: char) -> KeptItems
         requires { IsRight (W.table table.now) pattern.now self.old }

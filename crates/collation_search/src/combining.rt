@@ -44,7 +44,7 @@ pub(crate) struct KeptSequence {
     pub(crate) items: Option<CharacterItems>,
     /// And where it was variable.
     pub(crate) items_after_variable: Option<CharacterItems>,
-    /// Whether it is passed by where no key of the pattern waits.
+    /// Whether it is skipped where no prefix of the pattern has matched.
     pub(crate) is_passed: bool,
 }
 
@@ -61,7 +61,7 @@ pub(crate) const NO_SEQUENCE: KeptSequence = KeptSequence {
 };
 
 impl CombiningSequence {
-    /// Where it is kept.
+    /// Where it is cached.
     #[inline(always)]
     fn place(&self) -> usize
         ensures { result < SEQUENCE_PLACES }
@@ -127,7 +127,7 @@ impl Characters {
         }
     }
 
-    /// Whether a sequence is passed by where no key of the pattern waits: not where its points are not in canonical order.
+    /// Whether a sequence is skipped where no prefix of the pattern has matched: not where its points are not in canonical order.
     #[inline(always)]
     pub(crate) fn passes_sequence<W: Weights>(
         &mut self,
@@ -146,7 +146,7 @@ impl Characters {
         self.find_sequence(table, pattern, sequence).is_passed
     }
 
-    /// What is kept of a sequence, which is found out where it is not.
+    /// What is cached for a sequence. It is found out where it is not cached.
     #[inline(always)]
     fn kept_sequence<W: Weights>(
         &mut self,
@@ -166,7 +166,7 @@ impl Characters {
         self.find_sequence(table, pattern, sequence)
     }
 
-    /// Finds out the items of a sequence, and keeps them.
+    /// Finds out the items of a sequence, and caches them.
     #[inline(never)]
     fn find_sequence<W: Weights>(
         &mut self,

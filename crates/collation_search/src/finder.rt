@@ -85,7 +85,7 @@ impl Finder {
     ///
     /// # Errors
     ///
-    /// That of the reorderer; then nothing was found, and it goes on standing for what it stood for.
+    /// That of the reorderer; then nothing was found, and it represents what it did before.
     pub(crate) fn take<W: Weights>(
         &mut self,
         table: &W,

@@ -95,7 +95,7 @@ fn step<W: Weights, F: FnMut(u64, u64)>(
     true
 }
 
-/// Passes characters of such a run by where no key of the pattern waits, and answers how many.
+/// Skips characters of such a run where no prefix of the pattern has matched, and answers how many.
 #[inline(always)]
 fn pass<W: Weights>(
     query: &Query<'_, W>,

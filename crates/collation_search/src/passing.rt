@@ -1,5 +1,5 @@
-//! Passes characters by, where no key of the pattern waits: of a walk over them nothing changes but where its cluster starts, which is
-//! written once.
+//! Skips characters where no prefix of the pattern has matched: of a walk over them nothing changes but where its cluster starts,
+//! which is written once.
 ghost use Rattle.std.specs.Prelude.{◌≡◌, ℕ, ◌+◌, ◌<◌, ◌≤◌, List, [], ◌∷◌, length, take, drop, true, IfSome};
 ghost use Rattle.std.specs.Char.{len_utf8};
 ghost use Rattle.std.specs.Str.{chars, IsUtf8};
@@ -23,7 +23,7 @@ use collation_table::Weights;
 use nfd_points::laws::{laws_of_decompositions, laws_of_faults, laws_of_ordering, laws_of_points};
 use utf8_cut::{first_character, sized_character};
 
-/// The character `c` at the front of a piece with the marks behind it, if it is passed by, no unit reaches from it to the next one,
+/// The character `c` at the front of a piece with the marks behind it, if it is skipped, no unit reaches from it to the next one,
 /// and it ends within `reach`.
 #[inline(always)]
 fn next_passed<W: Weights>(
@@ -71,7 +71,7 @@ fn next_passed<W: Weights>(
     })
 }
 
-/// A combining character sequence at the front of a piece, which begins with `base` and `mark`, if it is passed by, and the character
+/// A combining character sequence at the front of a piece, which begins with `base` and `mark`, if it is skipped, and the character
 /// that follows stands in no mapped string after the first place.
 #[inline(never)]
 fn sequence_passed<W: Weights>(
@@ -109,9 +109,9 @@ fn sequence_passed<W: Weights>(
     Some(walked)
 }
 
-/// Passes characters by, of which the first is `passed.next`, by their steps: up to the last place before which no key of the pattern
-/// waits, as long as the steps are known and the characters end within `reach`. It gives what is passed by then, and where the last of
-/// it begins.
+/// Skips characters by their steps, of which the first is `passed.next`: up to the last place before which no prefix of the pattern
+/// has matched, as long as the steps are known and the characters end within `reach`. It gives what is skipped by then, and where the
+/// last of it begins.
 #[inline(never)]
 fn pass_steps<W: Weights>(
     query: &Query<'_, W>,
@@ -191,8 +191,8 @@ impl Finder {
     ghost use Rattle.collation_search.specs.Characters.{IsCharacterUnit, IsRight};
     ghost use Rattle.collation_matches.specs.GoodPrefix.{most_bytes};
 
-    /// Whether characters from a byte offset on may be passed by: no key of the pattern waits. The cluster at the beginning of a text
-    /// has begun before its first character.
+    /// Whether characters from a byte offset on may be skipped: no prefix of the pattern has matched. The cluster at the beginning of
+    /// a text has begun before its first character.
     #[inline(always)]
     fn may_pass(&self, start: u64) -> bool
         ensures state { result ≡ true → self.now.walk.state ≡ 0 }
@@ -203,7 +203,7 @@ impl Finder {
         self.walk.state == 0 && self.walk.has_keys && start > 0 && !self.weigher.after_variable()
     }
 
-    /// Passes characters at the front of a piece by, of which the first is `c` and stands at a byte offset, as long as each may be and
+    /// Skips characters at the front of a piece, of which the first is `c` and stands at a byte offset, as long as each may be skipped,
     /// ends within `reach`, and no unit reaches from it to the next one; `None` where that is not so of the first.
     #[inline(never)]
     pub(crate) fn pass_by<W: Weights>(

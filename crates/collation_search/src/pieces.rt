@@ -16,7 +16,7 @@ use collation_pattern::Pattern;
 use collation_table::Weights;
 use std::alloc::{AllocError, Global};
 
-/// What a search in pieces told beside its ranges.
+/// What a search in pieces reported beside its ranges.
 #[derive(Clone, Copy, Debug, Drop, PartialEq, Eq)]
 pub struct PiecesSearched {
     /// The first fault of the text, at which it counts as ended.

@@ -27,9 +27,9 @@ pub(crate) struct Query<'a, W: Weights> {
     pub(crate) pattern: &'a Pattern,
     /// The number of code points of the table's longest key.
     pub(crate) longest_key: usize,
-    /// What is kept of the ASCII characters, so that the table is not asked for them again.
+    /// What is cached for the ASCII characters, so that the table is not asked for them again.
     pub(crate) ascii: [AsciiUnit; 128],
-    /// Which of them are passed by where no key of the pattern waits.
+    /// Which of them are skipped where no prefix of the pattern has matched.
     pub(crate) passed: [bool; 128],
     ghost longest: { longest_key ≡ longest_key_of (W.table table.now) },
     ghost units: { (c : ℕ) → ForSome (slice_get ascii c) (IsAsciiUnit (W.table table.now) pattern.now c) },
@@ -44,7 +44,7 @@ pub struct Search<'a, W: Weights> {
     pub(crate) finder: Finder,
     /// The fault at which the text counts as ended.
     pub(crate) fault: Option<TextFault>,
-    /// What is kept of the characters that it met. It is no part of a state: it is found out anew.
+    /// What is cached for the characters that it met. It is no part of a state: it is found out anew.
     pub(crate) characters: Characters,
     ghost right: { IsRight (W.table query.table.now) query.pattern.now characters },
     ghost longest: { finder.longest_key ≡ query.longest_key },

@@ -177,7 +177,7 @@ AreBothRead-from base tailor none B D R S T start right is alone ranges rest tai
           ∙ ap (λ U. fault_at_line 0 (map_fault U)) (sym rows);
     }
 
--- what is told of two files whose rows are judged as a whole, by the table or by the fault
+-- what is reported of two files whose rows are judged as a whole, by the table or by the fault
 pub record IsTold {X : Type 0} (map_in : X → TableMap) (base tailor : List ℕ) (r : Result X TableFault) : Type 0 where
   pub accepted : OnOk r (tailored_fault base tailor ≡ None)
   pub spelled : IfOk r (λ table. SpellsTailored base tailor (map_in table))

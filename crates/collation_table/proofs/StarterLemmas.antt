@@ -1,4 +1,4 @@
--- What a code point's decomposition tells of its class in a mapped string.
+-- What a code point's decomposition says of its class in a mapped string.
 use Rattle.std.proofs.Common.{◌≡◌, ℕ, ◌≤◌, Bool, true, false, ◌&&◌, List, [], ◌∷◌, ◌++◌, length, sym, ap, ◌∙◌, arith, nat_eq, bytes_eq, inl, inr, append-nil, cond}
 use Rattle.std.proofs.lemmas.Bool.Decides.{nat_tests}
 use Rattle.std.proofs.Math.Bool.{and-false}

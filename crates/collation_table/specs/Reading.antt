@@ -1,4 +1,4 @@
--- What a parsed line stands for, and which file it is of.
+-- What a parsed line represents, and which file it is of.
 use Rattle.std.specs.Prelude.{ℕ, ◌+◌, ◌<◌, length}
 use Rattle.collation_table.specs.Kinds.{tailor_kinds}
 use Rattle.collation_table.specs.declared.faults.TableFault.{TableFault}

@@ -7,8 +7,8 @@
 //! point that has no row. A `PlainTable` does the same with plainer parts, an ordered map in the place of pages and a trie.
 //!
 //! What a file spells and what is wrong with it stand in `specs/Spelling.antt` and `specs/Faults.antt`, the finite map that a
-//! table stands for in `specs/Table.antt`, that of two files in `specs/Overlay.antt`, and when it is well formed in `specs/WellFormed.antt`. Classes of code points come
-//! from `unicode_normalization`.
+//! table represents in `specs/Table.antt`, that of two files in `specs/Overlay.antt`, and when it is well formed in
+//! `specs/WellFormed.antt`. Classes of code points come from `unicode_normalization`.
 #![tactic(auto)]
 
 mod elements;

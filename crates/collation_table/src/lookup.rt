@@ -7,7 +7,7 @@ use crate::elements::Element;
 
 /// A well-formed collation element table (UTS #10, section 5). No call takes memory.
 pub trait Weights {
-    // The finite map and the ranges that the table stands for.
+    // The finite map and the ranges that the table represents.
     ghost table: { Self → TableMap };
 
     /// The greatest number of code points at which a prefix of `points` is mapped by the table, and 0 if none is.

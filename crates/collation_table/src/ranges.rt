@@ -4,7 +4,7 @@ ghost use Rattle.std.specs.List.{list_any};
 ghost use Rattle.collation_table.specs.Table.{first_with_base, greatest, is_in};
 ghost use Rattle.collation_table.specs.WellFormed.{breaks_ranges, overlaps, spreads_too_far, with_base};
 
-/// The primary weights that may stand for a range (AAAA).
+/// The primary weights that may represent a range (AAAA).
 const LOWEST_BASE: u16 = 0xFB00;
 
 const HIGHEST_BASE: u16 = 0xFB3F;

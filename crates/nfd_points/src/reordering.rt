@@ -135,7 +135,7 @@ impl Reorder {
         points.len() <= MOST_WAITING && rises_from(1, points)
     }
 
-    /// The reorderer in which these points wait, as [`waiting`](Reorder::waiting) told them of another.
+    /// The reorderer in which these points wait, as [`waiting`](Reorder::waiting) reported them for another.
     pub fn restore(_alloc: Global, waiting: &[Point]) -> Self
         requires { IsHeld waiting.now }
         ensures held { result.held ≡ waiting.now }

@@ -107,7 +107,7 @@ fn decomposed_code_points(rt: HostRuntime) {
     for c in ['a', '\u{301}', '\u{1100}', '\u{4E00}', '\u{FB01}'] {
         assert!(rt; Point::is_decomposed(c));
     }
-    // a letter with its mark, two marks, a syllable, and two code points that stand for another one
+    // a letter with its mark, two marks, a syllable, and two code points whose decomposition is one other code point
     for c in ['\u{E9}', '\u{F73}', '\u{AC01}', '\u{2126}', '\u{F900}'] {
         assert!(rt; !Point::is_decomposed(c));
     }

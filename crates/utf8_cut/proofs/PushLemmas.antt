@@ -1,4 +1,4 @@
--- What a push makes of what a cutter stands for, and what any further bytes do.
+-- What a push makes of what a cutter represents, and what any further bytes do.
 use Rattle.std.proofs.Common.{◌≡◌, ℕ, ◌+◌, ◌-◌, ◌<◌, Bool, true, false, List, [], ◌∷◌, ◌++◌, length, take, refl, sym, ap, ◌∙◌, subst, arith, append_assoc, append-nil, length-append, length-drop, ne_eqb}
 use Rattle.std.specs.Prelude.{None, Some, IsTrue, not, cond}
 use Rattle.std.proofs.lemmas.Bool.{not-true}
@@ -98,7 +98,7 @@ module _ (old : CutState) (taken : List ℕ) (given : List (ℕ × ℕ)) (stands
         bad = ap (λ l. not (is_incomplete_or_empty l)) (sym (Split-after _ _ _ s));
       }
 
--- a push carries on what the cutter stands for
+-- a push carries on what the cutter represents
 pub pushed_stands : (old : CutState) (byte : ℕ) (out : Cutting) → IsPushed old byte out → (taken : List ℕ) (given : List (ℕ × ℕ)) → StandsFor old taken given
     → StandsFor (state_after old byte out) (taken ++ byte ∷ []) (given ++ character_given out)
 pushed_stands old byte More p taken given s = subst (λ g. StandsFor (state_after old byte More) (taken ++ byte ∷ []) g) (sym (append-nil given)) (more_stands old taken given s byte p)
@@ -110,7 +110,7 @@ by_open : (b : Bool) (n m : ℕ) → n ≡ m → cond (not b) None (Some n) ≡ 
 by_open true n m e = ap (λ k. Some k) e
 by_open false n m e = refl
 
--- what a value that stands for some bytes says of their fault
+-- what a value that represents some bytes says of their fault
 pub ill_formed_by : (cut : CutState) (taken : List ℕ) (given : List (ℕ × ℕ)) → StandsFor cut taken given → ill_formed_at taken ≡ cond cut.is_bad (Some cut.start) None
 ill_formed_by cut taken given s =
     let opened : is_utf8_prefix taken ≡ not cut.is_bad = sym (not_not (is_utf8_prefix taken)) ∙ ap not (sym s.bad) in

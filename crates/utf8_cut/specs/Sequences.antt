@@ -1,4 +1,4 @@
--- What the bytes of one sequence are, told by its last byte (the Unicode Standard, table 3-7).
+-- What the bytes of one sequence are, decided by its last byte (the Unicode Standard, table 3-7).
 use Rattle.std.specs.Prelude.{◌≡◌, ℕ, ◌<◌, ◌≤◌, false, List, ◌++◌, length, take, IsTrue, Option, None, Some}
 use Rattle.std.specs.Char.{IsScalar, len_utf8, encode_utf8}
 use Rattle.std.specs.Str.{StartsWithNoChar}

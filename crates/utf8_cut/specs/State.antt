@@ -1,4 +1,4 @@
--- What a cutter of characters holds, and what it stands for.
+-- What a cutter of characters holds, and what it represents.
 use Rattle.std.specs.Prelude.{◌≡◌, ℕ, ◌+◌, ◌++◌, IsTrue, true, false, List, [], ◌∷◌, length, Option, None, Some, not, if◌then◌else◌}
 use Rattle.utf8_cut.specs.declared.Cutting.{Cutting}
 use Rattle.utf8_cut.specs.declared.Cutting.TheVariants.{More, Char, Bad}

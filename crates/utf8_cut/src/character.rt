@@ -29,7 +29,7 @@ pub fn sized_character(bytes: &[u8]) -> Option<(char, usize)>
 {
     match bytes {
         [] => None,
-        // ASCII is told first, by a comparison that most texts make predictable: where the next
+        // ASCII is recognized first, by a comparison that most texts make predictable: where the next
         // character begins does not wait for this one then
         [first, ..] if *first < 0x80 => Some((of_ascii(*first), 1)),
         [first, later @ ..] => match of_one(*first) {

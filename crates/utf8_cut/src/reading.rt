@@ -64,7 +64,7 @@ impl Cut {
     }
 
     /// The value after `count` bytes that holds the last of them, as [`count`](Cut::count) and
-    /// [`held`](Cut::held) told them of a value that had met no ill-formed sequence.
+    /// [`held`](Cut::held) reported them for a value that had met no ill-formed sequence.
     pub fn restore(count: u64, held: &[u8]) -> Cut
         requires may_be_held { IsTrue (is_incomplete_or_empty held.now) }
         requires within { length held.now ≤ count }

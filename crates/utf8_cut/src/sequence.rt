@@ -1,5 +1,5 @@
 // The well-formed byte sequences of UTF-8 (the Unicode Standard, table 3-7): what some bytes are,
-// told by the last of them alone, where those before it begin a character and lack some of it.
+// decided by the last of them alone, where those before it begin a character and lack some of it.
 ghost use Rattle.std.specs.Prelude.{◌≡◌, ◌<◌, ◌≤◌, [], ◌∷◌, ◌++◌, length, IsTrue};
 ghost use Rattle.std.specs.Int.{is_in_range};
 ghost use Rattle.std.specs.Str.Lossy.{second_byte_min, second_byte_max};

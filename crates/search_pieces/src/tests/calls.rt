@@ -122,7 +122,7 @@ pub(super) fn first_range(
     index(alloc, query.table, query.pattern, text)
 }
 
-/// The ranges of a text in pieces, and what is told beside them, by a search that is saved and resumed after each.
+/// The ranges of a text in pieces, and what is reported beside them, by a search that is saved and resumed after each.
 pub(super) fn in_pieces(
     rt: &impl Abort,
     alloc: Global,

@@ -3,7 +3,7 @@ use Rattle.std.proofs.Common.{◌≡◌, ◌<◌, ℕ, length, slice_get}
 use Rattle.collation_search.specs.AsciiUnits.{IsAsciiUnit}
 use Rattle.collation_search.proofs.ascii_units.ascii_units.Given as goal
 
--- the characters so far are kept
+-- the characters so far are cached
 abbrev pub invariant-loop-c : goal.invariant-loop-c
 invariant-loop-c g l =
     (length l.units ≡ 128)

@@ -4,7 +4,7 @@ use Rattle.collation_table.specs.Table.{TableMap}
 use Rattle.collation_search.specs.AsciiUnits.{IsAsciiUnit, IsPassed}
 use Rattle.collation_search.proofs.ascii_units.passed_units.Given as goal
 
--- the characters so far are told
+-- the characters so far that are marked are skipped
 abbrev pub invariant-loop-c : goal.invariant-loop-c
 invariant-loop-c l =
     (length l.passed ≡ 128)

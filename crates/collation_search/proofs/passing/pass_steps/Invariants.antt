@@ -8,7 +8,7 @@ use Rattle.collation_search.specs.declared.walk.KeyPlace.{KeyPlace}
 use Rattle.collation_search.specs.Passing.{HasPassed, HasStepped, MayPass}
 use Rattle.collation_search.proofs.passing.pass_steps.Given as goal
 
--- the characters up to `at` were walked over, and so many keys wait; up to `free` they were passed by
+-- the characters up to `at` were walked over, and so many keys have matched; up to `free` they were skipped
 abbrev pub invariant-loop-end : goal.invariant-loop-end
 invariant-loop-end g l = record {
   ends : l.end ≡ l.at + len_utf8 l.c;

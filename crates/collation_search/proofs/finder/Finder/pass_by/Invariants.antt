@@ -3,7 +3,7 @@ use Rattle.collation_search.specs.Characters.{IsCharacterUnit, IsRight}
 use Rattle.collation_search.specs.Passing.{HasPassed}
 use Rattle.collation_search.proofs.finder.Finder.pass_by.Given as goal
 
--- the characters so far were passed by, the last of them at the offset `begins`
+-- the characters so far were skipped, the last of them at the offset `begins`
 abbrev pub invariant-loop-walked : goal.invariant-loop-walked
 invariant-loop-walked g l = record {
   right : IsRight (g.W.Weights.table l.query.table.now) l.query.pattern.now l.characters;
