@@ -41,7 +41,7 @@ pub record IsReadFrom (rows : List Row) (s : Settings) : Type 0 where
   pub select : s.select ≡ select_of (entry (codes "select") rows)
   pub text : option_map (λ path. path.now) s.text ≡ first_of (codes "text") rows
 
--- the command takes the words, and the settings are read from the entries that they make, or that represent words left out
+-- the command takes the words, and the settings are read from the entries that they make, or that stand for words left out
 pub record IsTakenAs (words : List Text) (s : Settings) : Type 0 where
   pub strengths : ValueParser
   pub variables : ValueParser
