@@ -28,26 +28,26 @@ fn first_range(
     index(alloc, table, pattern, text)
 }
 
-/// The ranges that are handed out after each byte, and at the end of the text.
+/// The ranges that are handed out with each byte, after so many bytes before it, and at the end of the text.
 #[test]
 fn steps_with_a_plain_table(rt: HostRuntime) -> Result<(), Fail> {
     let table = read(rt.alloc())?;
-    let rows: [(&str, &[(u8, &[Range])], &[Range]); 2] = [
-        ("a", &[(b'a', &[]), (b'b', &[]), (b'b', &[(0, 1)])], &[]),
-        (
-            "aa",
-            &[(b'a', &[]), (b'a', &[]), (b'a', &[])],
-            &[(0, 2), (1, 3)],
-        ),
+    let rows: [(&str, &[u8], &[(usize, u64, u64)], &[Range]); 2] = [
+        ("a", b"abb", &[(2, 0, 1)], &[]),
+        ("aa", b"aaa", &[], &[(0, 2), (1, 3)]),
     ];
-    for (letters, steps, last) in rows {
+    for (letters, text, steps, last) in rows {
         let pattern = compile(rt.alloc(), &table, letters)?;
         let mut search = Search::new(rt.alloc(), &table, &pattern)?;
         let mut found = Found::new();
-        for (byte, want) in steps {
+        let mut got = Vec::new(rt.alloc());
+        for (before, byte) in text.iter().enumerate() {
             step(&mut search, *byte, &mut found)?;
-            assert_eq!(rt; found.as_slice(), *want);
+            for (start, end) in found.as_slice() {
+                got.push((before, *start, *end))?;
+            }
         }
+        assert_eq!(rt; got.as_slice(), steps);
         search.finish(&mut found)?;
         assert_eq!(rt; found.as_slice(), last);
     }
