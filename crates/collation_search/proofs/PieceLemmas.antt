@@ -6,7 +6,7 @@ use Rattle.std.proofs.Common.{◌≡◌, ◌∙◌, ◌<◌, ℕ, ◌+◌, List,
 use Rattle.std.proofs.lemmas.List.{append-nil, take_more}
 use Rattle.std.proofs.lemmas.Grind.{flat_map-append}
 use Rattle.collation_table.specs.declared.lookup.Weights.{Ghosts}
-use Rattle.collation_search.specs.declared.faults.StateFault.{StateFault}
+use Rattle.collation_states.specs.declared.faults.StateFault.{StateFault}
 use Rattle.collation_matches.specs.declared.faults.TextFault.{TextFault}
 use Rattle.collation_search.specs.declared.search.Search.{Search}
 use Rattle.collation_matches.specs.Answer.{Answer}

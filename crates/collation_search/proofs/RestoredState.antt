@@ -1,4 +1,4 @@
--- What is restored from the words of a search represents what that search represented.
+-- What is restored from the state of a search represents what that search represented.
 use Rattle.std.specs.Prelude.{All, Contains}
 use Rattle.std.specs.Str.{chars}
 use Rattle.std.proofs.Common.{◌≡◌, ℕ, ◌+◌, false, List, None, refl, sym, ap, ap₂, ◌∙◌, subst}
@@ -13,53 +13,37 @@ use Rattle.collation_elements.specs.Windows.{Held, WindowStandsFor}
 use Rattle.collation_search.specs.declared.finder.Finder.{Finder}
 use Rattle.collation_search.specs.Finding.{FinderStandsFor}
 use Rattle.collation_matches.specs.GoodPrefix.{whole}
-use Rattle.collation_search.specs.Restoring.{places_in}
 use Rattle.collation_search.specs.Resuming.{IsRestored}
 use Rattle.collation_matches.specs.Sought.{Sought}
 use Rattle.collation_search.specs.Searching.{Searched}
-use Rattle.collation_search.specs.State.{tail_words}
-use Rattle.collation_search.specs.StateTests.{points_in}
+use Rattle.collation_search.specs.State.{open_state}
 use Rattle.collation_search.proofs.RestoredWalk.{walks-restored}
-use Rattle.collation_search.proofs.StateLemmas.{flag-read}
-use Rattle.collation_search.proofs.SavedState.{SavedLaws, open_head, points, walk, is_good, parts}
+use Rattle.collation_search.proofs.SavedState.{SavedLaws, is_good}
 
 -- ---- a search that goes on
 
 module _ (laws : SavedLaws) (s : Sought) (cut : CutState) (finder : Finder) (taken : List ℕ) (handed : List (ℕ × ℕ))
     (h : Searched s.table s.pattern cut finder None taken handed) (goes_on : finder.window.has_ended ≡ false) (longest : finder.longest_key ≡ longest_mapped s.table)
-    (same_select : finder.walk.select ≡ s.select) (last_end : ℕ) (same_end : last_end ≡ finder.walk.last_end)
-    (new : Finder) (restored : IsRestored s (open_head s.pattern cut finder) last_end (tail_words finder None) new) where
+    (same_select : finder.walk.select ≡ s.select) (new : Finder) (restored : IsRestored s (open_state s.pattern cut finder) new) where
   same_reorder : new.reorder ≡ finder.reorder
-  same_reorder =
-      let there = parts laws s cut finder taken handed h goes_on longest in
-      let back = points laws s cut finder taken handed h goes_on longest in
-      let held = restored.held ∙ ap points_in there.waiting ∙ back.waiting_back in
-      ap (λ l. let w : Waiting = record { held = l } in w) held
+  same_reorder = ap (λ l. let w : Waiting = record { held = l } in w) restored.held
 
   same_window : new.window ≡ finder.window
   same_window =
-      let there = parts laws s cut finder taken handed h goes_on longest in
-      let back = points laws s cut finder taken handed h goes_on longest in
-      let held = ap points_in there.window ∙ back.window_back in
       let room = sym (finder.capacity ∙ ap (λ n. n + MOST_GIVEN) longest) in
       restored.window
-      ∙ ap (λ l. let w : Held = record { points = l; capacity = longest_mapped s.table + MOST_GIVEN; has_ended = false } in w) held
       ∙ ap (λ n. let w : Held = record { points = finder.window.points; capacity = n; has_ended = false } in w) room
       ∙ ap (λ b. let w : Held = record { points = finder.window.points; capacity = finder.window.capacity; has_ended = b } in w) (sym goes_on)
 
   same_weigher : new.weigher ≡ finder.weigher
   same_weigher =
       let m = h.found.matched in
-      restored.weigher
-      ∙ ap (λ b. weigher s.pattern.strength s.pattern.variable b) (flag-read (is_after_variable finder.weigher))
-      ∙ ap₂ (λ strength variable. weigher strength variable (is_after_variable finder.weigher)) (sym m.strength) (sym m.variable)
+      restored.weigher ∙ ap₂ (λ strength variable. weigher strength variable (is_after_variable finder.weigher)) (sym m.strength) (sym m.variable)
 
   restored-finder : FinderStandsFor s.table s.pattern new (chars (whole taken)) handed
   restored-finder =
       let f = h.found in
       let m = f.matched in
-      let there = parts laws s cut finder taken handed h goes_on longest in
-      let kept = walk laws s cut finder taken handed h goes_on longest in
       record {
         points = f.points;
         reordered = subst (λ (w : Waiting). HasReordered w (chars (whole taken)) f.points) (sym same_reorder) f.reordered;
@@ -68,9 +52,8 @@ module _ (laws : SavedLaws) (s : Sought) (cut : CutState) (finder : Finder) (tak
           items = m.items;
           cut = subst (λ (w : Held). WindowStandsFor s.table w f.points m.units) (sym same_window) m.cut;
           weighed = subst (λ w. WeigherStandsFor s.table w m.units m.items) (sym same_weigher) m.weighed;
-          walked = walks-restored s.pattern.keys m.items handed finder.walk new.walk m.walked restored.state restored.start
-              (restored.has_keys ∙ flag-read finder.walk.has_keys) (restored.places ∙ ap places_in there.places ∙ kept.back) restored.capacity
-              (restored.select ∙ sym same_select) (restored.last_end ∙ same_end);
+          walked = walks-restored s.pattern.keys m.items handed finder.walk new.walk m.walked restored.matched restored.start
+              restored.has_keys restored.places restored.capacity (restored.select ∙ sym same_select) restored.last_end;
           strength = ap (λ w. w.strength) same_weigher ∙ m.strength;
           variable = ap (λ w. w.variable) same_weigher ∙ m.variable;
           kept = subst (λ (w : Held). All (Contains f.points) w.points) (sym same_window) m.kept;
@@ -80,7 +63,7 @@ module _ (laws : SavedLaws) (s : Sought) (cut : CutState) (finder : Finder) (tak
   pub restored-stands : (new_cut : CutState) → ((bytes : List ℕ) (given : List (ℕ × ℕ)) → StandsFor cut bytes given → cut.is_bad ≡ false → StandsFor new_cut bytes given) →
       Searched s.table s.pattern new_cut new None taken handed
   restored-stands new_cut stands = record {
-    cut_stands = stands taken (characters taken) h.cut_stands (is_good laws s cut finder taken handed h goes_on longest);
+    cut_stands = stands taken (characters taken) h.cut_stands (is_good laws s cut finder taken handed h goes_on longest same_select);
     found = restored-finder;
     open_bytes = h.open_bytes;
     no_fault = refl;

@@ -1,49 +1,42 @@
 -- What a search that goes on saves of its walk is as a state says.
 use Rattle.std.specs.Str.{chars, IsUtf8}
-use Rattle.std.proofs.Common.{◌≡◌, ℕ, zero, suc, ◌+◌, ◌-◌, ◌*◌, ◌<◌, ◌≤◌, ◌==◌, nat_le, Bool, true, false, cond, ◌&&◌, ◌||◌, not, List, [], ◌∷◌, ◌++◌, length, take, drop, map, slice_get, slice_index, Option, Some, None, refl, sym, ap, ◌∙◌, subst, arith, inl, inr, append-nil}
-use Rattle.std.proofs.lemmas.Bool.{and_parts, and_from, le-leb, cases_Bool, leb-true, or_right}
-use Rattle.std.proofs.lemmas.List.{length-drop, length-take-le}
+use Rattle.std.proofs.Common.{◌≡◌, ℕ, zero, suc, ◌-◌, ◌<◌, ◌≤◌, ◌==◌, Bool, true, false, cond, ◌&&◌, not, List, [], ◌∷◌, ◌++◌, length, take, drop, map, slice_get, Option, refl, sym, ap, ◌∙◌, subst, arith, inl, inr, append-nil}
+use Rattle.std.proofs.lemmas.Bool.{and_parts, eqb-true}
+use Rattle.std.proofs.lemmas.List.{length-drop, length-map, length-take-le}
 use Rattle.std.proofs.lemmas.Str.{chars-nil}
 use Rattle.utf8_cut.specs.Characters.{characters_end, after_characters}
 use Rattle.utf8_cut.specs.Value.{CutState}
 use Rattle.nfd_points.specs.Points.{byte_len, points_from, points, ordered}
-use Rattle.collation_table.specs.Table.{TableMap}
 use Rattle.collation_elements.specs.declared.keys.Key.{Key}
 use Rattle.collation_elements.specs.declared.keys.Item.{Item}
 use Rattle.collation_elements.specs.Units.{units}
 use Rattle.collation_elements.specs.Items.{items}
 use Rattle.collation_elements.specs.Clusters.{Cluster, clusters, clusters_from, starts}
 use Rattle.collation_elements.specs.Context.{BoundariesAreStarts}
-use Rattle.collation_pattern.specs.Compiled.{Compiled}
 use Rattle.circular_buffer.specs.Buffer.{keep_last}
 use Rattle.collation_matches.specs.declared.faults.TextFault.{TextFault}
+use Rattle.collation_states.specs.Laws.{AreInOrder, begins_with_first}
 use Rattle.collation_search.specs.declared.finder.Finder.{Finder}
 use Rattle.collation_search.specs.declared.walk.KeyPlace.{KeyPlace}
 use Rattle.collation_search.specs.declared.walk.Walk.{Walk}
 use Rattle.collation_matches.specs.ByClusters.{PlacedKey, text_begin, placed, placed_at}
 use Rattle.collation_search.specs.Finding.{FinderStandsFor}
 use Rattle.collation_matches.specs.GoodPrefix.{whole}
-use Rattle.collation_search.specs.Restoring.{places_in, last_end_in}
 use Rattle.collation_matches.specs.Sought.{Sought}
 use Rattle.collation_search.specs.Searching.{Searched}
-use Rattle.collation_search.specs.State.{flag_word, place_words, point_words, kept_places, match_waits, is_first_place, head_words, chain_record, tail_words, state_words}
-use Rattle.collation_matches.specs.declared.select.Select.{Select}
-use Rattle.collation_matches.specs.declared.select.Select.TheVariants.{All, Chain}
-use Rattle.collation_search.specs.declared.states.Resumed.{Resumed}
-use Rattle.collation_search.specs.StateTests.{head, head_len, is_flag, are_places, may_match_wait, is_chain_end}
+use Rattle.collation_search.specs.State.{kept_places, saved_places, match_waits, is_first_place}
 use Rattle.collation_search.specs.Walks.{place_of}
 use Rattle.collation_matches.proofs.BridgeLists.{In, Rising, in_left, in_right}
 use Rattle.collation_matches.proofs.BridgeRanges.{Below}
 use Rattle.collation_matches.proofs.BridgeMatches.{rising_boundaries}
 use Rattle.collation_matches.proofs.LagRanges.{begins-with}
 use Rattle.collation_search.proofs.LastEnds.{StartBy, walks-last_end}
-use Rattle.collation_search.proofs.SavingLemmas.{drop-some, place_words-length}
+use Rattle.collation_search.proofs.SavingLemmas.{drop-some}
 use Rattle.collation_search.proofs.SearchBegins.{items_go_on}
 use Rattle.collation_matches.proofs.SearchLemmas.{either}
 use Rattle.collation_matches.proofs.TextCheckLemmas.{open_cut, next_offset}
 use Rattle.collation_search.proofs.WalkSteps.{walks-within}
-use Rattle.collation_search.proofs.RestoredWalk.{places_in-words, kept_places-length}
-use Rattle.collation_search.proofs.StateLemmas.{flag-is, flag-read}
+use Rattle.collation_search.proofs.RestoredWalk.{kept_places-length}
 
 -- ---- the starts of the clusters of a text rise
 
@@ -75,47 +68,26 @@ below-end (d ∷ before) c following end up = below-end before c following end u
 -- ---- their places
 
 abbrev pub ArePlaces : ℕ → ℕ → List KeyPlace → Type 0
-ArePlaces least most ps = are_places least most (place_words ps) ≡ true
-
-places-first : (least most : ℕ) (p : KeyPlace) (ps : List KeyPlace) → least ≤ p.start → p.start ≤ most → ArePlaces p.start most ps → ArePlaces least most (p ∷ ps)
-places-first least most p ps above below later =
-    let a = le-leb least p.start above in
-    let b = le-leb p.start most below in
-    let c = flag-is p.is_first in
-    rw (a, b, c, later) refl
-
--- what the first one says
-places-parts : (least most : ℕ) (p : KeyPlace) (ps : List KeyPlace) → ArePlaces least most (p ∷ ps) → (least ≤ p.start) × (p.start ≤ most) × ArePlaces p.start most ps
-places-parts least most p ps h =
-    let words = place_words ps in
-    let a = and_parts (nat_le least p.start) (nat_le p.start most && (is_flag (flag_word p.is_first) && are_places p.start most words)) h in
-    let b = and_parts (nat_le p.start most) (is_flag (flag_word p.is_first) && are_places p.start most words) a.1 in
-    let c = and_parts (is_flag (flag_word p.is_first)) (are_places p.start most words) b.1 in
-    (leb-true least p.start a.0, leb-true p.start most b.0, c.1)
+ArePlaces least most ps = AreInOrder least most (saved_places ps)
 
 places-from : (least later most : ℕ) (ps : List KeyPlace) → least ≤ later → ArePlaces later most ps → ArePlaces least most ps
-places-from least later most [] h places = refl
-places-from least later most (p ∷ ps) h places =
-    let parts = places-parts later most p ps places in
-    places-first least most p ps (omega (arith, h, parts.0)) parts.1 parts.2
+places-from least later most [] h places = tt
+places-from least later most (p ∷ ps) h places = (omega (arith, h, places.0), places.1, places.2)
 
 places-drop : (least most n : ℕ) (ps : List KeyPlace) → ArePlaces least most ps → ArePlaces least most (drop n ps)
 places-drop least most zero ps places = places
-places-drop least most (suc n) [] places = refl
-places-drop least most (suc n) (p ∷ ps) places =
-    let parts = places-parts least most p ps places in
-    places-from least p.start most (drop n ps) parts.0 (places-drop p.start most n ps parts.2)
+places-drop least most (suc n) [] places = tt
+places-drop least most (suc n) (p ∷ ps) places = places-from least p.start most (drop n ps) places.0 (places-drop p.start most n ps places.2)
 
 -- the keys of a cluster before others
 places-keys : (least most start : ℕ) (is_first : Bool) (ks : List Key) (rest : List PlacedKey) → least ≤ start → start ≤ most → ArePlaces start most (map place_of rest) →
     ArePlaces least most (map place_of (placed_at start is_first ks ++ rest))
 places-keys least most start is_first [] rest above below later = places-from least start most (map place_of rest) above later
 places-keys least most start is_first (k ∷ ks) rest above below later =
-    places-first least most (record { start = start; is_first = is_first }) (map place_of (placed_at start false ks ++ rest)) above below
-    (places-keys start most start false ks rest (omega arith) below later)
+    (above, below, places-keys start most start false ks rest (omega arith) below later)
 
 places-placed : (least most : ℕ) (cs : List Cluster) → InOrder least most cs → ArePlaces least most (map place_of (placed cs))
-places-placed least most [] h = refl
+places-placed least most [] h = tt
 places-placed least most (c ∷ cs) h =
     places-keys least most c.start true c.keys (placed cs) h.0 h.1 (places-placed c.start most cs h.2)
 
@@ -201,7 +173,7 @@ searched-end text_law within s cut finder fault taken handed h =
 -- the starts of the clusters of the last keys do not fall, and none is after that of the current one
 pub searched-places : BoundariesAreStarts → TextLaw → (s : Sought) (cut : CutState) (finder : Finder) (fault : Option TextFault) (taken : List ℕ) (handed : List (ℕ × ℕ)) →
     Searched s.table s.pattern cut finder fault taken handed → finder.window.has_ended ≡ false →
-    are_places 0 finder.walk.start (place_words (kept_places finder.walk)) ≡ true
+    ArePlaces 0 finder.walk.start (kept_places finder.walk)
 searched-places law text_law s cut finder fault taken handed h goes_on =
     let w = h.found.matched.walked in
     let order = walked-in_order law s finder (whole taken) handed h.found goes_on (text_law taken) in
@@ -209,8 +181,7 @@ searched-places law text_law s cut finder fault taken handed h goes_on =
     let ps = map place_of (placed cs) in
     let all : ArePlaces 0 w.current.start ps = places-placed 0 w.current.start cs order.in_order in
     let kept : ArePlaces 0 w.current.start (keep_last finder.walk.state ps) = places-drop 0 w.current.start (length ps - finder.walk.state) ps all in
-    ap (λ n. are_places 0 n (place_words (kept_places finder.walk))) w.start
-    ∙ ap (λ (l : List KeyPlace). are_places 0 w.current.start (place_words l)) w.places ∙ kept
+    subst (λ n. ArePlaces 0 n (kept_places finder.walk)) (sym w.start) (subst (ArePlaces 0 w.current.start) (sym w.places) kept)
 
 -- the current cluster starts within the whole characters
 pub searched-start : BoundariesAreStarts → TextLaw → WithinLaw → (s : Sought) (cut : CutState) (finder : Finder) (fault : Option TextFault) (taken : List ℕ) (handed : List (ℕ × ℕ)) →
@@ -246,90 +217,43 @@ searched-state s cut finder fault taken handed h =
 
 -- what a state says of the walk, where the whole characters end there
 pub record WalkIsSaved (pattern_len : ℕ) (walk : Walk) (end : ℕ) : Type 0 where
-  pub back : places_in (place_words (kept_places walk)) ≡ kept_places walk
-  pub many : length (place_words (kept_places walk)) ≡ 4 * walk.state
-  pub places : are_places 0 walk.start (place_words (kept_places walk)) ≡ true
+  pub many : length (saved_places (kept_places walk)) ≡ walk.state
+  pub places : ArePlaces 0 walk.start (kept_places walk)
   pub start : walk.start ≤ end
   pub state : walk.state ≤ pattern_len
   pub last_end : walk.last_end ≤ walk.start
+  pub waits : match_waits pattern_len walk ≡ true → (walk.state ≡ pattern_len) × (begins_with_first (saved_places (kept_places walk)) ≡ true) × (walk.has_keys ≡ true)
+
+-- a match waits as a state says
+saved-match_waits : (pattern_len : ℕ) (walk : Walk) → match_waits pattern_len walk ≡ true →
+    (walk.state ≡ pattern_len) × (begins_with_first (saved_places (kept_places walk)) ≡ true) × (walk.has_keys ≡ true)
+saved-match_waits pattern_len walk waits =
+    let at = length walk.places.items - walk.state in
+    let oldest = is_first_place (slice_get walk.places.items at) in
+    let a = and_parts walk.has_keys (walk.state == pattern_len && oldest) waits in
+    let b = and_parts (walk.state == pattern_len) oldest a.1 in
+    (eqb-true walk.state pattern_len b.0, first-place walk.places.items at b.1, a.0)
+  where
+    first-place : (ps : List KeyPlace) (i : ℕ) → is_first_place (slice_get ps i) ≡ true → begins_with_first (saved_places (drop i ps)) ≡ true
+    first-place ps i h =
+        elim (either (slice_get ps i)) [
+          | inl none ↦ let no : false ≡ true = sym (ap is_first_place none) ∙ h in cc
+          | inr some ↦ ap (λ (l : List KeyPlace). begins_with_first (saved_places l)) (drop-some ps i some.0 some.1) ∙ sym (ap is_first_place some.1) ∙ h
+        ]
 
 pub walk-saved : BoundariesAreStarts → TextLaw → WithinLaw → (s : Sought) (cut : CutState) (finder : Finder) (fault : Option TextFault) (taken : List ℕ) (handed : List (ℕ × ℕ)) →
     Searched s.table s.pattern cut finder fault taken handed → finder.window.has_ended ≡ false →
     WalkIsSaved (length s.pattern.keys) finder.walk (cut.count - length cut.held)
 walk-saved law text_law within s cut finder fault taken handed h goes_on =
     let m = h.found.matched in
-    let kept = kept_places finder.walk in
     record {
-      back = places_in-words kept;
-      many = place_words-length kept ∙ ap (λ n. 4 * n) (kept_places-length s.pattern.keys m.items handed finder.walk m.walked);
+      many = kept_len finder.walk ∙ kept_places-length s.pattern.keys m.items handed finder.walk m.walked;
       places = searched-places law text_law s cut finder fault taken handed h goes_on;
       start = searched-start law text_law within s cut finder fault taken handed h goes_on;
       state = searched-state s cut finder fault taken handed h;
       last_end = searched-last_end law text_law s cut finder fault taken handed h goes_on;
+      waits = saved-match_waits (length s.pattern.keys) finder.walk;
     }
-
--- ---- the records before those of places and points
-
--- the words of a search that goes on, where this is selected and that end is said of a chain
-abbrev pub open_words : Select → TableMap → Compiled → CutState → Finder → ℕ → List ℕ → List ℕ
-open_words select table pattern cut finder end tail = head_words table pattern cut finder None ++ chain_record select end ++ tail
-
-pub open_words-tail : (select : Select) (table : TableMap) (pattern : Compiled) (cut : CutState) (finder : Finder) (end : ℕ) (tail : List ℕ) →
-    drop (head_len select) (open_words select table pattern cut finder end tail) ≡ tail
-open_words-tail All table pattern cut finder end tail = refl
-open_words-tail Chain table pattern cut finder end tail = refl
-
--- the word after the first of the tail
-open_words-second : (select : Select) (table : TableMap) (pattern : Compiled) (cut : CutState) (finder : Finder) (end : ℕ) (tail : List ℕ) →
-    slice_index (open_words select table pattern cut finder end tail) (head_len select + 1) ≡ slice_index tail 1
-open_words-second All table pattern cut finder end tail = refl
-open_words-second Chain table pattern cut finder end tail = refl
-
-pub open_words-last_end : (select : Select) (table : TableMap) (pattern : Compiled) (cut : CutState) (finder : Finder) (end : ℕ) (tail : List ℕ) → (select ≡ All → end ≡ 0) →
-    last_end_in select (open_words select table pattern cut finder end tail) ≡ end
-open_words-last_end All table pattern cut finder end tail none = sym (none refl)
-open_words-last_end Chain table pattern cut finder end tail none = refl
-
-pub open_words-chain_end : (select : Select) (table : TableMap) (pattern : Compiled) (cut : CutState) (finder : Finder) (end : ℕ) (tail : List ℕ) → end ≤ finder.walk.start →
-    is_chain_end select (head (open_words select table pattern cut finder end tail)) (open_words select table pattern cut finder end tail) ≡ true
-open_words-chain_end All table pattern cut finder end tail below = refl
-open_words-chain_end Chain table pattern cut finder end tail below = and_from _ _ (le-leb end finder.walk.start below) refl
-
--- ---- a match that waits
-
--- a place that is the first of its cluster
-first-place : (ps : List KeyPlace) (i : ℕ) → is_first_place (slice_get ps i) ≡ true → (p : KeyPlace) × (later : List KeyPlace) × (drop i ps ≡ p ∷ later) × (p.is_first ≡ true)
-first-place ps i h =
-    elim (either (slice_get ps i)) [
-      | inl none ↦ let no : false ≡ true = sym (ap is_first_place none) ∙ h in cc
-      | inr some ↦ (some.0, drop (i + 1) ps, drop-some ps i some.0 some.1, sym (ap is_first_place some.1) ∙ h)
-    ]
-
--- a match waits as a state says
-pub saved-match_waits : (r : Resumed) (table : TableMap) (pattern : Compiled) (cut : CutState) (finder : Finder) (fault : Option TextFault) → r.pattern_len ≡ length pattern.keys → r.select ≡ finder.walk.select →
-    may_match_wait r (head (state_words table pattern cut finder fault)) (state_words table pattern cut finder fault) ≡ true
-saved-match_waits r table pattern cut finder (Some fault) same select = refl
-saved-match_waits r table pattern cut finder None same select =
-    let walk = finder.walk in
-    let words = state_words table pattern cut finder None in
-    let later = point_words finder.window.points in
-    let last = point_words finder.reorder.held in
-    let second : ℕ = slice_index words (head_len r.select + 1) in
-    let second_is : second ≡ slice_index (tail_words finder None) 1 =
-    ap (λ x. slice_index words (head_len x + 1)) select ∙ open_words-second walk.select table pattern cut finder walk.last_end (tail_words finder None) in
-    let at = length walk.places.items - walk.state in
-    let oldest = is_first_place (slice_get walk.places.items at) in
-    elim (cases_Bool (match_waits (length pattern.keys) walk)) [
-      | inl waits ↦
-          let a = and_parts walk.has_keys (walk.state == length pattern.keys && oldest) waits in
-          let b = and_parts (walk.state == length pattern.keys) oldest a.1 in
-          let first = first-place walk.places.items at b.1 in
-          let state : (walk.state == r.pattern_len) ≡ true = ap (λ n. walk.state == n) same ∙ b.0 in
-          let flag : (second == 1) ≡ true =
-          ap (λ (n : ℕ). n == 1) second_is
-          ∙ ap (λ (ps : List KeyPlace). slice_index ((place_words ps ++ later) ++ last) 1 == 1) first.2 ∙ flag-read first.0.is_first ∙ first.3 in
-          let keyed : (flag_word walk.has_keys == 1) ≡ true = flag-read walk.has_keys ∙ a.0 in
-          or_right (flag_word (match_waits (length pattern.keys) walk) == 0) (walk.state == r.pattern_len && (second == 1 && flag_word walk.has_keys == 1))
-          (rw (state, flag, keyed) refl)
-      | inr none ↦ ap (λ b. flag_word b == 0 || (walk.state == r.pattern_len && (second == 1 && flag_word walk.has_keys == 1))) none
-    ]
+  where
+    kept_len : (walk : Walk) → length (saved_places (kept_places walk)) ≡ length (kept_places walk)
+    kept_len walk = length-map (kept_places walk) _

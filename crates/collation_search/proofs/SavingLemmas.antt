@@ -1,18 +1,22 @@
 -- Appends of records, one by one, and how many words a state has.
-use Rattle.std.proofs.Common.{◌≡◌, ℕ, zero, suc, ◌+◌, ◌-◌, ◌*◌, ◌≤◌, List, [], ◌∷◌, ◌++◌, length, take, drop, slice_get, Option, Some, None, refl, sym, ap, ◌∙◌, arith, append_assoc, length-append, add-one, Result, Ok, Err, OnErr, false, is_some}
-use Rattle.std.proofs.lemmas.List.{append-nil, length-drop}
-use Rattle.nfd_points.specs.declared.points.Point.{Point}
+use Rattle.std.proofs.Common.{◌≡◌, ℕ, zero, suc, ◌+◌, ◌-◌, ◌*◌, ◌≤◌, List, [], ◌∷◌, ◌++◌, length, take, drop, slice_get, Option, Some, None, refl, sym, ap, ◌∙◌, arith, append_assoc, add-one, Result, Ok, Err, OnErr, true, false, is_some}
+use Rattle.std.proofs.lemmas.List.{append-nil, length-drop, length-map}
 use Rattle.utf8_cut.specs.Value.{CutState}
-use Rattle.collation_table.specs.Table.{TableMap, longest_mapped}
+use Rattle.collation_table.specs.Table.{longest_mapped}
+use Rattle.collation_matches.specs.declared.faults.TextFault.{TextFault}
 use Rattle.collation_matches.specs.declared.select.Select.{Select}
 use Rattle.collation_matches.specs.declared.select.Select.TheVariants.{All, Chain}
-use Rattle.collation_pattern.specs.Compiled.{Compiled}
-use Rattle.collation_search.specs.declared.walk.KeyPlace.{KeyPlace}
-use Rattle.collation_matches.specs.declared.faults.TextFault.{TextFault}
+use Rattle.collation_matches.specs.Sought.{Sought}
+use Rattle.collation_states.specs.declared.states.Head.{Head}
+use Rattle.collation_states.specs.declared.states.Sizes.{Sizes}
+use Rattle.collation_states.specs.Laws.{StatesAreRecords}
+use Rattle.collation_states.specs.Saving.{BeginsWith}
+use Rattle.collation_states.specs.State.{reported, head_of, head_words, chain_record, place_words, point_words, words}
+use Rattle.collation_states.specs.StateTests.{head_len}
 use Rattle.collation_search.specs.declared.finder.Finder.{Finder}
-use Rattle.collation_search.specs.State.{place_record, point_record, place_words, point_words, kept_places, head_words, chain_record, chain_words, state_words}
-use Rattle.collation_search.specs.StateTests.{head_len}
-use Rattle.collation_search.specs.Saving.{BeginsWith, HasRecords, records_before, most_records}
+use Rattle.collation_search.specs.declared.walk.Walk.{Walk}
+use Rattle.collation_search.specs.State.{sizes_of, kept_places, saved_places, open_state, state_of}
+use Rattle.collation_search.specs.Saving.{HasRecords, records_before, most_records}
 
 -- ---- what follows an index
 
@@ -54,79 +58,57 @@ record-first start before after one rest all h e = ap (λ l. l ++ rest) e ∙ ap
 
 -- ---- how many words
 
-pub place_words-length : (ps : List KeyPlace) → length (place_words ps) ≡ 4 * length ps
-place_words-length [] = refl
-place_words-length (p ∷ ps) = omega (arith, place_words-length ps, length-append (place_record p) (place_words ps))
+pub kept-length : (walk : Walk) → length (saved_places (kept_places walk)) ≡ length walk.places.items - (length walk.places.items - walk.state)
+kept-length walk =
+    length-map (kept_places walk) _ ∙ length-drop (length walk.places.items - walk.state) walk.places.items
 
-pub point_words-length : (ps : List Point) → length (point_words ps) ≡ 4 * length ps
-point_words-length [] = refl
-point_words-length (p ∷ ps) = omega (arith, point_words-length ps, length-append (point_record p) (point_words ps))
-
-pub head_len-records : (select : Select) → head_len select ≡ 4 * records_before select
+head_len-records : (select : Select) → head_len select ≡ 4 * records_before select
 head_len-records All = refl
 head_len-records Chain = refl
 
-chain_record-length : (select : Select) (end : ℕ) → 20 + length (chain_record select end) ≡ head_len select
-chain_record-length All end = refl
-chain_record-length Chain end = refl
-
--- the words before those of places and points
-pub before_tail-length : (table : TableMap) (pattern : Compiled) (cut : CutState) (finder : Finder) (fault : Option TextFault) →
-    length (head_words table pattern cut finder fault ++ chain_words finder.walk fault) ≡ head_len finder.walk.select
-before_tail-length table pattern cut finder None =
-    omega (arith, length-append (head_words table pattern cut finder None) (chain_words finder.walk None), chain_record-length finder.walk.select finder.walk.last_end)
-before_tail-length table pattern cut finder (Some fault) =
-    omega (arith, length-append (head_words table pattern cut finder (Some fault)) (chain_words finder.walk (Some fault)), chain_record-length finder.walk.select 0)
-
-pub state-records : (table : TableMap) (pattern : Compiled) (cut : CutState) (finder : Finder) (fault : Option TextFault) →
-    finder.walk.state ≤ length pattern.keys → length finder.window.points ≤ longest_mapped table → length finder.reorder.held ≤ 30 →
-    HasRecords (state_words table pattern cut finder fault) (most_records (record { table = table; pattern = pattern; select = finder.walk.select }))
-state-records table pattern cut finder (Some fault) state window waiting =
-    let chain = chain_words finder.walk (Some fault) in (
-      records_before finder.walk.select,
-      omega arith,
-      omega (arith, ap length (append-nil chain), chain_record-length finder.walk.select 0, head_len-records finder.walk.select),
-    )
-state-records table pattern cut finder None state window waiting =
-    let kept = kept_places finder.walk in
-    let places = place_words kept in
-    let points = point_words finder.window.points in
-    let held = point_words finder.reorder.held in
-    let chain = chain_words finder.walk None in
-    let short : length kept ≤ finder.walk.state = omega (arith, length-drop (length finder.walk.places.items - finder.walk.state) finder.walk.places.items) in
-    let before = chain_record-length finder.walk.select finder.walk.last_end in (
-      records_before finder.walk.select + (length kept + (length finder.window.points + length finder.reorder.held)),
-      omega arith,
-      omega (arith, before, head_len-records finder.walk.select, length-append chain ((places ++ points) ++ held), length-append (places ++ points) held, length-append places points, place_words-length kept, point_words-length finder.window.points, point_words-length finder.reorder.held),
+pub state-records : StatesAreRecords → (s : Sought) (cut : CutState) (finder : Finder) (fault : Option TextFault) →
+    finder.walk.state ≤ length s.pattern.keys → length finder.window.points ≤ longest_mapped s.table → length finder.reorder.held ≤ 30 →
+    HasRecords (words (sizes_of s) (state_of s.pattern cut finder fault)) (most_records s)
+state-records law s cut finder (Some fault) state window waiting =
+    (records_before s.select, omega arith, omega (arith, law (sizes_of s) (reported fault), head_len-records s.select))
+state-records law s cut finder None state window waiting =
+    let places = length (saved_places (kept_places finder.walk)) in (
+      records_before s.select + (places + (length finder.window.points + length finder.reorder.held)),
+      omega (arith, kept-length finder.walk),
+      omega (arith, law (sizes_of s) (open_state s.pattern cut finder), head_len-records s.select),
     )
 
 -- ---- the whole state
 
-pub append-all : (table : TableMap) (pattern : Compiled) (cut : CutState) (finder : Finder) (fault : Option TextFault) (w0 w1 w2 w3 w4 w5 : List ℕ) →
-    is_some fault ≡ false →
-    w1 ≡ w0 ++ head_words table pattern cut finder fault →
-    w2 ≡ w1 ++ chain_words finder.walk fault →
-    w3 ≡ w2 ++ place_words (kept_places finder.walk) →
-    w4 ≡ w3 ++ point_words finder.window.points →
-    w5 ≡ w4 ++ point_words finder.reorder.held →
-    w5 ≡ w0 ++ state_words table pattern cut finder fault
-append-all table pattern cut finder (Some fault) w0 w1 w2 w3 w4 w5 none a b c d e = cc
-append-all table pattern cut finder None w0 w1 w2 w3 w4 w5 none a b c d e =
-    let head = head_words table pattern cut finder None in
-    let chain = chain_words finder.walk None in
-    let places = place_words (kept_places finder.walk) in
+pub front-same : (w0 w1 : List ℕ) (r q : Sizes) (h i : Head) (e f : ℕ) → r ≡ q → h ≡ i → e ≡ f → w1 ≡ w0 ++ (head_words r h ++ chain_record r.select e) → w1 ≡ w0 ++ (head_words q i ++ chain_record q.select f)
+front-same w0 w1 r q h i e f sizes head end a =
+    a ∙ ap (λ (x : Sizes). w0 ++ (head_words x h ++ chain_record x.select e)) sizes ∙ ap (λ (x : Head). w0 ++ (head_words q x ++ chain_record q.select e)) head
+    ∙ ap (λ n. w0 ++ (head_words q i ++ chain_record q.select n)) end
+
+pub append-reported : (s : Sought) (cut : CutState) (finder : Finder) (fault : Option TextFault) (w0 w1 : List ℕ) → is_some fault ≡ true →
+    (let state = state_of s.pattern cut finder fault in w1 ≡ w0 ++ (head_words (sizes_of s) (head_of state) ++ chain_record s.select state.last_end)) →
+    w1 ≡ w0 ++ words (sizes_of s) (state_of s.pattern cut finder fault)
+append-reported s cut finder None w0 w1 some a = cc
+append-reported s cut finder (Some fault) w0 w1 some a =
+    a ∙ ap (λ l. w0 ++ l) (sym (append-nil (head_words (sizes_of s) (head_of (reported fault)) ++ chain_record s.select 0)))
+
+pub append-all : (s : Sought) (cut : CutState) (finder : Finder) (fault : Option TextFault) (w0 w1 w2 w3 w4 : List ℕ) → is_some fault ≡ false →
+    (let state = state_of s.pattern cut finder fault in w1 ≡ w0 ++ (head_words (sizes_of s) (head_of state) ++ chain_record s.select state.last_end)) →
+    w2 ≡ w1 ++ place_words (saved_places (kept_places finder.walk)) →
+    w3 ≡ w2 ++ point_words finder.window.points →
+    w4 ≡ w3 ++ point_words finder.reorder.held →
+    w4 ≡ w0 ++ words (sizes_of s) (state_of s.pattern cut finder fault)
+append-all s cut finder (Some fault) w0 w1 w2 w3 w4 none a b c d = cc
+append-all s cut finder None w0 w1 w2 w3 w4 none a b c d =
+    let front = head_words (sizes_of s) (head_of (open_state s.pattern cut finder)) ++ chain_record s.select finder.walk.last_end in
+    let places = place_words (saved_places (kept_places finder.walk)) in
     let points = point_words finder.window.points in
     let held = point_words finder.reorder.held in
-    e ∙ ap (λ l. l ++ held) (d ∙ ap (λ l. l ++ points) (c ∙ ap (λ l. l ++ places) (b ∙ ap (λ l. l ++ chain) a)))
-    ∙ six w0 head chain places points held
+    d ∙ ap (λ l. l ++ held) (c ∙ ap (λ l. l ++ points) (b ∙ ap (λ l. l ++ places) a)) ∙ five w0 front places points held
   where
-    six : (w0 head chain places points held : List ℕ) → ((((w0 ++ head) ++ chain) ++ places) ++ points) ++ held ≡ w0 ++ ((head ++ chain) ++ ((places ++ points) ++ held))
-    six w0 head chain places points held = simp append_assoc
+    five : (w0 front places points held : List ℕ) → (((w0 ++ front) ++ places) ++ points) ++ held ≡ w0 ++ (front ++ ((places ++ points) ++ held))
+    five w0 front places points held = simp append_assoc
 
 pub on_err : {A E : Type 0} (r : Result A E) (P : Type 0) → P → OnErr r P
 on_err (Ok a) P p = tt
 on_err (Err e) P p = p
-
-pub under_err : {A E : Type 0} (r : Result A E) (P Q : Type 0) → (P → Q) → OnErr r P → OnErr r Q
-under_err (Ok a) P Q f p = tt
-under_err (Err e) P Q f p = f p

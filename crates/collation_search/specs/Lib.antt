@@ -6,10 +6,7 @@ pub mod Searching
 pub mod Search
 pub mod Feeding
 pub mod State
-pub mod Restoring
-pub mod StateTests
 pub mod Resuming
-pub mod WorkedStates
 pub mod Pieces
 pub mod Saving
 pub mod AsciiUnits

@@ -1,14 +1,10 @@
--- How many words a state has, and what stands in a list of words that an append left unfinished.
-use Rattle.std.specs.Prelude.{◌≡◌, ℕ, ◌+◌, ◌*◌, ◌≤◌, List, ◌++◌, length}
+-- How many words a state has.
+use Rattle.std.specs.Prelude.{◌≡◌, ℕ, ◌+◌, ◌*◌, ◌≤◌, List, length}
 use Rattle.nfd_points.specs.declared.limits.TheConstants.{MOST_WAITING}
 use Rattle.collation_table.specs.Table.{longest_mapped}
 use Rattle.collation_matches.specs.declared.select.Select.{Select}
 use Rattle.collation_matches.specs.declared.select.Select.TheVariants.{All, Chain}
 use Rattle.collation_matches.specs.Sought.{Sought}
-
--- the words before, and some after them
-abbrev pub BeginsWith : List ℕ → List ℕ → Type 0
-BeginsWith before after = (more : List ℕ) × (after ≡ before ++ more)
 
 -- whole records of four words, at most so many
 abbrev pub HasRecords : List ℕ → ℕ → Type 0

@@ -6,11 +6,11 @@
 //! characters and of others that it met, in places of a fixed number, and nothing that grows with the text. What it hands out is, in
 //! order, the answer of `collation_matches`: the minimal matches by equal sort keys or, up to the first fault, the settled ones.
 //!
-//! It stands on `collation_matches` (what a match is, and the laws about matches), `collation_pattern` (patterns, their borders, and the law that keys decide what sort keys decide),
+//! It stands on `collation_states` (which words are a saved state, and what they say), `collation_matches` (what a match is, and the laws
+//! about matches), `collation_pattern` (patterns, their borders, and the law that keys decide what sort keys decide),
 //! `collation_elements` (windows, units, items), `nfd_points` and `utf8_cut` (where a text is good), and `collation_table`.
-//! [`Search::save`] gives what a search holds as words, and [`Search::resume`] goes on from them; which words are a state
-//! stands in `specs/StateTests.antt`, with worked rows in [`worked_states`]. [`search_in_pieces`] has the whole in one contract:
-//! a text in any pieces, with a search that is saved, dropped and resumed after each.
+//! [`Search::save`] gives what a search holds as words, and [`Search::resume`] goes on from them. [`search_in_pieces`] has the whole in
+//! one contract: a text in any pieces, with a search that is saved, dropped and resumed after each.
 #![tactic(auto)]
 
 mod apart;
@@ -20,7 +20,6 @@ mod at_once;
 mod character_units;
 mod characters;
 mod combining;
-mod faults;
 mod feed;
 mod finder;
 mod indexing;
@@ -34,14 +33,11 @@ mod run_window;
 mod saving;
 mod search;
 mod sequences;
-mod state_points;
-mod states;
 mod walk;
-pub mod worked_states;
 
-pub use crate::faults::StateFault;
 pub use crate::indexing::index;
 pub use crate::matching::{Found, MOST_FOUND};
 pub use crate::pieces::{PiecesSearched, search_in_pieces};
 pub use crate::search::{MOST_BYTES, Search};
 pub use collation_matches::{Select, TextFault};
+pub use collation_states::{StateFault, worked_states};

@@ -6,13 +6,12 @@ ghost use Rattle.collation_search.specs.Resuming.{GoesOn};
 ghost use Rattle.collation_search.specs.Saving.{most_records};
 ghost use Rattle.collation_matches.specs.Sought.{IsCompiledFrom, answer_to};
 
-use crate::faults::StateFault;
 use crate::feed::hand_out;
 use crate::matching::Found;
 use crate::search::Search;
-use crate::states::RECORD_WORDS;
 use collation_matches::{Select, TextFault};
 use collation_pattern::Pattern;
+use collation_states::{RECORD_WORDS, StateFault};
 use collation_table::Weights;
 use std::alloc::{AllocError, Global};
 

@@ -12,13 +12,11 @@ use crate::finder::Finder;
 use crate::matching::Found;
 use collation_matches::{Select, TextFault, answers_in_time, matches_by_clusters};
 use collation_pattern::Pattern;
+pub use collation_states::MOST_BYTES;
 use collation_table::Weights;
 use nfd_points::laws::laws_of_faults;
 use std::alloc::{AllocError, Global};
 use utf8_cut::{Cut, Cutting, any_bytes_may_follow, whole_characters_are_the_longest_text};
-
-/// How many bytes a text may have.
-pub const MOST_BYTES: u64 = 1 << 62;
 
 /// What a search compares with: a table, and a pattern that was compiled with it.
 #[derive(Drop)]

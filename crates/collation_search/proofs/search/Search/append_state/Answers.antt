@@ -1,55 +1,53 @@
 -- The records of the state, one group after the other.
-use Rattle.std.proofs.Common.{◌≡◌, ◌++◌, sym, ap, ◌∙◌}
-use Rattle.collation_search.specs.State.{point_words}
-use Rattle.collation_search.specs.Saving.{BeginsWith}
-use Rattle.collation_search.proofs.SavingLemmas.{append-all, begins-all, begins-more, begins-through, on_err}
+use Rattle.std.proofs.Common.{◌++◌, sym, ap, ◌∙◌}
+use Rattle.collation_states.specs.Saving.{BeginsWith}
+use Rattle.collation_states.specs.State.{point_words}
+use Rattle.collation_search.specs.Search.{sought}
+use Rattle.collation_search.proofs.SavingLemmas.{front-same, append-reported, append-all, begins-all, begins-more, begins-through, on_err}
 use Rattle.collation_search.proofs.search.Search.append_state.Goals as goal
+
+pub returns-then-is_some-clause-saved : goal.returns-then-is_some-clause-saved
+returns-then-is_some-clause-saved g c =
+    let s = c.args.self.now in
+    append-reported (sought s) s.cut s.finder s.fault c.args.words.now.items c.append_head.new.words.items (sym c.is_some.ensures ∙ c.if-is_some.true)
+    (front-same _ _ _ _ _ _ _ _ c.sizes-sizes.ensures c.head.ensures.numbers c.last_end.ensures c.in_ok-append_head.ensures.saved)
 
 pub returns-in_err-append_places-clause-begun : goal.returns-in_err-append_places-clause-begun
 returns-in_err-append_places-clause-begun g c =
     let w0 = c.args.words.now.items in
-    let w1 = c.extend_from_slice.new.self.items in
-    let w2 = c.append_last_end.new.words.items in
+    let w1 = c.append_head.new.words.items in
     on_err c.from_residual-in_err-append_places.result (BeginsWith w0 c.append_places.new.words.items)
-    (begins-through w0 w2 c.append_places.new.words.items
-    (begins-more w0 w1 w2 _ (begins-more w0 w0 w1 c.head.result (begins-all w0) c.in_ok-extend_from_slice.ensures.items) c.in_ok-append_last_end.ensures.saved)
-    c.in_err-append_places.ensures.begun)
+    (begins-through w0 w1 c.append_places.new.words.items (begins-more w0 w0 w1 _ (begins-all w0) c.in_ok-append_head.ensures.saved) c.in_err-append_places.ensures.begun)
 
 pub returns-in_err-append_window-clause-begun : goal.returns-in_err-append_window-clause-begun
 returns-in_err-append_window-clause-begun g c =
     let w0 = c.args.words.now.items in
-    let w1 = c.extend_from_slice.new.self.items in
-    let w2 = c.append_last_end.new.words.items in
-    let w3 = c.append_places.new.words.items in
+    let w1 = c.append_head.new.words.items in
+    let w2 = c.append_places.new.words.items in
     on_err c.from_residual-in_err-append_window.result (BeginsWith w0 c.append_window.new.words.items)
-    (begins-through w0 w3 c.append_window.new.words.items
-    (begins-more w0 w2 w3 _ (begins-more w0 w1 w2 _ (begins-more w0 w0 w1 c.head.result (begins-all w0) c.in_ok-extend_from_slice.ensures.items) c.in_ok-append_last_end.ensures.saved)
-    c.in_ok-append_places.ensures.saved)
+    (begins-through w0 w2 c.append_window.new.words.items
+    (begins-more w0 w1 w2 _ (begins-more w0 w0 w1 _ (begins-all w0) c.in_ok-append_head.ensures.saved) c.in_ok-append_places.ensures.saved)
     c.in_err-append_window.ensures.begun)
 
 pub returns-in_err-append_points-clause-begun : goal.returns-in_err-append_points-clause-begun
 returns-in_err-append_points-clause-begun g c =
     let w0 = c.args.words.now.items in
-    let w1 = c.extend_from_slice.new.self.items in
-    let w2 = c.append_last_end.new.words.items in
-    let w3 = c.append_places.new.words.items in
-    let w4 = c.append_window.new.words.items in
+    let w1 = c.append_head.new.words.items in
+    let w2 = c.append_places.new.words.items in
+    let w3 = c.append_window.new.words.items in
     on_err c.from_residual-in_err-append_points.result (BeginsWith w0 c.append_points.new.words.items)
-    (begins-through w0 w4 c.append_points.new.words.items
-    (begins-more w0 w3 w4 _
-    (begins-more w0 w2 w3 _ (begins-more w0 w1 w2 _ (begins-more w0 w0 w1 c.head.result (begins-all w0) c.in_ok-extend_from_slice.ensures.items) c.in_ok-append_last_end.ensures.saved)
-    c.in_ok-append_places.ensures.saved)
+    (begins-through w0 w3 c.append_points.new.words.items
+    (begins-more w0 w2 w3 _
+    (begins-more w0 w1 w2 _ (begins-more w0 w0 w1 _ (begins-all w0) c.in_ok-append_head.ensures.saved) c.in_ok-append_places.ensures.saved)
     c.in_ok-append_window.ensures.saved)
     c.in_err-append_points.ensures.begun)
 
 pub returns-clause-saved : goal.returns-clause-saved
 returns-clause-saved g c =
     let s = c.args.self.now in
-    let head : c.extend_from_slice.new.self.items ≡ c.args.words.now.items ++ c.head.result = c.in_ok-extend_from_slice.ensures.items in
-    append-all (g.W.Weights.table s.query.table.now) s.query.pattern.now s.cut s.finder s.fault
-    c.args.words.now.items c.extend_from_slice.new.self.items c.append_last_end.new.words.items c.append_places.new.words.items c.append_window.new.words.items c.append_points.new.words.items
+    append-all (sought s) s.cut s.finder s.fault
+    c.args.words.now.items c.append_head.new.words.items c.append_places.new.words.items c.append_window.new.words.items c.append_points.new.words.items
     (sym c.is_some.ensures ∙ c.if-is_some.false)
-    (rw (sym c.head.ensures.words) head)
-    c.in_ok-append_last_end.ensures.saved
+    (front-same _ _ _ _ _ _ _ _ c.sizes-sizes.ensures c.head.ensures.numbers c.last_end.ensures c.in_ok-append_head.ensures.saved)
     c.in_ok-append_places.ensures.saved c.in_ok-append_window.ensures.saved
     (c.in_ok-append_points.ensures.saved ∙ ap (λ ps. c.append_window.new.words.items ++ point_words ps) c.waiting.ensures.value)

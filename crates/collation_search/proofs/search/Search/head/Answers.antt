@@ -1,14 +1,15 @@
 -- How many records the state has.
 use Rattle.std.proofs.Common.{arith}
+use Rattle.collation_search.specs.Search.{sought}
 use Rattle.collation_search.proofs.SavingLemmas.{state-records}
 use Rattle.collation_search.proofs.search.Search.head.Goals as goal
 
 pub returns-in-Some-clause-few : goal.returns-in-Some-clause-few
 returns-in-Some-clause-few g c =
     let s = c.args.self.now in
-    state-records (g.W.Weights.table s.query.table.now) s.query.pattern.now s.cut s.finder s.fault (omega arith) (omega arith) c.waiting-waiting.ensures.held.few
+    state-records c.laws_of_states.ensures.records (sought s) s.cut s.finder s.fault (omega arith) (omega arith) c.waiting-waiting.ensures.held.few
 
 pub returns-clause-few : goal.returns-clause-few
 returns-clause-few g c =
     let s = c.args.self.now in
-    state-records (g.W.Weights.table s.query.table.now) s.query.pattern.now s.cut s.finder s.fault (omega arith) (omega arith) c.waiting-waiting.ensures.held.few
+    state-records c.laws_of_states.ensures.records (sought s) s.cut s.finder s.fault (omega arith) (omega arith) c.waiting-waiting.ensures.held.few

@@ -1,6 +1,0 @@
--- By computing.
-use Rattle.collation_search.proofs.WorkedStateLemmas.{accepted_lem}
-use Rattle.collation_search.proofs.worked_states.accepted_states.Goals as goal
-
-pub returns : goal.returns
-returns c = accepted_lem
