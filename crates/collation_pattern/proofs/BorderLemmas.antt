@@ -1,7 +1,8 @@
 -- Borders, key by key: what ends a list is followed through one key more, and from one candidate to the next shorter one.
-use Rattle.std.proofs.Common.{◌≡◌, ℕ, zero, suc, ◌+◌, ◌-◌, ◌<◌, ◌≤◌, ◌≢◌, true, false, List, [], ◌∷◌, ◌++◌, length, take, drop, get_or, min, refl, sym, ap, ◌∙◌, subst, arith, inl, inr, append_assoc, length-append, length-drop}
+use Rattle.std.proofs.Common.{◌≡◌, ℕ, zero, suc, ◌+◌, ◌-◌, ◌<◌, ◌≤◌, ◌≢◌, true, false, List, [], ◌∷◌, ◌++◌, length, take, drop, get_or, min, refl, sym, ap, ◌∙◌, subst, arith, inl, inr, Some, slice_get, append_assoc, length-append, length-drop}
 use Rattle.std.proofs.lemmas.Bool.{cond-true, cond-false, cases_Bool, cases_lt}
 use Rattle.std.proofs.lemmas.List.{append-nil, length-take, length-take-le, take-append-drop, drop_at, drop-drop, take_more, same_from_push, length_push, get_or_push, get_or_append_left, drop-append-le}
+use Rattle.std.proofs.lemmas.Option.{slice_get-get_or}
 use Rattle.collation_elements.specs.declared.keys.Key.{Key}
 use Rattle.collation_pattern.specs.Border.{same_keys, ends_with_prefix, border_up_to, border}
 use Rattle.collation_pattern.specs.Borders.{AreBorders, IsNext}
@@ -120,6 +121,14 @@ border-few pattern ks = omega (arith, up_to-le pattern ks (min (length pattern) 
 
 border-ends : (pattern ks : List Key) → Ends (take (border pattern ks) pattern) ks
 border-ends pattern ks = up_to-ends pattern ks (min (length pattern) (length ks))
+
+pub border-last : (pattern ks : List Key) (key : Key) (n : ℕ) → border pattern (ks ++ key ∷ []) ≡ suc n → slice_get pattern n ≡ Some key
+border-last pattern ks key n at =
+    let below : n < length pattern = omega (arith, at, border-within pattern (ks ++ key ∷ [])) in
+    let last = get_or pattern n key in
+    let ends = subst (λ i. Ends (take i pattern) (ks ++ key ∷ [])) (at ∙ omega arith) (border-ends pattern (ks ++ key ∷ [])) in
+    let popped = ends_pop (take n pattern) ks last key (subst (λ (l : List Key). Ends l (ks ++ key ∷ [])) (take_more pattern n key below) ends) in
+    slice_get-get_or pattern n key below ∙ ap (λ k. Some k) popped.1
 
 border-most : (pattern ks : List Key) (j : ℕ) → j ≤ length pattern → Ends (take j pattern) ks → j ≤ border pattern ks
 border-most pattern ks j within h =

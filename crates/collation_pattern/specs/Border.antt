@@ -1,5 +1,5 @@
 -- Borders: how much of a pattern's keys ends a list of keys.
-use Rattle.std.specs.Prelude.{ℕ, zero, suc, ◌-◌, Bool, true, false, ◌&&◌, ◌==◌, List, [], ◌∷◌, take, drop, length, min, if◌then◌else◌}
+use Rattle.std.specs.Prelude.{◌≡◌, ◌++◌, Some, slice_get, ℕ, zero, suc, ◌-◌, Bool, true, false, ◌&&◌, ◌==◌, List, [], ◌∷◌, take, drop, length, min, if◌then◌else◌}
 use Rattle.collation_elements.specs.declared.keys.Key.{Key}
 use Rattle.collation_elements.specs.declared.keys.Key.TheVariants.{Primary, Pair, Secondary, Tertiary}
 
@@ -27,3 +27,8 @@ border_up_to pattern ks (suc j) =
 -- the length of the longest prefix of the pattern's keys that ends these keys
 abbrev pub border : List Key → List Key → ℕ
 border pattern ks = border_up_to pattern ks (min (length pattern) (length ks))
+
+-- where a prefix of the pattern ends the keys, its last key is the last of them
+abbrev pub PrefixesEndWithTheLastKey : Type 0
+PrefixesEndWithTheLastKey =
+    (pattern ks : List Key) (key : Key) (n : ℕ) → border pattern (ks ++ key ∷ []) ≡ suc n → slice_get pattern n ≡ Some key

@@ -1,5 +1,6 @@
-//! Laws of sort keys and lists of keys.
+//! Laws of sort keys, lists of keys, and borders.
 
+ghost use Rattle.collation_pattern.specs.Border.{PrefixesEndWithTheLastKey};
 ghost use Rattle.collation_pattern.specs.KeyLaw.{KeyLaw, SortKeyIsLevels};
 
 use collation_table::Weights;
@@ -12,3 +13,8 @@ pub fn key_law<W: Weights>(table: &W)
 {
     laws_of_points();
 }
+
+/// Where a prefix of a pattern ends a list of keys, its last key is the last of the list.
+pub fn prefixes_end_with_the_last_key()
+    ensures { PrefixesEndWithTheLastKey }
+{}

@@ -1,0 +1,147 @@
+-- What is found of a character's points is its letter.
+use Rattle.std.specs.Option.{ForSome, IfSome}
+use Rattle.std.specs.List.{All}
+use Rattle.std.proofs.Common.{◌≡◌, ◌≢◌, ◌∙◌, ℕ, ◌+◌, ◌≤◌, Bool, true, false, cond, List, [], ◌∷◌, ◌++◌, length, map, slice_get, Option, Some, None, refl, sym, ap, ap₂, subst, arith}
+use Rattle.std.proofs.lemmas.List.{append-nil}
+use Rattle.std.proofs.lemmas.List.Elements.{All-map}
+use Rattle.nfd_points.specs.declared.points.Point.{Point}
+use Rattle.nfd_points.specs.Points.{decomposition, points_at, points_of, points_from, shifted, is_in_order, begins_with_starter}
+use Rattle.nfd_points.specs.Laws.{DecompositionsAreShort, DecompositionsAreInOrder}
+use Rattle.collation_table.specs.Table.{TableMap, BeginsNoLongerString}
+use Rattle.collation_elements.specs.declared.keys.Key.{Key}
+use Rattle.collation_elements.specs.declared.keys.Item.TheVariants.{ClusterStart, Element}
+use Rattle.collation_elements.specs.declared.character.CharacterItems.{CharacterItems}
+use Rattle.collation_elements.specs.CharacterItems.{AreItemsOfPoints, character_keys}
+use Rattle.collation_elements.specs.Units.{units}
+use Rattle.collation_elements.specs.Items.{items as items_of}
+use Rattle.collation_elements.specs.ItemParts.{item_keys}
+use Rattle.collation_elements.specs.Weighing.{weigher, after_units}
+use Rattle.collation_pattern.specs.Compiled.{Compiled}
+use Rattle.collation_letters.specs.declared.letter.Letter.{Letter}
+use Rattle.collation_letters.specs.declared.letter.Role.{Role}
+use Rattle.collation_letters.specs.declared.letter.Role.TheVariants.{Steps, Base, VariableBase, Silent, PrimaryMark, Mark}
+use Rattle.collation_letters.specs.Symbols.{AreLastSymbols, listed}
+use Rattle.collation_letters.specs.Letters.{begins_cluster, not_mark, flag_after, counted, here, keys_alone, AreClosed, AreApart, IsPossible, HaveItems, IsKnown, IsLetter}
+use Rattle.collation_letters.specs.Finding.{IsLastClass, IsAs, HasRole}
+use Rattle.collation_letters.proofs.SymbolLemmas.{last-nil}
+
+-- ---- the points of one character
+
+pub from-one : (start c : ℕ) → points_from start (c ∷ []) ≡ points_of start c
+unfolding points_from
+from-one start c = append-nil (points_of start c)
+
+many_at : (start : ℕ) (first : Bool) (ds : List ℕ) → length (points_at start first ds) ≡ length ds
+unfolding points_at
+many_at start first [] = refl
+many_at start first (d ∷ ds) = omega (arith, many_at start false ds)
+
+pub few-points : DecompositionsAreShort → (start c : ℕ) → length (points_of start c) ≤ 30
+few-points law start c =
+    let few = (law c).1 in
+    let same = many_at start true (decomposition c) in omega (arith, few, same)
+
+pub some-points : DecompositionsAreShort → (start c : ℕ) → 1 ≤ length (points_of start c)
+some-points law start c =
+    let some = (law c).0 in
+    let same = many_at start true (decomposition c) in omega (arith, some, same)
+
+-- ---- units
+
+abbrev pub AloneLaw : Type 0
+AloneLaw =
+    (table : TableMap) (ps more : List Point) → All (λ p. BeginsNoLongerString table p.cp) ps → units table (ps ++ more) ≡ units table ps ++ units table more
+
+pub closed-alone : AloneLaw → (table : TableMap) (ps : List Point) → All (λ p. BeginsNoLongerString table p.cp) ps → AreClosed table ps
+closed-alone law table ps h = λ start more. law table (here start ps) more (All-map (λ p. BeginsNoLongerString table p.cp) (shifted start) ps h)
+
+-- ---- items
+
+item_keys-map : (ks : List Key) → item_keys (map (λ key. Element key) ks) ≡ ks
+item_keys-map [] = refl
+item_keys-map (k ∷ ks) = ap (λ (rest : List Key). k ∷ rest) (item_keys-map ks)
+
+keys-given : (begins : Bool) (start : ℕ) (ks : List Key) → item_keys (cond begins (ClusterStart start ∷ []) [] ++ map (λ key. Element key) ks) ≡ ks
+keys-given true start ks = item_keys-map ks
+keys-given false start ks = item_keys-map ks
+
+-- points with these items
+pub have-keys : (table : TableMap) (pattern : Compiled) (ps : List Point) (after begins : Bool) (ks : List Key) (ss : List ℕ) (flag : Bool) →
+    ((start : ℕ) → items_of table pattern.strength pattern.variable after (units table (here start ps)) ≡ cond begins (ClusterStart start ∷ []) [] ++ map (λ key. Element key) ks) →
+    ((start : ℕ) → after_units table pattern.variable after (units table (here start ps)) ≡ flag) → AreLastSymbols pattern.keys ks ss → HaveItems table pattern ps after begins ss flag
+have-keys table pattern ps after begins ks ss flag items flag_is symbols =
+    let same : keys_alone table pattern ps after ≡ ks = ap item_keys (items 0) ∙ keys-given begins 0 ks in
+    record {
+      items = λ start. items start ∙ ap (λ (ls : List Key). cond begins (ClusterStart start ∷ []) [] ++ map (λ key. Element key) ls) (sym same);
+      flag_is = flag_is;
+      symbols_are = subst (λ (ls : List Key). AreLastSymbols pattern.keys ls ss) (sym same) symbols;
+    }
+
+counted-symbols : (pattern ks : List Key) (ss : List ℕ) (role : Role) (after : Bool) → AreLastSymbols pattern ks ss → AreLastSymbols pattern (counted role after ks) (counted role after ss)
+counted-symbols pattern ks ss Steps after h = h
+counted-symbols pattern ks ss Base after h = h
+counted-symbols pattern ks ss VariableBase after h = h
+counted-symbols pattern ks ss Silent after h = h
+counted-symbols pattern ks ss PrimaryMark after h = h
+counted-symbols pattern ks ss Mark false h = h
+counted-symbols pattern ks ss Mark true h = last-nil pattern
+
+have-items : (table : TableMap) (pattern : Compiled) (ps : List Point) (plain it : CharacterItems) (role : Role) (after : Bool) (ss : List ℕ) → IsAs plain role after it →
+    AreItemsOfPoints table (weigher pattern.strength pattern.variable after) ps it → AreLastSymbols pattern.keys (character_keys plain) ss →
+    HaveItems table pattern ps after (begins_cluster role) (counted role after ss) (flag_after role after)
+have-items table pattern ps plain it role after ss is are symbols =
+    have-keys table pattern ps after (begins_cluster role) (counted role after (character_keys plain)) (counted role after ss) (flag_after role after)
+    (λ start. are.0 start ∙ ap₂ (λ b (ks : List Key). cond b (ClusterStart start ∷ []) [] ++ map (λ key. Element key) ks) is.0 is.1.1)
+    (λ start. are.1 start ∙ is.1.0) (counted-symbols pattern.keys (character_keys plain) ss role after symbols)
+
+-- what is known of the items where the flag is this
+abbrev pub HasItems : TableMap → Compiled → List Point → CharacterItems → Option CharacterItems → Type 0
+HasItems table pattern ps plain after =
+    AreItemsOfPoints table (weigher pattern.strength pattern.variable false) ps plain
+    × (IsPossible pattern.variable true → IfSome after (AreItemsOfPoints table (weigher pattern.strength pattern.variable true) ps) × (after ≢ None))
+
+items_at : (table : TableMap) (pattern : Compiled) (ps : List Point) (plain : CharacterItems) (after : Option CharacterItems) (role : Role) (ss : List ℕ) (flag : Bool) → HasItems table pattern ps plain after →
+    HasRole ps plain after role → AreLastSymbols pattern.keys (character_keys plain) ss → IsPossible pattern.variable flag →
+    HaveItems table pattern ps flag (begins_cluster role) (counted role flag ss) (flag_after role flag)
+items_at table pattern ps plain after role ss false are has symbols possible = have-items table pattern ps plain plain role false ss has.1.1.0 are.0 symbols
+items_at table pattern ps plain (Some it) role ss true are has symbols possible =
+    have-items table pattern ps plain it role true ss (has.1.1.1 it refl) (are.1 possible).0 symbols
+items_at table pattern ps plain None role ss true are has symbols possible = absurd ((are.1 possible).1 refl)
+
+-- ---- letters
+
+pub letter-at : (table : TableMap) (pattern : Compiled) (cs : List ℕ) (ps : List Point) (l : Letter) → ps ≡ points_from 0 cs → (l.is_closed ≡ true → AreClosed table ps) →
+    (l.is_apart ≡ true → AreApart table ps) → (l.role ≢ Steps → IsKnown table pattern ps l) → IsLetter table pattern cs l
+letter-at table pattern cs ps l same closed apart known =
+    record {
+      closed = λ yes. subst (AreClosed table) same (closed yes);
+      apart = λ yes. subst (AreApart table) same (apart yes);
+      known = λ some. subst (λ (qs : List Point). IsKnown table pattern qs l) same (known some);
+    }
+
+pub known-at : (table : TableMap) (pattern : Compiled) (ps : List Point) (l : Letter) (plain : CharacterItems) (after : Option CharacterItems) → 1 ≤ length ps → length ps ≤ 30 → is_in_order ps ≡ true →
+    l.points ≡ length ps → IsLastClass ps l.class → HasItems table pattern ps plain after → HasRole ps plain after l.role → AreLastSymbols pattern.keys (character_keys plain) (listed l.symbols) →
+    IsKnown table pattern ps l
+known-at table pattern ps l plain after some few in_order count class are has symbols =
+    record {
+      some = some;
+      in_order = in_order;
+      count = count;
+      few = few;
+      class = class;
+      starter = has.0;
+      one = has.1.0;
+      items = λ flag possible. items_at table pattern ps plain after l.role (listed l.symbols) flag are has symbols possible;
+    }
+
+-- ---- how they begin
+
+apart-begins : (table : TableMap) (ps : List Point) → AreApart table ps → begins_with_starter ps ≡ true
+apart-begins table [] h = refl
+apart-begins table (p ∷ ps) h = (h p refl).0
+
+pub letter-apart : (table : TableMap) (pattern : Compiled) (cs : List ℕ) (l : Letter) → l.is_apart ≡ true → IsLetter table pattern cs l → begins_with_starter (points_from 0 cs) ≡ true
+letter-apart table pattern cs l apart h = apart-begins table (points_from 0 cs) (h.apart apart)
+
+pub letter-starter : (table : TableMap) (pattern : Compiled) (cs : List ℕ) (l : Letter) → l.role ≢ Steps → not_mark l.role ≡ true → IsLetter table pattern cs l → begins_with_starter (points_from 0 cs) ≡ true
+letter-starter table pattern cs l known starter h = (h.known known).starter ∙ starter

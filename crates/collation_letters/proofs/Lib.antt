@@ -1,0 +1,3 @@
+pub mod SymbolLemmas
+pub mod LetterLemmas
+pub mod JoiningLemmas

@@ -1,0 +1,60 @@
+use Rattle.std.proofs.Common.{◌≡◌, ◌∙◌, List, [], ◌∷◌, ◌++◌, true, refl, sym, ap, ap₂, subst}
+use Rattle.std.proofs.lemmas.List.{append-nil}
+use Rattle.collation_elements.specs.declared.keys.Key.{Key}
+use Rattle.collation_letters.specs.Letters.{begins_cluster, is_mark, flag_after, counted}
+use Rattle.collation_letters.specs.Symbols.{AreLastSymbols, listed}
+use Rattle.collation_letters.proofs.SymbolLemmas.{last-none}
+use Rattle.collation_letters.proofs.joining.joined.Goals as goal
+
+pub returns-in-VariableBase-Mark : goal.returns-in-VariableBase-Mark
+returns-in-VariableBase-Mark c =
+    let base = c.in-VariableBase-Mark.is-0 in
+    let mark = c.in-VariableBase-Mark.is-1 in
+    record {
+      base_begins = ap begins_cluster base;
+      mark_joins = ap is_mark mark;
+      begins = refl;
+      flag = λ after. sym (ap (λ r. flag_after r (flag_after c.args.base.role after)) mark ∙ ap (λ r. flag_after r after) base);
+      symbols = λ pattern keys later after h k.
+          let flag : flag_after c.args.base.role after ≡ true = ap (λ r. flag_after r after) base in
+          let none : counted c.args.mark.role (flag_after c.args.base.role after) (listed c.args.mark.symbols) ≡ [] =
+          ap₂ (λ r b. counted r b (listed c.args.mark.symbols)) mark flag in
+          let nothing = last-none pattern later (subst (λ l. AreLastSymbols pattern later l) none k) in
+          subst (λ (l : List Key). AreLastSymbols pattern l (listed c.args.base.symbols)) (sym (ap (λ (l : List Key). keys ++ l) nothing ∙ append-nil keys)) h;
+    }
+
+pub returns-in_ok-with_all-in-Base-PrimaryMark : goal.returns-in_ok-with_all-in-Base-PrimaryMark
+returns-in_ok-with_all-in-Base-PrimaryMark c =
+    let base = c.in-Base-PrimaryMark.is-0 in
+    let mark = c.in-Base-PrimaryMark.is-1 in
+    record {
+      base_begins = ap begins_cluster base;
+      mark_joins = ap is_mark mark;
+      begins = refl;
+      flag = λ after. sym (ap (λ r. flag_after r (flag_after c.args.base.role after)) mark);
+      symbols = λ pattern keys later after h k. c.in_ok-with_all-in-Base-PrimaryMark.ensures pattern keys later h (subst (λ l. AreLastSymbols pattern later l) (ap (λ r. counted r (flag_after c.args.base.role after) (listed c.args.mark.symbols)) mark) k);
+    }
+
+pub returns-in_ok-with_all-in-Base-Mark : goal.returns-in_ok-with_all-in-Base-Mark
+returns-in_ok-with_all-in-Base-Mark c =
+    let base = c.in-Base-Mark.is-0 in
+    let mark = c.in-Base-Mark.is-1 in
+    record {
+      base_begins = ap begins_cluster base;
+      mark_joins = ap is_mark mark;
+      begins = refl;
+      flag = λ after. sym (ap₂ (λ r b. flag_after r b) mark (ap (λ r. flag_after r after) base));
+      symbols = λ pattern keys later after h k. c.in_ok-with_all-in-Base-Mark.ensures pattern keys later h (subst (λ l. AreLastSymbols pattern later l) (ap₂ (λ r b. counted r b (listed c.args.mark.symbols)) mark (ap (λ r. flag_after r after) base)) k);
+    }
+
+pub returns-in_ok-with_all-in-VariableBase-PrimaryMark : goal.returns-in_ok-with_all-in-VariableBase-PrimaryMark
+returns-in_ok-with_all-in-VariableBase-PrimaryMark c =
+    let base = c.in-VariableBase-PrimaryMark.is-0 in
+    let mark = c.in-VariableBase-PrimaryMark.is-1 in
+    record {
+      base_begins = ap begins_cluster base;
+      mark_joins = ap is_mark mark;
+      begins = refl;
+      flag = λ after. sym (ap (λ r. flag_after r (flag_after c.args.base.role after)) mark);
+      symbols = λ pattern keys later after h k. c.in_ok-with_all-in-VariableBase-PrimaryMark.ensures pattern keys later h (subst (λ l. AreLastSymbols pattern later l) (ap (λ r. counted r (flag_after c.args.base.role after) (listed c.args.mark.symbols)) mark) k);
+    }

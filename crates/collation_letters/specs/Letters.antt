@@ -1,0 +1,108 @@
+-- What a letter says of the characters that it stands for, wherever they stand.
+use Rattle.std.specs.Prelude.{◌≡◌, ◌≢◌, ℕ, ◌≤◌, Bool, true, false, not, List, [], ◌∷◌, ◌++◌, map, length, slice_get, if◌then◌else◌}
+use Rattle.std.specs.Option.{ForSome}
+use Rattle.nfd_points.specs.declared.limits.TheConstants.{MOST_WAITING}
+use Rattle.nfd_points.specs.declared.points.Point.{Point}
+use Rattle.nfd_points.specs.Points.{points_from, shifted, is_starter, begins_with_starter, is_in_order}
+use Rattle.collation_table.specs.Table.{TableMap, ContinuesNoString}
+use Rattle.collation_elements.specs.declared.keys.Key.{Key}
+use Rattle.collation_elements.specs.declared.keys.Item.{Item}
+use Rattle.collation_elements.specs.declared.keys.Item.TheVariants.{ClusterStart, Element}
+use Rattle.collation_elements.specs.declared.settings.Variable.{Variable}
+use Rattle.collation_elements.specs.declared.settings.Variable.TheVariants.{NonIgnorable}
+use Rattle.collation_elements.specs.Units.{units}
+use Rattle.collation_elements.specs.Items.{items as items_of}
+use Rattle.collation_elements.specs.ItemParts.{item_keys}
+use Rattle.collation_elements.specs.Weighing.{after_units}
+use Rattle.collation_pattern.specs.Compiled.{Compiled}
+use Rattle.collation_letters.specs.declared.letter.Letter.{Letter}
+use Rattle.collation_letters.specs.declared.letter.Role.{Role}
+use Rattle.collation_letters.specs.declared.letter.Role.TheVariants.{Steps, Base, VariableBase, Silent, PrimaryMark, Mark}
+use Rattle.collation_letters.specs.Symbols.{AreLastSymbols, listed}
+
+-- ---- roles
+
+abbrev pub begins_cluster : Role → Bool
+begins_cluster Steps = false
+begins_cluster Base = true
+begins_cluster VariableBase = true
+begins_cluster Silent = false
+begins_cluster PrimaryMark = false
+begins_cluster Mark = false
+
+abbrev pub is_mark : Role → Bool
+is_mark Steps = false
+is_mark Base = false
+is_mark VariableBase = false
+is_mark Silent = false
+is_mark PrimaryMark = true
+is_mark Mark = true
+
+abbrev pub not_mark : Role → Bool
+not_mark role = not (is_mark role)
+
+-- Whether, after characters of the role, the last element that was variable or primary was variable, where `after` says so of
+-- what stands before them.
+abbrev pub flag_after : Role → Bool → Bool
+flag_after Steps after = after
+flag_after Base after = false
+flag_after VariableBase after = true
+flag_after Silent after = after
+flag_after PrimaryMark after = false
+flag_after Mark after = after
+
+-- what counts of what characters of the role have: behind a variable element nothing of a mark without a primary weight
+abbrev pub counted : {A : Type 0} → Role → Bool → List A → List A
+counted Mark true xs = []
+counted role after xs = xs
+
+-- ---- characters by themselves, the first of which stands at an offset
+
+abbrev pub here : ℕ → List Point → List Point
+here start ps = map (shifted start) ps
+
+-- no unit reaches from these points to what follows
+abbrev pub AreClosed : TableMap → List Point → Type 0
+AreClosed table ps = (start : ℕ) (more : List Point) → units table (here start ps ++ more) ≡ units table (here start ps) ++ units table more
+
+-- no unit reaches into them: the first is a starter that stands in no mapped string after the first place
+abbrev pub AreApart : TableMap → List Point → Type 0
+AreApart table ps = ForSome (slice_get ps 0) (λ p. (is_starter p ≡ true) × ContinuesNoString table p.cp)
+
+-- in non-ignorable weighting no element counts as variable
+abbrev pub IsPossible : Variable → Bool → Type 0
+IsPossible variable after = variable ≡ NonIgnorable → after ≡ false
+
+-- the keys of these points by themselves, where `after` says whether the last element before them that was variable or primary was
+-- variable
+abbrev pub keys_alone : TableMap → Compiled → List Point → Bool → List Key
+keys_alone table pattern ps after = item_keys (items_of table pattern.strength pattern.variable after (units table (here 0 ps)))
+
+-- The items of these points by themselves, where `after` says whether the last element before them that was variable or primary was
+-- variable: a cluster begins or not, and keys with these symbols follow; and that flag after them.
+pub record HaveItems (table : TableMap) (pattern : Compiled) (ps : List Point) (after begins : Bool) (symbols : List ℕ) (flag : Bool) : Type 0 where
+  pub items : (start : ℕ) → let begun : List Item = ClusterStart start ∷ [] in
+      items_of table pattern.strength pattern.variable after (units table (here start ps)) ≡ (if begins then begun else []) ++ map (λ key. Element key) (keys_alone table pattern ps after)
+  pub flag_is : (start : ℕ) → after_units table pattern.variable after (units table (here start ps)) ≡ flag
+  pub symbols_are : AreLastSymbols pattern.keys (keys_alone table pattern ps after) symbols
+
+-- ---- letters
+
+-- What a letter says that is not left to the steps: the points of the characters are in canonical order, so many, too few for a
+-- run of non-starters that is a fault, the last of this class; they begin with a starter, or are one non-starter; and their items are as its role and its symbols say.
+pub record IsKnown (table : TableMap) (pattern : Compiled) (ps : List Point) (l : Letter) : Type 0 where
+  pub some : 1 ≤ length ps
+  pub in_order : is_in_order ps ≡ true
+  pub count : l.points ≡ length ps
+  pub few : length ps ≤ MOST_WAITING
+  pub class : (before : List Point) (last : Point) → ps ≡ before ++ last ∷ [] → l.class ≡ last.ccc
+  pub starter : begins_with_starter ps ≡ not_mark l.role
+  pub one : is_mark l.role ≡ true → length ps ≡ 1
+  pub items : (after : Bool) → IsPossible pattern.variable after
+      → HaveItems table pattern ps after (begins_cluster l.role) (counted l.role after (listed l.symbols)) (flag_after l.role after)
+
+-- The letter of some characters.
+pub record IsLetter (table : TableMap) (pattern : Compiled) (cs : List ℕ) (l : Letter) : Type 0 where
+  pub closed : l.is_closed ≡ true → AreClosed table (points_from 0 cs)
+  pub apart : l.is_apart ≡ true → AreApart table (points_from 0 cs)
+  pub known : l.role ≢ Steps → IsKnown table pattern (points_from 0 cs) l

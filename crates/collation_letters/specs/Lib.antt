@@ -1,0 +1,5 @@
+pub mod Symbols
+pub mod Letters
+pub mod Finding
+pub mod Joining
+pub mod Store

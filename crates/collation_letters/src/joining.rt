@@ -1,0 +1,62 @@
+//! A mark joins the letter before it.
+ghost use Rattle.std.specs.Prelude.{IfSome};
+ghost use Rattle.collation_letters.specs.Joining.{Joins};
+
+use crate::letter::{Letter, Role};
+use crate::symbols::Symbols;
+use nfd_points::laws::laws_of_points;
+
+/// The most points of a letter: so many non-starters in a row are no fault.
+pub const MOST_POINTS: u8 = 30;
+
+impl Letter {
+    ghost use Rattle.std.specs.Prelude.{◌∷◌, ◌++◌, ℕ, List, [], IfSome};
+    ghost use Rattle.collation_table.specs.Table.{TableMap};
+    ghost use Rattle.collation_pattern.specs.Compiled.{Compiled};
+    ghost use Rattle.collation_letters.specs.Letters.{IsLetter};
+
+    /// The letter of these characters and a mark that follows them; `None` where that is left to the steps: where a unit may reach
+    /// from one to the other, the mark's class is below that of the last point, so that it goes before it, or there is no room.
+    #[inline(always)]
+    pub fn with_mark(self, mark: Letter) -> Option<Letter>
+        ensures { IfSome result (λ both. (table : TableMap) (pattern : Compiled) (cs : List ℕ) (c : ℕ)
+            → IsLetter table pattern cs self → IsLetter table pattern (c ∷ []) mark
+            → IsLetter table pattern (cs ++ c ∷ []) both) }
+    {
+        laws_of_points();
+        if !self.is_closed
+            || !mark.is_closed
+            || mark.class < self.class
+            || self.points >= MOST_POINTS
+        {
+            return None;
+        }
+        let (role, symbols) = joined(self, mark)?;
+        Some(Letter {
+            role,
+            is_closed: true,
+            is_apart: self.is_apart,
+            points: self.points + 1,
+            class: mark.class,
+            symbols,
+        })
+    }
+}
+
+/// The role and the symbols of a letter that begins a cluster and a mark that follows it.
+#[inline(always)]
+fn joined(base: Letter, mark: Letter) -> Option<(Role, Symbols)>
+    ensures { IfSome result (Joins base mark) }
+{
+    match (base.role, mark.role) {
+        (Role::Base, Role::PrimaryMark) => {
+            Some((Role::Base, base.symbols.with_all(mark.symbols)?))
+        }
+        (Role::Base, Role::Mark) => Some((Role::Base, base.symbols.with_all(mark.symbols)?)),
+        (Role::VariableBase, Role::PrimaryMark) => {
+            Some((Role::Base, base.symbols.with_all(mark.symbols)?))
+        }
+        (Role::VariableBase, Role::Mark) => Some((Role::VariableBase, base.symbols)),
+        _ => None,
+    }
+}

@@ -1,0 +1,15 @@
+//! Laws of symbols: each is the contract of a function that does nothing.
+ghost use Rattle.collation_letters.specs.Symbols.{NoSymbolIsOfNoKey, NothingWaitsBehindForeignKeys, OneSymbolIsOfTheLastKey, SymbolsAreListed, SymbolsComeInTurn};
+
+use collation_pattern::laws::prefixes_end_with_the_last_key;
+
+/// What symbols say of the keys whose symbols they are.
+pub fn laws_of_symbols()
+    ensures none { NoSymbolIsOfNoKey }
+    ensures one { OneSymbolIsOfTheLastKey }
+    ensures turn { SymbolsComeInTurn }
+    ensures listed { SymbolsAreListed }
+    ensures foreign { NothingWaitsBehindForeignKeys }
+{
+    prefixes_end_with_the_last_key();
+}

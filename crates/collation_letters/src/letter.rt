@@ -1,0 +1,109 @@
+//! A letter: what is known of a character, or of one with marks behind it.
+ghost use Rattle.std.specs.Prelude.{◌≡◌, true};
+ghost use Rattle.collation_letters.specs.Letters.{begins_cluster, is_mark};
+
+use crate::symbols::{NO_SYMBOLS, Symbols};
+
+/// What a search does with a character.
+#[derive(Clone, Copy, Debug, PartialEq, Eq)]
+pub enum Role {
+    /// Nothing is known: it is left to the steps.
+    Steps,
+    /// It begins a cluster. After it the last element that was variable or primary is not variable.
+    Base,
+    /// It begins a cluster. After it, in shifted weighting, the last element that was variable or primary is variable.
+    VariableBase,
+    /// It begins with a starter, begins no cluster and has no key.
+    Silent,
+    /// A non-starter whose keys count whatever stands before it. After it the last element that was variable or primary is not
+    /// variable.
+    PrimaryMark,
+    /// A non-starter whose keys do not count where the last element that was variable or primary was variable, in shifted weighting.
+    Mark,
+}
+
+/// What is known of characters that stand together: one, or one and the marks behind it.
+#[derive(Clone, Copy, Debug)]
+pub struct Letter {
+    /// What a search does with them. What follows but the first two says nothing where that is left to the steps.
+    pub role: Role,
+    /// Whether no unit reaches from them to what follows.
+    pub is_closed: bool,
+    /// Whether no unit reaches into them, as they begin with a starter that stands in no mapped string after the first place.
+    pub is_apart: bool,
+    /// How many points they have.
+    pub points: u8,
+    /// The canonical combining class of the last point.
+    pub class: u8,
+    /// The symbols of their keys, as far as a search has to know them.
+    pub symbols: Symbols,
+}
+
+/// Nothing is known.
+pub const UNKNOWN: Letter = Letter {
+    role: Role::Steps,
+    is_closed: false,
+    is_apart: false,
+    points: 0,
+    class: 0,
+    symbols: NO_SYMBOLS,
+};
+
+impl Role {
+    ghost use Rattle.std.specs.Prelude.{◌≡◌};
+    ghost use Rattle.collation_letters.specs.Letters.{begins_cluster, flag_after, is_mark};
+
+    /// Whether a cluster begins here.
+    #[inline(always)]
+    pub fn begins_cluster(self) -> bool
+        ensures { result ≡ begins_cluster self }
+    {
+        match self {
+            Role::Base | Role::VariableBase => true,
+            _ => false,
+        }
+    }
+
+    /// Whether, after characters of the role, the last element that was variable or primary was variable, in shifted weighting.
+    #[inline(always)]
+    pub fn flag_after(self, after_variable: bool) -> bool
+        ensures { result ≡ flag_after self after_variable }
+    {
+        match self {
+            Role::Base | Role::PrimaryMark => false,
+            Role::VariableBase => true,
+            Role::Steps | Role::Silent | Role::Mark => after_variable,
+        }
+    }
+
+    /// Whether it is a non-starter.
+    #[inline(always)]
+    pub fn is_mark(self) -> bool
+        ensures { result ≡ is_mark self }
+    {
+        match self {
+            Role::PrimaryMark | Role::Mark => true,
+            _ => false,
+        }
+    }
+}
+
+impl Letter {
+    ghost use Rattle.std.specs.Prelude.{◌≡◌, ℕ, List, true};
+    ghost use Rattle.nfd_points.specs.Points.{begins_with_starter, points_from};
+    ghost use Rattle.collation_table.specs.Table.{TableMap};
+    ghost use Rattle.collation_pattern.specs.Compiled.{Compiled};
+    ghost use Rattle.collation_letters.specs.Letters.{IsLetter};
+
+    /// Whether its characters are known to begin with a starter.
+    #[inline(always)]
+    pub fn is_starter(&self) -> bool
+        ensures { result ≡ true → (table : TableMap) (pattern : Compiled) (cs : List ℕ) → IsLetter table pattern cs self.now
+            → begins_with_starter (points_from 0 cs) ≡ true }
+    {
+        match self.role {
+            Role::Base | Role::VariableBase | Role::Silent => true,
+            Role::Steps | Role::PrimaryMark | Role::Mark => self.is_apart,
+        }
+    }
+}

@@ -1,0 +1,122 @@
+//! Symbols: the keys of a text as a pattern sees them.
+ghost use Rattle.std.specs.Prelude.{◌≡◌, ◌<◌, ◌≤◌, ◌∷◌, ◌++◌, List, [], length, IfSome, true};
+ghost use Rattle.collation_elements.specs.declared.keys.Key.{Key as KeyValue};
+ghost use Rattle.collation_pattern.specs.Border.{border};
+ghost use Rattle.collation_letters.specs.Symbols.{AreLastSymbols, IsSymbol, listed, some_symbol};
+
+use collation_elements::Key;
+use collation_pattern::Pattern;
+use collation_pattern::laws::prefixes_end_with_the_last_key;
+
+/// The symbol of a key that the pattern does not have.
+pub const FOREIGN: u8 = 0;
+
+/// No symbol.
+pub const NO_SYMBOL: u8 = 255;
+
+/// How many keys at the beginning of a pattern have symbols.
+const MOST_SYMBOLS: usize = 254;
+
+/// Up to three symbols.
+#[derive(Clone, Copy, Debug, PartialEq, Eq)]
+pub struct Symbols {
+    /// The first of three, or none.
+    pub first: u8,
+    /// The last but one, or none.
+    pub second: u8,
+    /// The last one, or none.
+    pub third: u8,
+}
+
+pub const NO_SYMBOLS: Symbols = Symbols {
+    first: NO_SYMBOL,
+    second: NO_SYMBOL,
+    third: NO_SYMBOL,
+};
+
+impl Symbols {
+    ghost use Rattle.std.specs.Prelude.{◌≡◌, ◌<◌, ◌∷◌, ◌++◌, List, [], IfSome};
+    ghost use Rattle.collation_elements.specs.declared.keys.Key.{Key as KeyValue};
+    ghost use Rattle.collation_letters.specs.Symbols.{AreLastSymbols, listed, some_symbol};
+
+    /// These symbols and one more; `None` where there is no room.
+    pub fn with(self, symbol: u8) -> Option<Symbols>
+        requires { symbol < 255 }
+        ensures { IfSome result (λ all. (pattern keys more : List KeyValue) → AreLastSymbols pattern keys (listed self)
+            → AreLastSymbols pattern more (symbol ∷ []) → AreLastSymbols pattern (keys ++ more) (listed all)) }
+    {
+        if symbol == FOREIGN {
+            return Some(Symbols {
+                first: NO_SYMBOL,
+                second: NO_SYMBOL,
+                third: FOREIGN,
+            });
+        }
+        if self.first != NO_SYMBOL {
+            return None;
+        }
+        Some(Symbols {
+            first: self.second,
+            second: self.third,
+            third: symbol,
+        })
+    }
+
+    /// These symbols and those of keys that follow; `None` where there is no room.
+    pub fn with_all(self, more: Symbols) -> Option<Symbols>
+        ensures { IfSome result (λ all. (pattern keys later : List KeyValue) → AreLastSymbols pattern keys (listed self)
+            → AreLastSymbols pattern later (listed more) → AreLastSymbols pattern (keys ++ later) (listed all)) }
+    {
+        let all = with_some(self, more.first)?;
+        let all = with_some(all, more.second)?;
+        with_some(all, more.third)
+    }
+}
+
+/// These symbols and one more, if it is one.
+fn with_some(symbols: Symbols, symbol: u8) -> Option<Symbols>
+    ensures { IfSome result (λ all. (pattern keys more : List KeyValue) → AreLastSymbols pattern keys (listed symbols)
+        → AreLastSymbols pattern more (some_symbol symbol) → AreLastSymbols pattern (keys ++ more) (listed all)) }
+{
+    if symbol == NO_SYMBOL {
+        return Some(symbols);
+    }
+    symbols.with(symbol)
+}
+
+/// The symbol of a key; `None` where the pattern may have it behind the keys that have symbols.
+pub fn symbol_of(pattern: &Pattern, key: &Key) -> Option<u8>
+    ensures symbol { IfSome result (λ symbol. IsSymbol pattern.now.keys key.now symbol) }
+    ensures below { IfSome result (λ symbol. symbol < 255) }
+{
+    let keys = pattern.keys();
+    if keys.len() > MOST_SYMBOLS {
+        return None;
+    }
+    for place in 0..keys.len() {
+        if keys[place] == *key {
+            return Some(place as u8 + 1);
+        }
+    }
+    Some(FOREIGN)
+}
+
+/// How many keys of the pattern have matched after a key with this symbol, where so many had before it.
+#[inline(always)]
+pub fn advance(pattern: &Pattern, state: usize, symbol: u8) -> usize
+    requires { state ≤ length pattern.now.keys }
+    ensures border { (ks : List KeyValue) (key : KeyValue) → IsSymbol pattern.now.keys key symbol
+        → border pattern.now.keys ks ≡ state → result ≡ border pattern.now.keys (ks ++ key ∷ []) }
+    ensures within { result ≤ length pattern.now.keys }
+{
+    prefixes_end_with_the_last_key();
+    if symbol == FOREIGN {
+        return 0;
+    }
+    let keys = pattern.keys();
+    let place = symbol as usize - 1;
+    if place >= keys.len() {
+        return 0;
+    }
+    pattern.advance(state, &keys[place])
+}
