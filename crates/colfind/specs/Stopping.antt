@@ -1,11 +1,9 @@
 -- Why the program ends without an answer, case by case in the order of its work: words, table file, tailor file,
 -- table, pattern, text file, text.
--- No clause can name the table file and the tailor file, so their bytes are some bytes, and their table is some well-formed table; nor
--- can one name the bytes of the text file.
-use Rattle.std.specs.Prelude.{◌≡◌, ◌≢◌, ℕ, Bool, true, false, List, [], Option, Some, None, is_some, nat_lt}
+-- Where the bytes of a file are not observable, they are some bytes.
+use Rattle.std.specs.Prelude.{◌≡◌, ◌≢◌, ℕ, Bool, true, false, List, Option, Some, None, option_map, is_some, nat_lt}
 use Rattle.clap.specs.Words.{Text as Word}
 use Rattle.collation_table.specs.Table.{TableMap}
-use Rattle.collation_table.specs.WellFormed.{IsWellFormed}
 use Rattle.collation_table.specs.Faults.{tailored_fault, IsFaultOrAllocationRefused}
 use Rattle.collation_elements.specs.declared.settings.Variable.{Variable}
 use Rattle.collation_elements.specs.declared.settings.Strength.{Strength}
@@ -20,6 +18,7 @@ use Rattle.colfind.specs.declared.run.Outcome.{Outcome}
 use Rattle.colfind.specs.declared.run.Outcome.TheVariants as outcome
 use Rattle.colfind.specs.Patterns.{answer_by, settled_by}
 use Rattle.colfind.specs.Running.{PrintsToFault, PrintsSettled, PrintsPrefix, reported_ranges, FailsAs}
+use Rattle.colfind.specs.Searching.{FileBytes, IfAt, IsTailor, IsTableOf, left_of}
 use Rattle.colfind.specs.Settings.{IsTakenAs, IsRefused}
 
 -- what a contract sees of the input and of the output
@@ -47,14 +46,24 @@ is_before_text _ = false
 abbrev pub Fails : Outcome → Seen → Seen → Type 0
 Fails outcome before after = FailsAs outcome before.reads_failed after.reads_failed before.writes_failed after.writes_failed
 
--- the table file could not be read, or the tailor file, where one is asked for; or their bytes, whatever they are, have this fault,
--- where a tailor that is not asked for has none
-abbrev pub StopsAtTable : Settings → Stop → Type 0
-StopsAtTable asked (File _) = Unit {0}
-StopsAtTable asked (Tailor _) = is_some asked.tailor ≡ true
-StopsAtTable asked (Table fault) =
-    (base : List ℕ) × (tailor : List ℕ) × (is_some asked.tailor ≡ false → tailor ≡ []) × IsFaultOrAllocationRefused (tailored_fault base tailor) fault
-StopsAtTable asked _ = ⊥
+-- the table file could not be read, or the tailor file, where one is asked for; or their bytes
+-- have this fault
+abbrev pub StopsAtTable : FileBytes → Settings → Stop → Type 0
+StopsAtTable files asked (File _) = Unit {0}
+StopsAtTable files asked (Tailor _) = is_some asked.tailor ≡ true
+StopsAtTable files asked (Table fault) =
+    (base : List ℕ) × (tailor : List ℕ) × IfAt (files asked.table.now) base
+    × IsTailor files (option_map (λ path. path.now) asked.tailor) tailor
+    × IsFaultOrAllocationRefused (tailored_fault base tailor) fault
+StopsAtTable files asked _ = ⊥
+
+-- the tailor file could not be read, or its bytes have this fault after those of the table file
+abbrev pub StopsAtTailor : Option (List ℕ) → List ℕ → Stop → Type 0
+StopsAtTailor at base (Tailor _) = Unit {0}
+StopsAtTailor at base (Table fault) =
+    (tailor : List ℕ) × IfAt at tailor
+    × IsFaultOrAllocationRefused (tailored_fault base tailor) fault
+StopsAtTailor at base _ = ⊥
 
 -- the text has this first fault, could not be read further, its ranges could not be written, or memory was refused
 abbrev pub StopsAtText : TableMap → Strength → Variable → List ℕ → Output → Select → Stop → Seen → Seen → Type 0
@@ -75,36 +84,41 @@ StopsAtText table strength variable pattern form select Memory before after =
     × Fails outcome.Memory before after
 StopsAtText table strength variable pattern form select _ before after = ⊥
 
--- what is seen of a text file in place of the input: no bytes, and whether it could not be read
-abbrev pub of_file : ℕ → Seen → Seen
-of_file reads_failed at = record at { left = None; reads_failed = reads_failed }
+-- what is seen of a text file in place of the input: what is left of it, and if it could be read
+abbrev pub of_file : Option (List ℕ) → ℕ → Seen → Seen
+of_file left reads_failed at = record at { left = left; reads_failed = reads_failed }
 
 -- the search in the text stopped: in the input, or in the text file where one is asked for
-abbrev pub StopsIn : TableMap → Settings → Stop → Seen → Seen → Type 0
-StopsIn table asked stop before after =
+abbrev pub StopsIn : FileBytes → TableMap → Settings → Stop → Seen → Seen → Type 0
+StopsIn files table asked stop before after =
     (is_some asked.text ≡ false
     → StopsAtText table asked.strength asked.variable asked.pattern.now asked.output asked.select stop before after)
-    × (is_some asked.text ≡ true → (reads_failed : ℕ)
-    × StopsAtText table asked.strength asked.variable asked.pattern.now asked.output asked.select stop (of_file 0 before) (of_file reads_failed after))
+    × (is_some asked.text ≡ true → (left : Option (List ℕ)) × (reads_failed : ℕ)
+    × StopsAtText table asked.strength asked.variable asked.pattern.now asked.output asked.select stop
+    (of_file (left_of files asked None) 0 before) (of_file left reads_failed after))
 
 -- the pattern has this fault, or memory was refused for it; else it has none, and the text file comes, if one is asked for, and
 -- then the text
-abbrev pub StopsSearch : TableMap → Settings → Stop → Seen → Seen → Type 0
-StopsSearch table asked (Pattern fault) before after =
+abbrev pub StopsSearch : FileBytes → TableMap → Settings → Stop → Seen → Seen → Type 0
+StopsSearch files table asked (Pattern fault) before after =
     fault.kind ≢ 24 → pattern_fault table asked.strength asked.variable asked.pattern.now ≡ Some fault.kind
-StopsSearch table asked TextFile before after =
+StopsSearch files table asked TextFile before after =
     (pattern_fault table asked.strength asked.variable asked.pattern.now ≡ None) × (is_some asked.text ≡ true)
-StopsSearch table asked stop before after =
-    (pattern_fault table asked.strength asked.variable asked.pattern.now ≡ None) × StopsIn table asked stop before after
+StopsSearch files table asked stop before after =
+    (pattern_fault table asked.strength asked.variable asked.pattern.now ≡ None)
+    × StopsIn files table asked stop before after
 
--- the words are not those of the command, or memory was refused for them; else they ask for settings, and the table comes, of one
--- file or of two, and then the search with some well-formed table; where the text is a file, `Unasked` holds, by which a clause says that the input
--- is as it was
-abbrev pub IsReason : List Word → Type 0 → Stop → Seen → Seen → Type 0
-IsReason words Unasked (Words fault) before after = fault ≡ of_words.Usage → IsRefused words
-IsReason words Unasked (File fault) before after = (asked : Settings) × IsTakenAs words asked
-IsReason words Unasked (Tailor fault) before after = (asked : Settings) × IsTakenAs words asked × StopsAtTable asked (Tailor fault)
-IsReason words Unasked (Table fault) before after = (asked : Settings) × IsTakenAs words asked × StopsAtTable asked (Table fault)
-IsReason words Unasked stop before after =
-    (asked : Settings) × IsTakenAs words asked × (is_some asked.text ≡ true → Unasked) × ((table : TableMap) × IsWellFormed table
-    × StopsSearch table asked stop before after)
+-- The words are not those of the command, or memory was refused for them; else they ask for
+-- settings, and the table comes, of one file or of two, and then the search with that table. Where
+-- the text is a file, `Unasked` holds, by which a clause says that the input is as it was.
+abbrev pub IsReason : FileBytes → List Word → Type 0 → Stop → Seen → Seen → Type 0
+IsReason files words Unasked (Words fault) before after = fault ≡ of_words.Usage → IsRefused words
+IsReason files words Unasked (File fault) before after = (asked : Settings) × IsTakenAs words asked
+IsReason files words Unasked (Tailor fault) before after =
+    (asked : Settings) × IsTakenAs words asked × StopsAtTable files asked (Tailor fault)
+IsReason files words Unasked (Table fault) before after =
+    (asked : Settings) × IsTakenAs words asked × StopsAtTable files asked (Table fault)
+IsReason files words Unasked stop before after =
+    (asked : Settings) × IsTakenAs words asked × (is_some asked.text ≡ true → Unasked)
+    × ((table : TableMap) × IsTableOf files asked table
+    × StopsSearch files table asked stop before after)

@@ -44,7 +44,7 @@ impl Lines {
         self.failed
     }
 
-    /// Writes the lines that wait.
+    /// Writes the lines that wait. After a failed write they are dropped.
     pub fn send<O: Target>(&mut self, out: &mut O)
         requires { self.old.failed ≡ false → O.failures out.old < 2 ^ 63 }
         ensures prints { (form : Output) (ranges : List (ℕ × ℕ)) (before : Option (List ℕ)) (failures : ℕ)
@@ -119,6 +119,7 @@ impl Lines {
         ensures err { (form : Output) (ranges : List (ℕ × ℕ)) (before : Option (List ℕ)) (failures : ℕ) → length ranges < 2 ^ 64
             → Prints form self.old ranges before (O.held out.old) failures (O.failures out.old)
             → OnErr result (WritesPrefix before (O.held out.new) (output form ranges)) }
+        ensures flushed { OnOk result (O.flushed out.new ≡ O.held out.new) }
         ensures same { self.new.count ≡ self.old.count }
         ensures count { (form : Output) (ranges : List (ℕ × ℕ)) (before : Option (List ℕ)) (failures : ℕ)
             → Prints form self.old ranges before (O.held out.old) failures (O.failures out.old)

@@ -67,6 +67,8 @@ impl MemoryTarget {
 impl Target for MemoryTarget {
     ghost held = { λ t. Some t.bytes.items };
 
+    ghost flushed = { λ t. Some t.bytes.items };
+
     ghost failures = { λ t. t.failures };
 
     fn write(&mut self, buf: &[u8]) -> Result<usize, DeviceFault> {

@@ -4,23 +4,23 @@ ghost use Rattle.std.specs.Prelude.{◌≡◌, ◌<◌, ◌≤◌, ◌^◌, ℕ,
 ghost use Rattle.colfind.specs.declared.faults.Stop.{Stop};
 ghost use Rattle.colfind.specs.Faults.{fault_of, ReportsLine, ReportsSomeFault};
 ghost use Rattle.colfind.specs.Patterns.{IsCompiledWith};
-ghost use Rattle.colfind.specs.Searching.{FindsSelected, FindsAsked, left_of, status_of};
-ghost use Rattle.colfind.specs.Stopping.{IsReason, StopsSearch, StopsAtTable, StopsAtText, is_before_text, seen};
+ghost use Rattle.colfind.specs.Searching.{FindsSelected, FindsAsked, IsTableOf, IfAt, left_of, left_after, no_files, status_of};
+ghost use Rattle.colfind.specs.Stopping.{IsReason, StopsSearch, StopsAtTable, StopsAtTailor, StopsAtText, is_before_text, seen};
+ghost use Rattle.collation_table.specs.Faults.{tailored_map};
 
-use crate::devices::{Source, Target};
+use crate::devices::{Folder, Source, Target};
 use crate::faults::{Fault, Stop};
 use crate::files::{FileFault, read_all};
 use crate::output::Output;
 use crate::run::{Outcome, run_with};
 use crate::settings::settings;
-use crate::streams::FromRead;
+use crate::streams::SystemFiles;
 use crate::words::Settings;
 use crate::writing::write_all;
 use collation_pattern::Pattern;
 use collation_search::Select;
 use collation_table::{Table, Weights};
 use std::alloc::Global;
-use std::fs;
 use std::rt::Files;
 
 /// What the words of the program ask for. It answers the status: 0 where there are matches and no
@@ -39,10 +39,10 @@ pub fn program<'a, F: Files, R: Source, O: Target, E: Target>(
     requires writes { O.failures out.old < 2 ^ 63 }
     requires reports { E.failures err.old < 2 ^ 63 }
     ensures status { result ≤ 2 }
-    // No clause can name the table's files or the text file. So the table is any that is well formed,
-    // and where a text file is asked for, its bytes are any; the input is then as it was.
+    // No clause can name the bytes of the machine's files. So the table is what some bytes spell, and
+    // where a text file is asked for, its bytes are any; the input is then as it was.
     ensures found { result < 2 → (count : ℕ) × (result ≡ status_of count)
-        × FindsAsked (map (λ word. word.now) words.entry.now) (input.new ≡ input.old) count
+        × FindsAsked no_files (map (λ word. word.now) words.entry.now) (input.new ≡ input.old) count
         (R.left input.old) (R.left input.new) (O.held out.old) (O.held out.new) }
     ensures sound { result < 2 → (R.failures input.new ≡ R.failures input.old)
         × (O.failures out.new ≡ O.failures out.old) }
@@ -52,12 +52,12 @@ pub fn program<'a, F: Files, R: Source, O: Target, E: Target>(
     // The fault is the first in the order of work, and before the text no device is asked.
     ensures first { result ≡ 2 → (stop : Stop)
         × ReportsLine (fault_of stop) (E.held err.old) (E.held err.new) (E.failures err.old) (E.failures err.new)
-        × IsReason (map (λ word. word.now) words.entry.now) (input.new ≡ input.old) stop
+        × IsReason no_files (map (λ word. word.now) words.entry.now) (input.new ≡ input.old) stop
         (seen (R.left input.old) (R.failures input.old) (O.held out.old) (O.failures out.old))
         (seen (R.left input.new) (R.failures input.new) (O.held out.new) (O.failures out.new))
         × (is_before_text stop ≡ true → (input.new ≡ input.old) × (out.new ≡ out.old)) }
 {
-    match count_matches(runtime, alloc, words, input, out) {
+    match count_matches(&SystemFiles::new(runtime), alloc, words, input, out) {
         Ok(0) => 1,
         Ok(_) => 0,
         Err(stop) => report(err, stop.fault()),
@@ -74,9 +74,9 @@ pub fn report<E: Target>(err: &mut E, fault: Fault) -> u8
     2
 }
 
-/// The number of matches that were written.
-fn count_matches<'a, F: Files, R: Source, O: Target>(
-    runtime: &F,
+/// The number of matches that were written, with the files of `folder`.
+pub fn count_matches<'a, D: Folder, R: Source, O: Target>(
+    folder: &D,
     alloc: Global,
     words: &'a [&'a str],
     input: &mut R,
@@ -84,24 +84,26 @@ fn count_matches<'a, F: Files, R: Source, O: Target>(
 ) -> Result<u64, Stop>
     requires reads { R.failures input.old < 2 ^ 63 }
     requires writes { O.failures out.old < 2 ^ 63 }
-    ensures found { IfOk result (λ count. FindsAsked (map (λ word. word.now) words.entry.now) (input.new ≡ input.old) count
+    ensures found { IfOk result (λ count. FindsAsked (D.bytes_at folder.now)
+        (map (λ word. word.now) words.entry.now) (input.new ≡ input.old) count
         (R.left input.old) (R.left input.new) (O.held out.old) (O.held out.new)) }
     ensures sound { OnOk result ((R.failures input.new ≡ R.failures input.old)
         × (O.failures out.new ≡ O.failures out.old)) }
-    ensures reason { IfErr result (λ stop. IsReason (map (λ word. word.now) words.entry.now) (input.new ≡ input.old) stop
+    ensures reason { IfErr result (λ stop. IsReason (D.bytes_at folder.now)
+        (map (λ word. word.now) words.entry.now) (input.new ≡ input.old) stop
         (seen (R.left input.old) (R.failures input.old) (O.held out.old) (O.failures out.old))
         (seen (R.left input.new) (R.failures input.new) (O.held out.new) (O.failures out.new))) }
     ensures unasked { IfErr result (λ stop. is_before_text stop ≡ true → (input.new ≡ input.old) × (out.new ≡ out.old)) }
 {
     let asked = settings(alloc, words)?;
-    let table = read_table(runtime, alloc, &asked)?;
-    search(runtime, alloc, &table, &asked, input, out)
+    let table = read_table(folder, alloc, &asked)?;
+    search(folder, alloc, &table, &asked, input, out)
 }
 
 /// The number of matches, which were written, in the text file if one is asked for, else in the
 /// input.
-fn search<F: Files, W: Weights, R: Source, O: Target>(
-    runtime: &F,
+fn search<D: Folder, W: Weights, R: Source, O: Target>(
+    folder: &D,
     alloc: Global,
     table: &W,
     asked: &Settings,
@@ -112,10 +114,13 @@ fn search<F: Files, W: Weights, R: Source, O: Target>(
     requires writes { O.failures out.old < 2 ^ 63 }
     ensures found { IfOk result (λ count. FindsSelected (W.table table.now) asked.now.strength asked.now.variable
         asked.now.pattern.now asked.now.output asked.now.select count
-        (left_of asked.now (R.left input.old)) (left_of asked.now (R.left input.new)) (O.held out.old) (O.held out.new)) }
+        (left_of (D.bytes_at folder.now) asked.now (R.left input.old))
+        (left_after (D.bytes_at folder.now) asked.now (R.left input.new))
+        (O.held out.old) (O.held out.new)) }
     ensures sound { OnOk result ((R.failures input.new ≡ R.failures input.old)
         × (O.failures out.new ≡ O.failures out.old)) }
-    ensures reason { IfErr result (λ stop. StopsSearch (W.table table.now) asked.now stop
+    ensures reason { IfErr result (λ stop.
+        StopsSearch (D.bytes_at folder.now) (W.table table.now) asked.now stop
         (seen (R.left input.old) (R.failures input.old) (O.held out.old) (O.failures out.old))
         (seen (R.left input.new) (R.failures input.new) (O.held out.new) (O.failures out.new))) }
     ensures unasked { IfErr result (λ stop. is_before_text stop ≡ true → (input.new ≡ input.old) × (out.new ≡ out.old)) }
@@ -133,10 +138,9 @@ fn search<F: Files, W: Weights, R: Source, O: Target>(
             out,
         );
     };
-    let Ok(file) = fs::open(runtime, path) else {
+    let Ok(mut text) = folder.open(path) else {
         return Err(Stop::TextFile);
     };
-    let mut text = FromRead::new(file);
     search_in(
         alloc,
         table,
@@ -182,23 +186,47 @@ fn search_in<W: Weights, R: Source, O: Target>(
 }
 
 /// The table of the table file and, if one is asked for, the tailor file.
-fn read_table<F: Files>(runtime: &F, alloc: Global, asked: &Settings) -> Result<Table, Stop>
-    ensures { IfErr result (StopsAtTable asked.now) }
+fn read_table<D: Folder>(folder: &D, alloc: Global, asked: &Settings) -> Result<Table, Stop>
+    ensures table { IfOk result (λ table.
+        IsTableOf (D.bytes_at folder.now) asked.now (⟦<Table as Weights>⟧.table table)) }
+    ensures fault { IfErr result (StopsAtTable (D.bytes_at folder.now) asked.now) }
+    ensures missing { D.is_missing folder.now asked.now.table.now ≡ true
+        → result ≡ Err (Stop.File FileFault.Device) }
 {
-    let base = read_file(runtime, alloc, asked.table)?;
-    let Some(path) = asked.tailor else {
-        return Ok(Table::read(alloc, &base)?);
-    };
-    match read_file(runtime, alloc, path) {
-        Ok(tailor) => Ok(Table::read_tailored(alloc, &base, &tailor)?),
+    let base = read_file(folder, alloc, asked.table)?;
+    match asked.tailor {
+        Some(path) => read_tailored(folder, alloc, &base, path),
+        None => Ok(Table::read(alloc, &base)?),
+    }
+}
+
+/// The table of a table file with the bytes `base` and of the tailor file at `path`.
+fn read_tailored<D: Folder>(
+    folder: &D,
+    alloc: Global,
+    base: &[u8],
+    path: &str,
+) -> Result<Table, Stop>
+    ensures table { IfOk result (λ table. (tailor : List ℕ)
+        × IfAt (D.bytes_at folder.now path.now) tailor
+        × (⟦<Table as Weights>⟧.table table ≡ tailored_map base.now tailor)) }
+    ensures fault { IfErr result (StopsAtTailor (D.bytes_at folder.now path.now) base.now) }
+    ensures missing { D.is_missing folder.now path.now ≡ true
+        → result ≡ Err (Stop.Tailor FileFault.Device) }
+{
+    match read_file(folder, alloc, path) {
+        Ok(tailor) => Ok(Table::read_tailored(alloc, base, &tailor)?),
         Err(fault) => Err(Stop::Tailor(fault)),
     }
 }
 
 /// The bytes of the file at `path`.
-fn read_file<F: Files>(runtime: &F, alloc: Global, path: &str) -> Result<Vec<u8>, FileFault> {
-    let Ok(file) = fs::open(runtime, path) else {
+fn read_file<D: Folder>(folder: &D, alloc: Global, path: &str) -> Result<Vec<u8>, FileFault>
+    ensures bytes { IfOk result (λ bytes. IfAt (D.bytes_at folder.now path.now) bytes.items) }
+    ensures missing { D.is_missing folder.now path.now ≡ true → result ≡ Err FileFault.Device }
+{
+    let Ok(mut file) = folder.open(path) else {
         return Err(FileFault::Device);
     };
-    read_all(alloc, &mut FromRead::new(file))
+    read_all(alloc, &mut file)
 }

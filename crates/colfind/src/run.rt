@@ -1,5 +1,5 @@
 //! A run of the search over a reader and a writer.
-ghost use Rattle.std.specs.Prelude.{ℕ, List, Option, ◌≡◌, ◌<◌, ◌^◌, ◌++◌, nat_lt};
+ghost use Rattle.std.specs.Prelude.{ℕ, List, Option, ◌≡◌, ◌≢◌, ◌<◌, ◌^◌, ◌++◌, nat_lt};
 ghost use Rattle.collation_matches.specs.declared.select.Select.TheVariants.{All};
 ghost use Rattle.colfind.specs.Patterns.{IsCompiledWith, answer_to, settled_in};
 ghost use Rattle.colfind.specs.Finding.{IsFoundIn, EndsBy, failures_of, failures_at};
@@ -93,6 +93,8 @@ pub fn run<W: Weights, R: Source, O: Target>(
         → PrintsPrefix (reported_ranges (answer_to All (W.table table.now) p pattern.now) (settled_in All (W.table table.now) p pattern.now)
         (nat_lt (R.failures reader.old) (R.failures reader.new))) form
         (R.left reader.old) (R.left reader.new) (O.held out.old) (O.held out.new) }
+    ensures flushed { result ≢ Outcome.Write → result ≢ Outcome.Memory
+        → O.flushed out.new ≡ O.held out.new }
     ensures memory { result ≡ Outcome.Memory → (out.new ≡ out.old) × (reader.new ≡ reader.old) }
     ensures failures { FailsAs result (R.failures reader.old) (R.failures reader.new)
         (O.failures out.old) (O.failures out.new) }
@@ -101,7 +103,7 @@ pub fn run<W: Weights, R: Source, O: Target>(
 }
 
 /// Finds the pattern in the text that `reader` gives, and writes the matches that are selected to `out`, all or a chain of them;
-/// then it flushes `out`, and no clause can say that. The text is read to its end or to its first fault.
+/// then it flushes `out`. The text is read to its end or to its first fault.
 /// Neither the text nor the matches are kept: the lines of a match are written as soon as it is known, and at the latest
 /// before the next bytes are read. A failure of the reader ends the text too, and then the matches that end before the end of
 /// its last whole character are written, or the chain of these. After a failure of `out` nothing more is written or read, and
@@ -131,6 +133,8 @@ pub fn run_with<W: Weights, R: Source, O: Target>(
         → PrintsPrefix (reported_ranges (answer_to select (W.table table.now) p pattern.now) (settled_in select (W.table table.now) p pattern.now)
         (nat_lt (R.failures reader.old) (R.failures reader.new))) form
         (R.left reader.old) (R.left reader.new) (O.held out.old) (O.held out.new) }
+    ensures flushed { result ≢ Outcome.Write → result ≢ Outcome.Memory
+        → O.flushed out.new ≡ O.held out.new }
     ensures memory { result ≡ Outcome.Memory → (out.new ≡ out.old) × (reader.new ≡ reader.old) }
     ensures failures { FailsAs result (R.failures reader.old) (R.failures reader.new)
         (O.failures out.old) (O.failures out.new) }

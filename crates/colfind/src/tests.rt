@@ -6,6 +6,7 @@ use crate::files::{FileFault, read_all};
 use crate::lines::Lines;
 use crate::memory::{MemorySource, MemoryTarget};
 use crate::output::Output;
+use crate::process::ended;
 use crate::program::program;
 use crate::run::{Outcome, run};
 use crate::settings::settings;
@@ -17,11 +18,12 @@ use collation_pattern::Pattern;
 use collation_search::{Select, TextFault};
 use collation_table::Table;
 use std::alloc::Global;
-use std::process::Abort;
+use std::process::{Abort, ExitCode, Termination};
 use std::test::Fail;
 use std::{env, fs, process};
 
 mod devices;
+mod folders;
 mod pieces;
 mod refusals;
 mod rows;
@@ -398,6 +400,19 @@ fn file_with(host: &HostRuntime, name: &str, contents: &str) -> Result<String, F
     let path = format!(in host.alloc(); "{}/colfind-{id}-{name}.table", folder.as_path().as_str())?;
     fs::write(host, path.as_str(), contents)?;
     Ok(path)
+}
+
+/// The words of a test are none of the command.
+#[test]
+fn other_words_end_with_status_two(rt: HostRuntime) {
+    let alloc = rt.alloc();
+    let mut input = MemorySource::new(b"aaa", 2);
+    let mut out = MemoryTarget::new(alloc);
+    let mut err = MemoryTarget::new(alloc);
+    let status = ended(&rt, &mut input, &mut out, &mut err);
+    assert_eq!(rt; err.bytes(), b"colfind: usage\n".as_slice());
+    assert_eq!(rt; out.bytes(), b"".as_slice());
+    assert!(rt; status.report(&rt) == ExitCode::from(2));
 }
 
 /// A pattern, a text, the status, and what goes to the two outputs.

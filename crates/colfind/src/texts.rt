@@ -23,7 +23,7 @@ pub enum Ending {
     Unread(u64),
 }
 
-/// Searches one piece, and writes the lines of the ranges that became known.
+/// Searches one piece, and writes the lines of the ranges that became known. None waits afterwards.
 fn search_piece<'a, W: Weights, O: Target>(
     search: &mut Search<'a, W>,
     piece: &[u8],
@@ -35,6 +35,7 @@ fn search_piece<'a, W: Weights, O: Target>(
         × ((form : Output) (ranges : List (ℕ × ℕ)) (before : Option (List ℕ)) (failures : ℕ)
         → Prints form lines.old ranges before (O.held out.old) failures (O.failures out.old)
         → Prints form lines.new (ranges ++ found) before (O.held out.new) failures (O.failures out.new)) }
+    ensures sent { lines.new.waiting.bytes ≡ [] }
     ensures ready { lines.new.failed ≡ false → O.failures out.new < 2 ^ 63 }
 {
     let answer = search.feed(piece, &mut |start, end| lines.put(out, start, end));
@@ -42,8 +43,9 @@ fn search_piece<'a, W: Weights, O: Target>(
     answer
 }
 
-/// Reads the text piece by piece to its end, to its first fault or to a failure of the reader, and writes the lines of the
-/// ranges as they become known. After a failed write no more is read.
+/// Reads the text piece by piece to its end, to its first fault or to a failure of the reader, and
+/// writes the lines of the ranges as they become known. No line waits while bytes are asked for.
+/// After a failed write no more is read.
 pub fn search_text<'a, W: Weights, R: Source, O: Target>(
     search: &mut Search<'a, W>,
     reader: &mut R,
@@ -57,6 +59,7 @@ pub fn search_text<'a, W: Weights, R: Source, O: Target>(
     requires writes { O.failures out.old < 2 ^ 63 }
     ensures searched { Searches search.new lines.old.form result lines.new (R.left reader.old) (R.left reader.new)
         (O.held out.old) (O.held out.new) (O.failures out.old) (O.failures out.new) }
+    ensures sent { lines.new.waiting.bytes ≡ [] }
     ensures sought { sought search.new ≡ sought search.old }
     ensures count { IfOk result (λ ending. R.failures reader.new ≡ R.failures reader.old + failures_at ending) }
     ensures err { OnErr result (R.failures reader.new ≡ R.failures reader.old) }

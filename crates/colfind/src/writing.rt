@@ -32,6 +32,7 @@ pub fn write_end<O: Target>(out: &mut O, form: Output, count: u64) -> Result<(),
     ensures ok { OnOk result (O.held out.new ≡ with_piece (printed_end form count) (O.held out.old)) }
     ensures err { OnErr result
         (WritesPrefix (O.held out.old) (O.held out.new) (printed_end form count)) }
+    ensures flushed { OnOk result (O.flushed out.new ≡ O.held out.new) }
     ensures count { O.failures out.new ≡ O.failures out.old + one_if (not (is_ok result)) }
 {
     write_all(out, form.last_line(count).as_bytes())?;

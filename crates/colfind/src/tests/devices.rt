@@ -120,6 +120,8 @@ impl FailingTarget {
 impl Target for FailingTarget {
     ghost held = { λ t. Some t.bytes.items };
 
+    ghost flushed = { λ t. Some t.bytes.items };
+
     ghost failures = { λ t. t.failures };
 
     fn write(&mut self, buf: &[u8]) -> Result<usize, DeviceFault> {

@@ -9,6 +9,7 @@ returns-clause-found g c =
       settings = c.in_ok-asked.asked;
       taken = c.in_ok-asked.ensures.taken;
       table = _;
+      table_is = c.in_ok-table.ensures.table;
       unasked = c.search.ensures.file;
       found = found;
     })
@@ -17,6 +18,6 @@ returns-clause-found g c =
 pub returns-clause-reason : goal.returns-clause-reason
 returns-clause-reason g c =
     IfErr-weaker c.search.result _ _
-    (λ stop stops. search_stops _ _ c.in_ok-asked.asked _ stop _ _ c.in_ok-asked.ensures.taken c.search.ensures.file
-    c.in_ok-table.table.well_formed stops)
+    (λ stop stops. search_stops (g.D.Folder.bytes_at c.args.folder.now) _ _ c.in_ok-asked.asked _ stop _ _ c.in_ok-asked.ensures.taken c.search.ensures.file
+    c.in_ok-table.ensures.table stops)
     c.search.ensures.reason

@@ -55,7 +55,7 @@ loop-count-preserved g c =
     let short = open_short (i.4.0 ++ piece) stands.open_bytes in (
       grind (arith, c.in-Ok.ensures.count, i.0),
       fed.1.same_sought ∙ i.1,
-      sym c.has_failed.ensures ∙ c.if-has_failed.false,
+      (sym c.has_failed.ensures ∙ c.if-has_failed.false, c.in_default.ensures.sent),
       omega (arith, short, counted),
       (
         i.4.0 ++ piece,

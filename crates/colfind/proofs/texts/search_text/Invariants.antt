@@ -1,15 +1,15 @@
-use Rattle.std.proofs.Common.{◌≡◌, ◌-◌, ◌≤◌, ◌^◌, ℕ, List, length, false}
+use Rattle.std.proofs.Common.{◌≡◌, ◌-◌, ◌≤◌, ◌^◌, ℕ, List, [], length, false}
 use Rattle.collation_search.specs.Search.{HasSearched, sought}
 use Rattle.colfind.specs.Devices.{after_piece}
 use Rattle.colfind.specs.Gathering.{Prints}
 use Rattle.colfind.proofs.texts.search_text.Given as goal
 
--- the bytes so far were searched, and the ranges handed out were printed
+-- the bytes so far were searched, and the ranges handed out were printed; no line waits
 abbrev pub invariant-loop-count : goal.invariant-loop-count
 invariant-loop-count g l =
     (g.R.Source.failures l.reader ≡ g.R.Source.failures l.fn.reader)
     × (sought l.search ≡ sought l.fn.search)
-    × (l.lines.failed ≡ false)
+    × ((l.lines.failed ≡ false) × (l.lines.waiting.bytes ≡ []))
     × (l.taken ≤ 2 ^ 62)
     × ((bytes : List ℕ) × (handed : List (ℕ × ℕ)) × HasSearched l.search bytes handed
     × (l.taken ≡ length bytes)

@@ -1,5 +1,5 @@
 use Rattle.std.proofs.Common.{◌≡◌, map, take, string_bytes}
-use Rattle.colfind.proofs.texts_of.Given as goal
+use Rattle.colfind.proofs.process.texts_of.Given as goal
 
 -- the texts so far are those of the words so far
 abbrev pub invariant-loop-word : goal.invariant-loop-word
