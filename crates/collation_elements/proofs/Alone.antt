@@ -46,7 +46,7 @@ alone-cond true j stop taken left never same = refl
 alone-cond false true stop taken left never same = absurd (false≢true (sym never))
 alone-cond false false stop taken left never same = same
 
-no_second : (a b : Bool) → b ≡ false → (a && b) ≡ false
+pub no_second : (a b : Bool) → b ≡ false → (a && b) ≡ false
 no_second true b never = never
 no_second false b never = refl
 

@@ -20,5 +20,6 @@ pub mod ContextTexts
 pub mod ContextUnits
 pub mod ContextWeights
 pub mod Apart
+pub mod Pairs
 pub mod CharacterLaws
 pub mod TextLemmas

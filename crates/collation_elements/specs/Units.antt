@@ -1,10 +1,10 @@
 -- The units of a text: which points one collation element mapping takes (UTS #10, S2.1 to S2.1.3).
-use Rattle.std.specs.Prelude.{ℕ, Bool, ◌||◌, ◌&&◌, not, nat_le, List, [], ◌∷◌, ◌++◌, take, drop, max, if◌then◌else◌}
+use Rattle.std.specs.Prelude.{◌≡◌, ℕ, Bool, true, ◌||◌, ◌&&◌, not, nat_le, List, [], ◌∷◌, ◌++◌, take, drop, max, if◌then◌else◌}
 use Rattle.std.specs.List.{list_any}
 use Rattle.nfd_points.specs.declared.points.Point.{Point}
 use Rattle.nfd_points.specs.Points.{is_starter}
 pub use Rattle.nfd_points.specs.Reordering.{code_points}
-use Rattle.collation_table.specs.Table.{TableMap, is_mapped, longest_prefix}
+use Rattle.collation_table.specs.Table.{TableMap, GoesOnInNoString, is_mapped, longest_prefix}
 
 -- b, which stands between a unit and the later point c, blocks c from it
 abbrev pub blocks : Point → Point → Bool
@@ -47,3 +47,10 @@ units_within (f ∷ fuel) table (p ∷ ps) =
 
 abbrev pub units : TableMap → List Point → List (List Point)
 units table ps = units_within ps table ps
+
+-- ---- laws
+
+-- two points are a unit, whatever follows them, where their code points are a mapped string and no longer one begins with it
+abbrev pub MappedPairsAreUnits : Type 0
+MappedPairsAreUnits =
+    (table : TableMap) (p q : Point) (more : List Point) → is_mapped table (p.cp ∷ q.cp ∷ []) ≡ true → GoesOnInNoString table (p.cp ∷ q.cp ∷ []) → units table (p ∷ q ∷ more) ≡ (p ∷ q ∷ []) ∷ units table more

@@ -6,7 +6,7 @@ ghost use Rattle.nfd_points.specs.Reordering.{is_closed};
 ghost use Rattle.collation_table.specs.Table.{TableMap, BeginsNoLongerString, ContinuesNoString};
 ghost use Rattle.collation_elements.specs.declared.settings.Strength.{Strength};
 ghost use Rattle.collation_elements.specs.declared.settings.Variable.{Variable};
-ghost use Rattle.collation_elements.specs.Units.{units};
+ghost use Rattle.collation_elements.specs.Units.{units, MappedPairsAreUnits};
 ghost use Rattle.collation_elements.specs.Keys.{keys};
 ghost use Rattle.collation_elements.specs.declared.keys.Item.{Item};
 ghost use Rattle.collation_elements.specs.declared.weigher.Weigher.{Weigher};
@@ -40,12 +40,13 @@ pub fn lone_points_are_units()
 
 /// The units of points and of those that follow are those of both by themselves, where with no code point of the first ones a
 /// mapped string of two or more begins, or where a starter follows whose code point stands in no mapped string after the first
-/// place.
+/// place. Two points are a unit, whatever follows them, where their code points are a mapped string and no longer one begins with it.
 pub fn units_stay_apart()
     ensures alone { (table : TableMap) (ps more : List Point) → All (λ p. BeginsNoLongerString table p.cp) ps
         → units table (ps ++ more) ≡ units table ps ++ units table more }
     ensures before { (table : TableMap) (ps : List Point) (d : Point) (more : List Point) → is_starter d ≡ true
         → ContinuesNoString table d.cp → units table (ps ++ d ∷ more) ≡ units table ps ++ units table (d ∷ more) }
+    ensures pair { MappedPairsAreUnits }
 {}
 
 /// A weigher goes on with further units: what it gives is the items of those before and then those of the further ones.

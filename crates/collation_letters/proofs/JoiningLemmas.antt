@@ -19,7 +19,7 @@ use Rattle.collation_elements.specs.Weighing.{after_units}
 use Rattle.collation_pattern.specs.Compiled.{Compiled}
 use Rattle.collation_letters.specs.declared.letter.Letter.{Letter}
 use Rattle.collation_letters.specs.declared.letter.Role.{Role}
-use Rattle.collation_letters.specs.declared.letter.Role.TheVariants.{Steps, Base, VariableBase, Silent, PrimaryMark, Mark}
+use Rattle.collation_letters.specs.declared.letter.Role.TheVariants.{Steps, Plain, Base, VariableBase, Silent, PrimaryMark, Mark}
 use Rattle.collation_letters.specs.Symbols.{AreLastSymbols, listed}
 use Rattle.collation_letters.specs.Letters.{begins_cluster, is_mark, not_mark, flag_after, counted, here, keys_alone, AreClosed, AreApart, IsPossible, HaveItems, IsKnown, IsLetter}
 use Rattle.collation_letters.specs.Joining.{Joins}
@@ -33,6 +33,7 @@ is_so false h = absurd (false≢true (sym h))
 
 base-not_mark : (r : Role) → begins_cluster r ≡ true → is_mark r ≡ false
 base-not_mark Steps h = absurd (false≢true h)
+base-not_mark Plain h = refl
 base-not_mark Base h = refl
 base-not_mark VariableBase h = refl
 base-not_mark Silent h = absurd (false≢true h)
@@ -47,6 +48,7 @@ mark-known r h = λ steps. false≢true (ap is_mark (sym steps) ∙ h)
 
 mark-begins_none : (r : Role) → is_mark r ≡ true → begins_cluster r ≡ false
 mark-begins_none Steps h = refl
+mark-begins_none Plain h = absurd (false≢true h)
 mark-begins_none Base h = absurd (false≢true h)
 mark-begins_none VariableBase h = absurd (false≢true h)
 mark-begins_none Silent h = refl
@@ -55,6 +57,7 @@ mark-begins_none Mark h = refl
 
 base-counted : {A : Type 0} (r : Role) (after : Bool) (xs : List A) → begins_cluster r ≡ true → counted r after xs ≡ xs
 base-counted Steps after xs h = refl
+base-counted Plain after xs h = refl
 base-counted Base after xs h = refl
 base-counted VariableBase after xs h = refl
 base-counted Silent after xs h = refl
@@ -193,9 +196,9 @@ known-both table pattern ps qs k a m both closed rises class points most ka km j
     }
 
 pub letter-both : PointsOfParts → PointsAreShifted → (table : TableMap) (pattern : Compiled) (cs : List ℕ) (c : ℕ) (a m both : Letter) → a.is_closed ≡ true → m.is_closed ≡ true → a.class ≤ m.class →
-    both.is_apart ≡ a.is_apart → both.class ≡ m.class → both.points ≡ a.points + 1 → both.points ≤ 30 → Joins a m (both.role, both.symbols) →
+    both.is_apart ≡ a.is_apart → both.class ≡ m.class → both.points ≡ a.points + 1 → both.points ≤ 30 → both.role ≢ Plain → Joins a m (both.role, both.symbols) →
     IsLetter table pattern cs a → IsLetter table pattern (c ∷ []) m → IsLetter table pattern (cs ++ c ∷ []) both
-letter-both parts shift table pattern cs c a m both closed closed_mark rises apart class points most j ha hm =
+letter-both parts shift table pattern cs c a m both closed closed_mark rises apart class points most other j ha hm =
     let ps = points_from 0 cs in
     let qs = points_from 0 (c ∷ []) in
     let k = byte_len cs in
@@ -204,7 +207,7 @@ letter-both parts shift table pattern cs c a m both closed closed_mark rises apa
     parts 0 cs (c ∷ []) ∙ ap (λ (l : List Point). ps ++ l) (ap (λ i. points_from i (c ∷ [])) there ∙ shift k 0 (c ∷ [])) in
     let ka = ha.known (base-known a.role j.base_begins) in
     let km = hm.known (mark-known m.role j.mark_joins) in
-    letter-at table pattern (cs ++ c ∷ []) (ps ++ here k qs) both (sym same)
+    letter-at table pattern (cs ++ c ∷ []) (ps ++ here k qs) both (sym same) other
     (λ yes. closed-both table ps qs k (ha.closed closed) (hm.closed closed_mark))
     (λ yes. λ x is. ha.apart (sym apart ∙ yes) x (sym (first-more ps (here k qs) ka.some) ∙ is))
     (λ some. known-both table pattern ps qs k a m both (ha.closed closed) rises class points most ka km j)

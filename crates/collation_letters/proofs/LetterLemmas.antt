@@ -19,9 +19,10 @@ use Rattle.collation_elements.specs.Weighing.{weigher, after_units}
 use Rattle.collation_pattern.specs.Compiled.{Compiled}
 use Rattle.collation_letters.specs.declared.letter.Letter.{Letter}
 use Rattle.collation_letters.specs.declared.letter.Role.{Role}
-use Rattle.collation_letters.specs.declared.letter.Role.TheVariants.{Steps, Base, VariableBase, Silent, PrimaryMark, Mark}
+use Rattle.collation_letters.specs.declared.letter.Role.TheVariants.{Steps, Plain, Base, VariableBase, Silent, PrimaryMark, Mark}
 use Rattle.collation_letters.specs.Symbols.{AreLastSymbols, listed}
-use Rattle.collation_letters.specs.Letters.{begins_cluster, not_mark, flag_after, counted, here, keys_alone, AreClosed, AreApart, IsPossible, HaveItems, IsKnown, IsLetter}
+use Rattle.std.proofs.lemmas.Bool.{false≢true}
+use Rattle.collation_letters.specs.Letters.{begins_cluster, not_mark, flag_after, counted, here, keys_alone, AreClosed, AreApart, IsPossible, HaveItems, IsKnown, IsPlain, IsLetter}
 use Rattle.collation_letters.specs.Finding.{IsLastClass, IsAs, HasRole}
 use Rattle.collation_letters.proofs.SymbolLemmas.{last-nil}
 
@@ -79,6 +80,7 @@ have-keys table pattern ps after begins ks ss flag items flag_is symbols =
 
 counted-symbols : (pattern ks : List Key) (ss : List ℕ) (role : Role) (after : Bool) → AreLastSymbols pattern ks ss → AreLastSymbols pattern (counted role after ks) (counted role after ss)
 counted-symbols pattern ks ss Steps after h = h
+counted-symbols pattern ks ss Plain after h = h
 counted-symbols pattern ks ss Base after h = h
 counted-symbols pattern ks ss VariableBase after h = h
 counted-symbols pattern ks ss Silent after h = h
@@ -110,13 +112,14 @@ items_at table pattern ps plain None role ss true are has symbols possible = abs
 
 -- ---- letters
 
-pub letter-at : (table : TableMap) (pattern : Compiled) (cs : List ℕ) (ps : List Point) (l : Letter) → ps ≡ points_from 0 cs → (l.is_closed ≡ true → AreClosed table ps) →
+pub letter-at : (table : TableMap) (pattern : Compiled) (cs : List ℕ) (ps : List Point) (l : Letter) → ps ≡ points_from 0 cs → l.role ≢ Plain → (l.is_closed ≡ true → AreClosed table ps) →
     (l.is_apart ≡ true → AreApart table ps) → (l.role ≢ Steps → IsKnown table pattern ps l) → IsLetter table pattern cs l
-letter-at table pattern cs ps l same closed apart known =
+letter-at table pattern cs ps l same other closed apart known =
     record {
       closed = λ yes. subst (AreClosed table) same (closed yes);
       apart = λ yes. subst (AreApart table) same (apart yes);
       known = λ some. subst (λ (qs : List Point). IsKnown table pattern qs l) same (known some);
+      plain = λ yes. absurd (other yes);
     }
 
 pub known-at : (table : TableMap) (pattern : Compiled) (ps : List Point) (l : Letter) (plain : CharacterItems) (after : Option CharacterItems) → 1 ≤ length ps → length ps ≤ 30 → is_in_order ps ≡ true →
@@ -145,3 +148,34 @@ letter-apart table pattern cs l apart h = apart-begins table (points_from 0 cs) 
 
 pub letter-starter : (table : TableMap) (pattern : Compiled) (cs : List ℕ) (l : Letter) → l.role ≢ Steps → not_mark l.role ≡ true → IsLetter table pattern cs l → begins_with_starter (points_from 0 cs) ≡ true
 letter-starter table pattern cs l known starter h = (h.known known).starter ∙ starter
+
+-- ---- a base that is plain
+
+base-is_known : (r : Role) → r ≡ Base → r ≢ Steps
+base-is_known r base = λ steps. differ (sym base ∙ steps)
+  where
+    differ : ◌≡◌ {A = Role} Base Steps → ⊥
+    differ h = cc
+
+plain-known : (table : TableMap) (pattern : Compiled) (ps : List Point) (l : Letter) → l.role ≡ Base → IsKnown table pattern ps l → IsKnown table pattern ps (record l { role = Plain })
+plain-known table pattern ps l base k =
+    record {
+      some = k.some;
+      in_order = k.in_order;
+      count = k.count;
+      few = k.few;
+      class = k.class;
+      starter = k.starter ∙ ap not_mark base;
+      one = λ yes. absurd (false≢true yes);
+      items = λ after possible.
+          subst (λ r. HaveItems table pattern ps after (begins_cluster r) (counted r after (listed l.symbols)) (flag_after r after)) base (k.items after possible);
+    }
+
+pub letter-plain : (table : TableMap) (pattern : Compiled) (cs : List ℕ) (l : Letter) → l.role ≡ Base → IsPlain l → IsLetter table pattern cs l → IsLetter table pattern cs (record l { role = Plain })
+letter-plain table pattern cs l base plain h =
+    record {
+      closed = h.closed;
+      apart = h.apart;
+      known = λ some. plain-known table pattern (points_from 0 cs) l base (h.known (base-is_known l.role base));
+      plain = λ yes. plain;
+    }

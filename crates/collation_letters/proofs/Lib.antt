@@ -1,3 +1,4 @@
 pub mod SymbolLemmas
 pub mod LetterLemmas
 pub mod JoiningLemmas
+pub mod PairLemmas

@@ -6,7 +6,7 @@ use Rattle.std.proofs.lemmas.Bool.{cond-true, cond-false, cases_Bool, lt-ltb}
 use Rattle.std.proofs.lemmas.List.{append-nil, drop_at, length-take-le, take-append-drop}
 use Rattle.std.proofs.lemmas.Option.{none-some, same_Some, slice_get_within}
 use Rattle.collation_elements.specs.declared.keys.Key.{Key}
-use Rattle.collation_pattern.specs.Border.{border, PrefixesEndWithTheLastKey}
+use Rattle.collation_pattern.specs.Border.{border, PrefixesEndWithTheLastKey, BordersGrowByOne}
 use Rattle.collation_letters.specs.declared.symbols.Symbols.{Symbols}
 use Rattle.collation_letters.specs.Symbols.{IsSymbol, AreLastSymbols, IsLastSymbol, AreInTurn, is_symbol, some_symbol, listed}
 
@@ -53,6 +53,20 @@ foreign-border law pattern ks key is = none (border pattern (ks ++ key ∷ [])) 
     none : (n : ℕ) → border pattern (ks ++ key ∷ []) ≡ n → 0 ≡ n
     none zero at = refl
     none (suc n) at = absurd (is.foreign refl n (law pattern ks key n at))
+
+-- where no prefix has matched, none ends with a key that is not the pattern's first
+pub first-border : PrefixesEndWithTheLastKey → BordersGrowByOne → (pattern ks : List Key) (key : Key) (symbol : ℕ) → IsSymbol pattern key symbol → symbol ≢ 1 → border pattern ks ≡ 0 →
+    0 ≡ border pattern (ks ++ key ∷ [])
+first-border law grow pattern ks key symbol is other none = at (border pattern (ks ++ key ∷ [])) refl
+  where
+    other_place : (p : ℕ) → symbol ≡ p → slice_get pattern 0 ≡ Some key → ⊥
+    other_place zero same there = is.foreign same 0 there
+    other_place (suc zero) same there = other same
+    other_place (suc (suc p)) same there = is.first (suc p) 0 same (omega arith) there
+    at : (n : ℕ) → border pattern (ks ++ key ∷ []) ≡ n → 0 ≡ n
+    at zero e = refl
+    at (suc zero) e = absurd (other_place symbol refl (law pattern ks key 0 e))
+    at (suc (suc n)) e = absurd (omega (arith, e, none, grow pattern ks key))
 
 pub symbol-place : (pattern : List Key) (key : Key) (n : ℕ) → n ≢ 0 → IsSymbol pattern key n → slice_get pattern (n - 1) ≡ Some key
 symbol-place pattern key zero some is = absurd (some refl)

@@ -17,13 +17,15 @@ use Rattle.collation_elements.specs.Weighing.{after_units}
 use Rattle.collation_pattern.specs.Compiled.{Compiled}
 use Rattle.collation_letters.specs.declared.letter.Letter.{Letter}
 use Rattle.collation_letters.specs.declared.letter.Role.{Role}
-use Rattle.collation_letters.specs.declared.letter.Role.TheVariants.{Steps, Base, VariableBase, Silent, PrimaryMark, Mark}
+use Rattle.collation_letters.specs.declared.letter.Role.TheVariants.{Steps, Plain, Base, VariableBase, Silent, PrimaryMark, Mark}
+use Rattle.collation_letters.specs.declared.symbols.TheConstants.{NO_SYMBOL}
 use Rattle.collation_letters.specs.Symbols.{AreLastSymbols, listed}
 
 -- ---- roles
 
 abbrev pub begins_cluster : Role → Bool
 begins_cluster Steps = false
+begins_cluster Plain = true
 begins_cluster Base = true
 begins_cluster VariableBase = true
 begins_cluster Silent = false
@@ -32,6 +34,7 @@ begins_cluster Mark = false
 
 abbrev pub is_mark : Role → Bool
 is_mark Steps = false
+is_mark Plain = false
 is_mark Base = false
 is_mark VariableBase = false
 is_mark Silent = false
@@ -45,6 +48,7 @@ not_mark role = not (is_mark role)
 -- what stands before them.
 abbrev pub flag_after : Role → Bool → Bool
 flag_after Steps after = after
+flag_after Plain after = false
 flag_after Base after = false
 flag_after VariableBase after = true
 flag_after Silent after = after
@@ -101,8 +105,13 @@ pub record IsKnown (table : TableMap) (pattern : Compiled) (ps : List Point) (l 
   pub items : (after : Bool) → IsPossible pattern.variable after
       → HaveItems table pattern ps after (begins_cluster l.role) (counted l.role after (listed l.symbols)) (flag_after l.role after)
 
+-- the role of most letters says besides that no unit reaches out of the characters, and that they have one symbol or none
+abbrev pub IsPlain : Letter → Type 0
+IsPlain l = (l.is_closed ≡ true) × ((l.symbols.first ≡ NO_SYMBOL) × (l.symbols.second ≡ NO_SYMBOL))
+
 -- The letter of some characters.
 pub record IsLetter (table : TableMap) (pattern : Compiled) (cs : List ℕ) (l : Letter) : Type 0 where
   pub closed : l.is_closed ≡ true → AreClosed table (points_from 0 cs)
   pub apart : l.is_apart ≡ true → AreApart table (points_from 0 cs)
   pub known : l.role ≢ Steps → IsKnown table pattern (points_from 0 cs) l
+  pub plain : l.role ≡ Plain → IsPlain l

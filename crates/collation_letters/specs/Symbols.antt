@@ -5,10 +5,11 @@ use Rattle.collation_pattern.specs.Border.{border}
 use Rattle.collation_letters.specs.declared.symbols.Symbols.{Symbols}
 use Rattle.collation_letters.specs.declared.symbols.TheConstants.{NO_SYMBOL}
 
--- the symbol of a key: a place of the pattern where it stands, counted from 1, or 0 where the pattern does not have it
+-- the symbol of a key: the first place of the pattern where it stands, counted from 1, or 0 where the pattern does not have it
 pub record IsSymbol (pattern : List Key) (key : Key) (symbol : ℕ) : Type 0 where
   pub foreign : symbol ≡ 0 → (place : ℕ) → slice_get pattern place ≢ Some key
   pub known : (place : ℕ) → symbol ≡ suc place → slice_get pattern place ≡ Some key
+  pub first : (place earlier : ℕ) → symbol ≡ suc place → earlier < place → slice_get pattern earlier ≢ Some key
 
 -- The symbols of the last of some keys, in order. Keys are left out before these only where the first of them is one that the
 -- pattern does not have: no prefix of the pattern ends with it.

@@ -11,7 +11,7 @@ ghost use Rattle.collation_elements.specs.Weighing.{weigher};
 ghost use Rattle.collation_letters.specs.Finding.{Follows, HasRole, IsLastClass, IsSilent};
 ghost use Rattle.collation_letters.specs.Letters.{AreApart, IsLetter, IsPossible, is_mark};
 ghost use Rattle.collation_letters.specs.Symbols.{AreLastSymbols, listed};
-ghost use Rattle.collation_letters.specs.declared.letter.Role.TheVariants.{Steps as LeftToSteps};
+ghost use Rattle.collation_letters.specs.declared.letter.Role.TheVariants.{Steps as LeftToSteps, Plain};
 
 use crate::letter::{Letter, Role};
 use crate::symbols::{NO_SYMBOLS, Symbols, symbol_of};
@@ -39,14 +39,15 @@ pub fn letter_of<W: Weights>(table: &W, pattern: &Pattern, window: &mut Window, 
         Some((plain, after)) => role_and_symbols(pattern, points, is_closed, &plain, &after),
         None => (Role::Steps, NO_SYMBOLS),
     };
-    Letter {
+    let letter = Letter {
         role,
         is_closed,
         is_apart: are_apart(table, points),
         points: points.len() as u8,
         class: last_class(points),
         symbols,
-    }
+    };
+    letter.settled()
 }
 
 /// Whether none of these points begins a mapped string of two or more code points, as far as the table knows.
@@ -72,7 +73,7 @@ fn begins_with_starter(points: &[Point]) -> bool
 }
 
 /// Whether the first of these points is a starter that stands in no mapped string after the first place, as far as the table knows.
-fn are_apart<W: Weights>(table: &W, points: &[Point]) -> bool
+pub(crate) fn are_apart<W: Weights>(table: &W, points: &[Point]) -> bool
     ensures { result ≡ true → AreApart (W.table table.now) points.now }
 {
     match points {
@@ -93,7 +94,7 @@ fn last_class(points: &[Point]) -> u8
 
 /// The items of these points where the last element that was variable or primary was not variable, and where it was, if that may
 /// be; `None` where there are more than three keys.
-fn items_of<W: Weights>(
+pub(crate) fn items_of<W: Weights>(
     table: &W,
     pattern: &Pattern,
     window: &mut Window,
@@ -122,7 +123,7 @@ fn items_of<W: Weights>(
 }
 
 /// What a search does with points that have these items, and the symbols of their keys.
-fn role_and_symbols(
+pub(crate) fn role_and_symbols(
     pattern: &Pattern,
     points: &[Point],
     is_closed: bool,
@@ -130,6 +131,7 @@ fn role_and_symbols(
     after: &Option<CharacterItems>,
 ) -> (Role, Symbols)
     ensures role { let role = result.0 in role ≢ LeftToSteps → HasRole points.now plain.now after.now role }
+    ensures other { let role = result.0 in role ≢ Plain }
     ensures symbols { let role = result.0 in role ≢ LeftToSteps → AreLastSymbols pattern.now.keys (character_keys plain.now) (listed result.1) }
 {
     let role = if begins_with_starter(points) {
@@ -147,7 +149,8 @@ fn role_and_symbols(
 
 /// What a search does with points that begin with a starter.
 fn role_of_starter(plain: &CharacterItems, after: &Option<CharacterItems>) -> Role
-    ensures { result ≢ LeftToSteps → (is_mark result ≡ false) × Follows plain.now after.now result }
+    ensures other { result ≢ Plain }
+    ensures role { result ≢ LeftToSteps → (is_mark result ≡ false) × Follows plain.now after.now result }
 {
     if plain.begins_cluster {
         return match (is_as(plain, after), plain.after_variable) {
@@ -164,7 +167,8 @@ fn role_of_starter(plain: &CharacterItems, after: &Option<CharacterItems>) -> Ro
 
 /// What a search does with one point that is no starter.
 fn role_of_mark(plain: &CharacterItems, after: &Option<CharacterItems>) -> Role
-    ensures { result ≢ LeftToSteps → (is_mark result ≡ true) × Follows plain.now after.now result }
+    ensures other { result ≢ Plain }
+    ensures role { result ≢ LeftToSteps → (is_mark result ≡ true) × Follows plain.now after.now result }
 {
     if plain.begins_cluster || plain.after_variable {
         return Role::Steps;

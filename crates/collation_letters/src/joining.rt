@@ -1,5 +1,6 @@
 //! A mark joins the letter before it.
-ghost use Rattle.std.specs.Prelude.{IfSome};
+ghost use Rattle.std.specs.Prelude.{◌≢◌, IfSome};
+ghost use Rattle.collation_letters.specs.declared.letter.Role.TheVariants.{Plain};
 ghost use Rattle.collation_letters.specs.Joining.{Joins};
 
 use crate::letter::{Letter, Role};
@@ -32,23 +33,29 @@ impl Letter {
             return None;
         }
         let (role, symbols) = joined(self, mark)?;
-        Some(Letter {
+        let both = Letter {
             role,
             is_closed: true,
             is_apart: self.is_apart,
             points: self.points + 1,
             class: mark.class,
             symbols,
-        })
+        };
+        Some(both.settled())
     }
 }
 
 /// The role and the symbols of a letter that begins a cluster and a mark that follows it.
 #[inline(always)]
 fn joined(base: Letter, mark: Letter) -> Option<(Role, Symbols)>
-    ensures { IfSome result (Joins base mark) }
+    ensures joins { IfSome result (Joins base mark) }
+    ensures other { IfSome result (λ both. both.0 ≢ Plain) }
 {
     match (base.role, mark.role) {
+        (Role::Plain, Role::PrimaryMark) => {
+            Some((Role::Base, base.symbols.with_all(mark.symbols)?))
+        }
+        (Role::Plain, Role::Mark) => Some((Role::Base, base.symbols.with_all(mark.symbols)?)),
         (Role::Base, Role::PrimaryMark) => {
             Some((Role::Base, base.symbols.with_all(mark.symbols)?))
         }

@@ -1,7 +1,7 @@
 //! Laws of symbols: each is the contract of a function that does nothing.
 ghost use Rattle.collation_letters.specs.Symbols.{NoSymbolIsOfNoKey, NothingWaitsBehindForeignKeys, OneSymbolIsOfTheLastKey, SymbolsAreListed, SymbolsComeInTurn};
 
-use collation_pattern::laws::prefixes_end_with_the_last_key;
+use collation_pattern::laws::laws_of_borders;
 
 /// What symbols say of the keys whose symbols they are.
 pub fn laws_of_symbols()
@@ -11,5 +11,5 @@ pub fn laws_of_symbols()
     ensures listed { SymbolsAreListed }
     ensures foreign { NothingWaitsBehindForeignKeys }
 {
-    prefixes_end_with_the_last_key();
+    laws_of_borders();
 }

@@ -2,13 +2,16 @@
 ghost use Rattle.std.specs.Prelude.{◌≡◌, true};
 ghost use Rattle.collation_letters.specs.Letters.{begins_cluster, is_mark};
 
-use crate::symbols::{NO_SYMBOLS, Symbols};
+use crate::symbols::{NO_SYMBOL, NO_SYMBOLS, Symbols};
 
 /// What a search does with a character.
 #[derive(Clone, Copy, Debug, PartialEq, Eq)]
 pub enum Role {
     /// Nothing is known: it is left to the steps.
     Steps,
+    /// As a base, and no unit reaches from it to what follows, and it has one symbol or none. Most characters have this role, so that
+    /// few questions are asked of them.
+    Plain,
     /// It begins a cluster. After it the last element that was variable or primary is not variable.
     Base,
     /// It begins a cluster. After it, in shifted weighting, the last element that was variable or primary is variable.
@@ -59,7 +62,7 @@ impl Role {
         ensures { result ≡ begins_cluster self }
     {
         match self {
-            Role::Base | Role::VariableBase => true,
+            Role::Plain | Role::Base | Role::VariableBase => true,
             _ => false,
         }
     }
@@ -70,9 +73,18 @@ impl Role {
         ensures { result ≡ flag_after self after_variable }
     {
         match self {
-            Role::Base | Role::PrimaryMark => false,
+            Role::Plain | Role::Base | Role::PrimaryMark => false,
             Role::VariableBase => true,
             Role::Steps | Role::Silent | Role::Mark => after_variable,
+        }
+    }
+
+    /// Whether characters of the role are left to the steps.
+    #[inline(always)]
+    pub fn is_steps(self) -> bool {
+        match self {
+            Role::Steps => true,
+            _ => false,
         }
     }
 
@@ -94,6 +106,19 @@ impl Letter {
     ghost use Rattle.collation_table.specs.Table.{TableMap};
     ghost use Rattle.collation_pattern.specs.Compiled.{Compiled};
     ghost use Rattle.collation_letters.specs.Letters.{IsLetter};
+    ghost use Rattle.collation_letters.specs.declared.letter.Role.TheVariants.{Base};
+
+    /// Whether its role says that its characters begin with a starter.
+    #[inline(always)]
+    pub fn has_starter(&self) -> bool
+        ensures { result ≡ true → (table : TableMap) (pattern : Compiled) (cs : List ℕ) → IsLetter table pattern cs self.now
+            → begins_with_starter (points_from 0 cs) ≡ true }
+    {
+        match self.role {
+            Role::Plain | Role::Base | Role::VariableBase | Role::Silent => true,
+            Role::Steps | Role::PrimaryMark | Role::Mark => false,
+        }
+    }
 
     /// Whether its characters are known to begin with a starter.
     #[inline(always)]
@@ -102,8 +127,38 @@ impl Letter {
             → begins_with_starter (points_from 0 cs) ≡ true }
     {
         match self.role {
-            Role::Base | Role::VariableBase | Role::Silent => true,
+            Role::Plain | Role::Base | Role::VariableBase | Role::Silent => true,
             Role::Steps | Role::PrimaryMark | Role::Mark => self.is_apart,
+        }
+    }
+
+    /// The same letter, plain if it can be.
+    #[inline(always)]
+    pub(crate) fn settled(self) -> Letter
+        ensures { (table : TableMap) (pattern : Compiled) (cs : List ℕ) → IsLetter table pattern cs self → IsLetter table pattern cs result }
+    {
+        match self.role {
+            Role::Base => self.plain(),
+            _ => self,
+        }
+    }
+
+    /// The same letter, which is a base, plain if it can be.
+    #[inline(always)]
+    fn plain(self) -> Letter
+        requires { self.role ≡ Base }
+        ensures { (table : TableMap) (pattern : Compiled) (cs : List ℕ) → IsLetter table pattern cs self → IsLetter table pattern cs result }
+    {
+        if !self.is_closed || self.symbols.first != NO_SYMBOL || self.symbols.second != NO_SYMBOL {
+            return self;
+        }
+        Letter {
+            role: Role::Plain,
+            is_closed: self.is_closed,
+            is_apart: self.is_apart,
+            points: self.points,
+            class: self.class,
+            symbols: self.symbols,
         }
     }
 }

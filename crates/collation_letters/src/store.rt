@@ -1,41 +1,40 @@
-//! The letters that were found. Characters share places; each place has the letter of the last one that came there.
-ghost use Rattle.std.specs.Prelude.{◌≡◌, ◌≤◌, [], length, false};
+//! The letters that were found: a cache. It begins small, and is replaced by an empty greater one where many were found.
+ghost use Rattle.std.specs.Prelude.{◌≡◌, ◌≤◌, [], false};
 ghost use Rattle.nfd_points.specs.declared.limits.TheConstants.{MOST_DECOMPOSITION};
-ghost use Rattle.collation_letters.specs.declared.store.TheConstants.{PLACES};
 
 use crate::finding::letter_of;
-use crate::letter::{Letter, UNKNOWN};
+use crate::letter::Letter;
+use crate::pair_places::PairPlaces;
+use crate::pairs::letter_of_pair;
+use crate::places::Places;
 use collation_elements::Window;
 use collation_pattern::Pattern;
 use collation_table::Weights;
 use std::alloc::{AllocError, Global};
 
-/// How many places there are.
-const PLACES: usize = 8_192;
+/// The greatest number of a place, at first and where many letters were found.
+const LAST_OF_FEW: usize = 4_095;
 
-/// The letter of a character.
-#[derive(Clone, Copy)]
-struct Kept {
-    code_point: u32,
-    letter: Letter,
-}
+const LAST_OF_MANY: usize = 65_535;
 
-/// Of a place where no character came: nothing is known of this code point.
-const EMPTY: Kept = Kept {
-    code_point: 0,
-    letter: UNKNOWN,
-};
+/// How many letters are found before there are more places.
+const MANY: usize = 4_096;
 
 /// The letters of characters, for one table and one pattern.
 #[derive(Drop)]
 pub struct Letters {
-    kept: Vec<Kept>,
+    places: Places,
+    /// The letters of two characters together.
+    pairs: PairPlaces,
+    /// How many letters were found, up to `MANY`.
+    found: usize,
     /// Room for the points of a character.
     window: Window,
-    ghost places: { length kept.items ≡ PLACES },
+    alloc: Global,
     ghost empty: { window.points ≡ [] },
     ghost open: { window.has_ended ≡ false },
     ghost room: { MOST_DECOMPOSITION ≤ window.capacity },
+    ghost few: { found ≤ 4096 },
 }
 
 impl Letters {
@@ -54,19 +53,22 @@ impl Letters {
         ensures { IfOk result (λ letters. (table : TableMap) (pattern : Compiled) → AreLetters table pattern letters) }
     {
         Ok(Letters {
-            kept: vec![in alloc; EMPTY; PLACES]?,
+            places: Places::new(alloc, LAST_OF_FEW)?,
+            pairs: PairPlaces::new(alloc),
+            found: 0,
             window: Window::with_capacity(alloc, table.longest_key())?,
+            alloc,
         })
     }
 
-    /// The letter of a character. It is found where it is not known.
+    /// The letter of a character. It is found where it is not known. Where memory is refused the answer is the same.
     #[inline(always)]
     pub fn letter<W: Weights>(&mut self, table: &W, pattern: &Pattern, c: char) -> Letter
         requires { AreLetters (W.table table.now) pattern.now self.old }
         ensures right { AreLetters (W.table table.now) pattern.now self.new }
         ensures letter { IsLetter (W.table table.now) pattern.now (c ∷ []) result }
     {
-        let kept = self.kept[c as usize % PLACES];
+        let kept = self.places.at(c);
         if kept.code_point == c as u32 {
             return kept.letter;
         }
@@ -80,11 +82,62 @@ impl Letters {
         ensures right { AreLetters (W.table table.now) pattern.now self.new }
         ensures letter { IsLetter (W.table table.now) pattern.now (c ∷ []) result }
     {
+        self.count();
         let letter = letter_of(table, pattern, &mut self.window, c);
-        self.kept[c as usize % PLACES] = Kept {
-            code_point: c as u32,
-            letter,
-        };
+        self.places.keep(c, letter);
         letter
+    }
+
+    /// The letter of two characters together. It is found where it is not known. Where memory is refused the answer is the same.
+    #[inline(always)]
+    pub fn pair<W: Weights>(
+        &mut self,
+        table: &W,
+        pattern: &Pattern,
+        first: char,
+        second: char,
+    ) -> Letter
+        requires { AreLetters (W.table table.now) pattern.now self.old }
+        ensures right { AreLetters (W.table table.now) pattern.now self.new }
+        ensures letter { IsLetter (W.table table.now) pattern.now (first ∷ second ∷ []) result }
+    {
+        match self.pairs.letter(first, second) {
+            Some(letter) => letter,
+            None => self.find_pair(table, pattern, first, second),
+        }
+    }
+
+    /// Finds the letter of two characters together, and keeps it.
+    #[inline(never)]
+    fn find_pair<W: Weights>(
+        &mut self,
+        table: &W,
+        pattern: &Pattern,
+        first: char,
+        second: char,
+    ) -> Letter
+        requires { AreLetters (W.table table.now) pattern.now self.old }
+        ensures right { AreLetters (W.table table.now) pattern.now self.new }
+        ensures letter { IsLetter (W.table table.now) pattern.now (first ∷ second ∷ []) result }
+    {
+        let letter = letter_of_pair(table, pattern, &mut self.window, first, second);
+        self.pairs.keep(self.alloc, first, second, letter);
+        letter
+    }
+
+    /// Counts a letter that is found. Where these are many, the places are replaced by more, if there is memory.
+    fn count(&mut self)
+        ensures { (table : TableMap) (pattern : Compiled) → AreLetters table pattern self.old → AreLetters table pattern self.new }
+    {
+        if self.found == MANY {
+            return;
+        }
+        self.found += 1;
+        if self.found < MANY {
+            return;
+        }
+        if let Ok(places) = Places::new(self.alloc, LAST_OF_MANY) {
+            self.places = places;
+        }
     }
 }

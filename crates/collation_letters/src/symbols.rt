@@ -1,21 +1,28 @@
 //! Symbols: the keys of a text as a pattern sees them.
-ghost use Rattle.std.specs.Prelude.{◌≡◌, ◌<◌, ◌≤◌, ◌∷◌, ◌++◌, List, [], length, IfSome, true};
+ghost use Rattle.std.specs.Prelude.{◌≡◌, ◌≢◌, ◌<◌, ◌≤◌, ◌∷◌, ◌++◌, List, [], length, IfSome, true};
 ghost use Rattle.collation_elements.specs.declared.keys.Key.{Key as KeyValue};
 ghost use Rattle.collation_pattern.specs.Border.{border};
+ghost use Rattle.collation_letters.specs.declared.symbols.TheConstants.{FOREIGN};
 ghost use Rattle.collation_letters.specs.Symbols.{AreLastSymbols, IsSymbol, listed, some_symbol};
 
 use collation_elements::Key;
 use collation_pattern::Pattern;
-use collation_pattern::laws::prefixes_end_with_the_last_key;
+use collation_pattern::laws::laws_of_borders;
 
 /// The symbol of a key that the pattern does not have.
 pub const FOREIGN: u8 = 0;
+
+/// The symbol of the pattern's first key.
+pub const FIRST: u8 = 1;
 
 /// No symbol.
 pub const NO_SYMBOL: u8 = 255;
 
 /// How many keys at the beginning of a pattern have symbols.
 const MOST_SYMBOLS: usize = 254;
+
+/// How many keys a pattern may have, all of which are compared where a letter is found.
+const MOST_KEYS: usize = 1_024;
 
 /// Up to three symbols.
 #[derive(Clone, Copy, Debug, PartialEq, Eq)]
@@ -84,17 +91,20 @@ fn with_some(symbols: Symbols, symbol: u8) -> Option<Symbols>
     symbols.with(symbol)
 }
 
-/// The symbol of a key; `None` where the pattern may have it behind the keys that have symbols.
+/// The symbol of a key; `None` where the pattern has it first behind the keys that have symbols, or has too many keys.
 pub fn symbol_of(pattern: &Pattern, key: &Key) -> Option<u8>
     ensures symbol { IfSome result (λ symbol. IsSymbol pattern.now.keys key.now symbol) }
     ensures below { IfSome result (λ symbol. symbol < 255) }
 {
     let keys = pattern.keys();
-    if keys.len() > MOST_SYMBOLS {
+    if keys.len() > MOST_KEYS {
         return None;
     }
     for place in 0..keys.len() {
         if keys[place] == *key {
+            if place >= MOST_SYMBOLS {
+                return None;
+            }
             return Some(place as u8 + 1);
         }
     }
@@ -108,8 +118,16 @@ pub fn advance(pattern: &Pattern, state: usize, symbol: u8) -> usize
     ensures border { (ks : List KeyValue) (key : KeyValue) → IsSymbol pattern.now.keys key symbol
         → border pattern.now.keys ks ≡ state → result ≡ border pattern.now.keys (ks ++ key ∷ []) }
     ensures within { result ≤ length pattern.now.keys }
+    ensures foreign { symbol ≡ FOREIGN → result ≡ 0 }
+    ensures other { state ≡ 0 → symbol ≢ 1 → result ≡ 0 }
 {
-    prefixes_end_with_the_last_key();
+    laws_of_borders();
+    // where no prefix has matched one comparison is enough, and most symbols give the same answer
+    if state == 0 {
+        if symbol != FIRST {
+            return 0;
+        }
+    }
     if symbol == FOREIGN {
         return 0;
     }

@@ -243,6 +243,35 @@ fn same_letter_is_answered_again(rt: HostRuntime) -> Result<(), Fail> {
     Ok(())
 }
 
+/// The letters of two characters together to a pattern: `c` with `h` is mapped, and so is `u` with an accent, which is no starter.
+#[test]
+fn letters_of_pairs(rt: HostRuntime) -> Result<(), Fail> {
+    let table = Table::read(rt.alloc(), TABLE.as_bytes())?;
+    let (strength, variable) = (Strength::Two, Variable::NonIgnorable);
+    let pattern = Pattern::compile(rt.alloc(), &table, "bch", strength, variable)?;
+    let mut letters = Letters::new(rt.alloc(), &table)?;
+    let first = letters.pair(&table, &pattern, 'c', 'h');
+    let again = letters.pair(&table, &pattern, 'c', 'h');
+    // it has the place of `ch`
+    let other = letters.pair(&table, &pattern, '\u{823}', 'h');
+    let back = letters.pair(&table, &pattern, 'c', 'h');
+    for letter in [first, again, back] {
+        assert_eq!(rt; letter.role, Role::Base);
+        assert_eq!(rt; letter.symbols, one(2));
+        assert!(rt; letter.is_closed && letter.is_apart);
+        assert_eq!(rt; (letter.points, letter.class), (2, 0));
+    }
+    let unmapped = letters.pair(&table, &pattern, 'c', 'a');
+    let swapped = letters.pair(&table, &pattern, 'h', 'c');
+    let marked = letters.pair(&table, &pattern, 'u', '\u{301}');
+    let nulls = letters.pair(&table, &pattern, '\0', '\0');
+    for letter in [other, unmapped, swapped, marked, nulls] {
+        assert_eq!(rt; letter.role, Role::Steps);
+        assert!(rt; !letter.is_closed && !letter.is_apart);
+    }
+    Ok(())
+}
+
 /// To be run with each allocation refused in turn: where the first letters were refused, those that are asked for again are as
 /// with ample memory. A refusal that meets the test itself fails it by an error.
 #[test]
@@ -255,5 +284,8 @@ fn refused_letters_are_asked_for_again(rt: HostRuntime) -> Result<(), Fail> {
     let letter = letters.letter(&table, &pattern, 'a');
     assert_eq!(rt; letter.role, Role::Base);
     assert_eq!(rt; letter.symbols, one(1));
+    let pair = letters.pair(&table, &pattern, 'c', 'h');
+    assert_eq!(rt; pair.role, Role::Base);
+    assert_eq!(rt; pair.symbols, one(FOREIGN));
     Ok(())
 }

@@ -202,6 +202,17 @@ border-more pattern ks key =
     (ends_through (take (border pattern short) pattern) short (ks ++ key ∷ []) (border-ends pattern short)
     (ends_push (take s pattern) ks key (border-ends pattern ks))) (border_more-most pattern ks key)
 
+pub border-grows : (pattern ks : List Key) (key : Key) → border pattern (ks ++ key ∷ []) ≤ suc (border pattern ks)
+border-grows pattern ks key = below (border pattern (ks ++ key ∷ [])) refl
+  where
+    below : (n : ℕ) → border pattern (ks ++ key ∷ []) ≡ n → n ≤ suc (border pattern ks)
+    below zero at = omega arith
+    below (suc n) at =
+        let within : n < length pattern = omega (arith, at, border-within pattern (ks ++ key ∷ [])) in
+        let ends = subst (λ i. Ends (take i pattern) (ks ++ key ∷ [])) at (border-ends pattern (ks ++ key ∷ [])) in
+        let parts = one_more pattern ks n key within ends in
+        omega (arith, border-most pattern ks n (omega (arith, within)) parts.1)
+
 -- ---- the search for the border of the first `state` keys with one more
 
 -- the first n keys end the first `state` keys, and all prefixes that do so with this key after them are no longer

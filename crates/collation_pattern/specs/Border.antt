@@ -1,5 +1,5 @@
 -- Borders: how much of a pattern's keys ends a list of keys.
-use Rattle.std.specs.Prelude.{◌≡◌, ◌++◌, Some, slice_get, ℕ, zero, suc, ◌-◌, Bool, true, false, ◌&&◌, ◌==◌, List, [], ◌∷◌, take, drop, length, min, if◌then◌else◌}
+use Rattle.std.specs.Prelude.{◌≡◌, ◌≤◌, ◌++◌, Some, slice_get, ℕ, zero, suc, ◌-◌, Bool, true, false, ◌&&◌, ◌==◌, List, [], ◌∷◌, take, drop, length, min, if◌then◌else◌}
 use Rattle.collation_elements.specs.declared.keys.Key.{Key}
 use Rattle.collation_elements.specs.declared.keys.Key.TheVariants.{Primary, Pair, Secondary, Tertiary}
 
@@ -32,3 +32,7 @@ border pattern ks = border_up_to pattern ks (min (length pattern) (length ks))
 abbrev pub PrefixesEndWithTheLastKey : Type 0
 PrefixesEndWithTheLastKey =
     (pattern ks : List Key) (key : Key) (n : ℕ) → border pattern (ks ++ key ∷ []) ≡ suc n → slice_get pattern n ≡ Some key
+
+-- with one key more the border grows by one at most
+abbrev pub BordersGrowByOne : Type 0
+BordersGrowByOne = (pattern ks : List Key) (key : Key) → border pattern (ks ++ key ∷ []) ≤ suc (border pattern ks)

@@ -1,6 +1,6 @@
 //! Laws of sort keys, lists of keys, and borders.
 
-ghost use Rattle.collation_pattern.specs.Border.{PrefixesEndWithTheLastKey};
+ghost use Rattle.collation_pattern.specs.Border.{BordersGrowByOne, PrefixesEndWithTheLastKey};
 ghost use Rattle.collation_pattern.specs.KeyLaw.{KeyLaw, SortKeyIsLevels};
 
 use collation_table::Weights;
@@ -14,7 +14,9 @@ pub fn key_law<W: Weights>(table: &W)
     laws_of_points();
 }
 
-/// Where a prefix of a pattern ends a list of keys, its last key is the last of the list.
-pub fn prefixes_end_with_the_last_key()
-    ensures { PrefixesEndWithTheLastKey }
+/// Where a prefix of a pattern ends a list of keys, its last key is the last of the list, and without this key a shorter prefix by
+/// one ends the list.
+pub fn laws_of_borders()
+    ensures last { PrefixesEndWithTheLastKey }
+    ensures grow { BordersGrowByOne }
 {}

@@ -43,6 +43,10 @@ BeginsNoLongerString T cp = (next : ℕ) (rest : List ℕ) → is_mapped T (cp �
 abbrev pub ContinuesNoString : TableMap → ℕ → Type 0
 ContinuesNoString T cp = (first : ℕ) (prefix rest : List ℕ) → is_mapped T (first ∷ (prefix ++ cp ∷ rest)) ≡ false
 
+-- no mapped string that is longer than `string` begins with it
+abbrev pub GoesOnInNoString : TableMap → List ℕ → Type 0
+GoesOnInNoString T string = (next : ℕ) (rest : List ℕ) → is_mapped T (string ++ next ∷ rest) ≡ false
+
 -- ---- implicit weights (UTS #10, section 10.1.3)
 
 abbrev pub is_in : ℕ → ImplicitRange → Bool

@@ -1,6 +1,6 @@
 //! What the rest of the library asks a collation element table.
 ghost use Rattle.std.specs.Prelude.{◌≡◌, [], ◌∷◌, false, ◌<◌, ◌≤◌, length, option_copied, IfSome, OnSome};
-ghost use Rattle.collation_table.specs.Table.{TableMap, BeginsNoLongerString, ContinuesNoString, HasSizes, row_of, longest_prefix, implicit_pair, longest_mapped, most_elements};
+ghost use Rattle.collation_table.specs.Table.{TableMap, BeginsNoLongerString, ContinuesNoString, GoesOnInNoString, HasSizes, row_of, longest_prefix, implicit_pair, longest_mapped, most_elements};
 ghost use Rattle.collation_table.specs.WellFormed.{IsWellFormed};
 
 use crate::elements::Element;
@@ -46,6 +46,15 @@ pub trait Weights {
         ensures { result ≡ false → ContinuesNoString (table self.now) cp }
     {
         let _ = cp;
+        true
+    }
+
+    /// Whether a mapped string that is longer than `string` begins with it. `false` only where none does; a table that does not know
+    /// answers `true`.
+    fn goes_on(&self, string: &[u32]) -> bool
+        ensures { result ≡ false → GoesOnInNoString (table self.now) string.now }
+    {
+        let _ = string;
         true
     }
 

@@ -1,6 +1,6 @@
 //! The rows and the implicit ranges of a table, as the lines of its file give them one by one.
 ghost use Rattle.std.specs.Prelude.{◌≡◌, [], ◌∷◌, ◌++◌, false, length, take, slice_get, None, Some, IfOk, IfSome, OnSome, option_copied, ◌<◌, ◌≤◌};
-ghost use Rattle.collation_table.specs.Table.{TableMap, BeginsNoLongerString, ContinuesNoString, row_of, row_with, is_mapped, longest_prefix, longest_mapped, most_elements};
+ghost use Rattle.collation_table.specs.Table.{TableMap, BeginsNoLongerString, ContinuesNoString, GoesOnInNoString, row_of, row_with, is_mapped, longest_prefix, longest_mapped, most_elements};
 ghost use Rattle.collation_table.specs.Entries.{part};
 ghost use Rattle.collation_table.specs.WellFormed.{IsRowSound, breaks_ranges};
 
@@ -111,6 +111,13 @@ impl Rows {
         ensures { result ≡ false → BeginsNoLongerString self.now cp }
     {
         self.trie.begins_longer_string(cp)
+    }
+
+    /// Whether a mapped string that is longer than `string` begins with it; `true` for the empty string.
+    pub fn goes_on(&self, string: &[u32]) -> bool
+        ensures { result ≡ false → GoesOnInNoString self.now string.now }
+    {
+        self.trie.goes_on(string)
     }
 
     /// The elements of the row of `cp` alone, if it has one, where no mapped string of two or more code points begins with it; `None`

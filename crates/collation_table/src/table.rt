@@ -73,6 +73,10 @@ impl Weights for Table {
         self.rows.continues_string(cp)
     }
 
+    fn goes_on(&self, string: &[u32]) -> bool {
+        self.rows.goes_on(string)
+    }
+
     fn longest_key(&self) -> usize {
         self.longest
     }

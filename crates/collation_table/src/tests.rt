@@ -492,6 +492,28 @@ fn answers_by_its_rows(rt: HostRuntime) -> Result<(), Fail> {
     ask_for_rows(&rt, &read_plain_again(rt.alloc(), ACCENTED.as_bytes())?)
 }
 
+/// `abc` is mapped, and `ab` is not. A plain table does not know.
+#[test]
+fn says_what_goes_on(rt: HostRuntime) -> Result<(), Fail> {
+    let tailor = "0061 0062 0063 ; [.1C05.0020.0002]";
+    let table = read_both_again(rt.alloc(), ACCENTED.as_bytes(), tailor.as_bytes())?;
+    for (string, goes_on) in [
+        ([0x63].as_slice(), true),
+        ([0x63, 0x68].as_slice(), false),
+        ([0x61].as_slice(), true),
+        ([0x61, 0x62].as_slice(), true),
+        ([0x61, 0x62, 0x63].as_slice(), false),
+        ([0x61, 0x63].as_slice(), false),
+        ([0x7A].as_slice(), false),
+        ([].as_slice(), true),
+    ] {
+        assert_eq!(rt; table.goes_on(string), goes_on, "{string:?}");
+    }
+    let plain = read_plain_again(rt.alloc(), ACCENTED.as_bytes())?;
+    assert!(rt; plain.goes_on(&[0x63, 0x68]));
+    Ok(())
+}
+
 /// The first weights of the implicit pair of a code point.
 fn implicit_in<W: Weights + Drop>(answer: Result<W, TableFault>, point: u32) -> Option<(u16, u16)> {
     let table = answer.ok()?;

@@ -192,6 +192,24 @@ impl Trie {
         entry.place
     }
 
+    /// Whether a mapped string that is longer than `string` begins with it; `true` for the empty string.
+    pub fn goes_on(&self, string: &[u32]) -> bool
+        requires { IsTrie self.now }
+        ensures { result ≡ false → (d : ℕ) (rest : List ℕ) → place_of self.now (string.now ++ d ∷ rest) ≡ None }
+    {
+        let [first, rest @ ..] = string else {
+            return true;
+        };
+        let mut entry = self.step(0, *first);
+        for cp in rest {
+            match entry.node {
+                Some(node) => entry = self.step(node, *cp),
+                None => return false,
+            }
+        }
+        entry.node.is_some()
+    }
+
     /// The greatest number of code points at which a prefix of `points` is mapped, and 0 if none is. The walk ends where no mapped
     /// string goes on, which no clause says.
     pub fn longest(&self, points: &[u32]) -> usize

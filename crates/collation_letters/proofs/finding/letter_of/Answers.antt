@@ -4,12 +4,16 @@ use Rattle.nfd_points.specs.Points.{is_in_order, points_from, points_of}
 use Rattle.nfd_points.specs.declared.points.Point.{Point}
 use Rattle.collation_table.specs.Table.{BeginsNoLongerString}
 use Rattle.collation_elements.specs.CharacterItems.{character_keys}
-use Rattle.collation_letters.specs.declared.letter.Role.TheVariants.{Steps}
+use Rattle.collation_letters.specs.declared.letter.Role.{Role}
+use Rattle.collation_letters.specs.declared.letter.Role.TheVariants.{Steps, Plain}
 use Rattle.collation_letters.specs.Finding.{HasRole}
 use Rattle.collation_letters.specs.Symbols.{AreLastSymbols, listed}
 use Rattle.collation_letters.proofs.LetterLemmas.{closed-alone, from-one, known-at, letter-at, few-points, some-points}
 use Rattle.collation_letters.proofs.finding.letter_of.Goals.{in-Some, in-None}
 use Rattle.collation_letters.proofs.finding.letter_of.Goals as goal
+
+steps_or_plain : ◌≡◌ {A = Role} Steps Plain → ⊥
+steps_or_plain h = cc
 
 pub returns-clause-letter : goal.returns-clause-letter
 returns-clause-letter g c =
@@ -21,7 +25,12 @@ returns-clause-letter g c =
     let few = subst (λ (qs : List Point). length qs ≤ 30) (sym value) (few-points c.laws_of_decompositions.ensures.short 0 ch) in
     let some = subst (λ (qs : List Point). 1 ≤ length qs) (sym value) (some-points c.laws_of_decompositions.ensures.short 0 ch) in
     let in_order = ap is_in_order value ∙ c.laws_of_decompositions.ensures.in_order 0 ch in
-    letter-at table pattern (ch ∷ []) ps _ (value ∙ sym (from-one 0 ch))
+    let other : c.match-items_of.role.0 ≢ Plain = elim c.match-items_of.branch [
+      | in-Some w ↦ λ is. w.role_and_symbols.ensures.other (sym (ap (λ r. r.0) w.role-is) ∙ is)
+      | in-None w ↦ λ is. steps_or_plain (sym (ap (λ r. r.0) w.role-is) ∙ is)
+    ] in
+    c.settled.ensures table pattern (ch ∷ [])
+    (letter-at table pattern (ch ∷ []) ps _ (value ∙ sym (from-one 0 ch)) other
     (λ yes. closed-alone c.units_stay_apart.ensures.alone table ps (c.are_closed-is_closed.ensures yes))
     c.are_apart.ensures
     (λ known. elim c.match-items_of.branch [
@@ -32,4 +41,4 @@ returns-clause-letter g c =
           (subst (λ r. HasRole ps w.in-Some.plain w.in-Some.after r) (sym (ap (λ r. r.0) w.role-is)) (w.role_and_symbols.ensures.role role))
           (subst (λ s. AreLastSymbols pattern.keys (character_keys w.in-Some.plain) (listed s)) (sym (ap (λ r. r.1) w.role-is)) (w.role_and_symbols.ensures.symbols role))
       | in-None w ↦ absurd (known (ap (λ r. r.0) w.role-is))
-    ])
+    ]))

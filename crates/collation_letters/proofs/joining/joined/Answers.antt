@@ -6,8 +6,8 @@ use Rattle.collation_letters.specs.Symbols.{AreLastSymbols, listed}
 use Rattle.collation_letters.proofs.SymbolLemmas.{last-none}
 use Rattle.collation_letters.proofs.joining.joined.Goals as goal
 
-pub returns-in-VariableBase-Mark : goal.returns-in-VariableBase-Mark
-returns-in-VariableBase-Mark c =
+pub returns-in-VariableBase-Mark-clause-joins : goal.returns-in-VariableBase-Mark-clause-joins
+returns-in-VariableBase-Mark-clause-joins c =
     let base = c.in-VariableBase-Mark.is-0 in
     let mark = c.in-VariableBase-Mark.is-1 in
     record {
@@ -23,8 +23,32 @@ returns-in-VariableBase-Mark c =
           subst (λ (l : List Key). AreLastSymbols pattern l (listed c.args.base.symbols)) (sym (ap (λ (l : List Key). keys ++ l) nothing ∙ append-nil keys)) h;
     }
 
-pub returns-in_ok-with_all-in-Base-PrimaryMark : goal.returns-in_ok-with_all-in-Base-PrimaryMark
-returns-in_ok-with_all-in-Base-PrimaryMark c =
+pub returns-in_ok-with_all-in-Plain-PrimaryMark-clause-joins : goal.returns-in_ok-with_all-in-Plain-PrimaryMark-clause-joins
+returns-in_ok-with_all-in-Plain-PrimaryMark-clause-joins c =
+    let base = c.in-Plain-PrimaryMark.is-0 in
+    let mark = c.in-Plain-PrimaryMark.is-1 in
+    record {
+      base_begins = ap begins_cluster base;
+      mark_joins = ap is_mark mark;
+      begins = refl;
+      flag = λ after. sym (ap (λ r. flag_after r (flag_after c.args.base.role after)) mark);
+      symbols = λ pattern keys later after h k. c.in_ok-with_all-in-Plain-PrimaryMark.ensures pattern keys later h (subst (λ l. AreLastSymbols pattern later l) (ap (λ r. counted r (flag_after c.args.base.role after) (listed c.args.mark.symbols)) mark) k);
+    }
+
+pub returns-in_ok-with_all-in-Plain-Mark-clause-joins : goal.returns-in_ok-with_all-in-Plain-Mark-clause-joins
+returns-in_ok-with_all-in-Plain-Mark-clause-joins c =
+    let base = c.in-Plain-Mark.is-0 in
+    let mark = c.in-Plain-Mark.is-1 in
+    record {
+      base_begins = ap begins_cluster base;
+      mark_joins = ap is_mark mark;
+      begins = refl;
+      flag = λ after. sym (ap₂ (λ r b. flag_after r b) mark (ap (λ r. flag_after r after) base));
+      symbols = λ pattern keys later after h k. c.in_ok-with_all-in-Plain-Mark.ensures pattern keys later h (subst (λ l. AreLastSymbols pattern later l) (ap₂ (λ r b. counted r b (listed c.args.mark.symbols)) mark (ap (λ r. flag_after r after) base)) k);
+    }
+
+pub returns-in_ok-with_all-in-Base-PrimaryMark-clause-joins : goal.returns-in_ok-with_all-in-Base-PrimaryMark-clause-joins
+returns-in_ok-with_all-in-Base-PrimaryMark-clause-joins c =
     let base = c.in-Base-PrimaryMark.is-0 in
     let mark = c.in-Base-PrimaryMark.is-1 in
     record {
@@ -35,8 +59,8 @@ returns-in_ok-with_all-in-Base-PrimaryMark c =
       symbols = λ pattern keys later after h k. c.in_ok-with_all-in-Base-PrimaryMark.ensures pattern keys later h (subst (λ l. AreLastSymbols pattern later l) (ap (λ r. counted r (flag_after c.args.base.role after) (listed c.args.mark.symbols)) mark) k);
     }
 
-pub returns-in_ok-with_all-in-Base-Mark : goal.returns-in_ok-with_all-in-Base-Mark
-returns-in_ok-with_all-in-Base-Mark c =
+pub returns-in_ok-with_all-in-Base-Mark-clause-joins : goal.returns-in_ok-with_all-in-Base-Mark-clause-joins
+returns-in_ok-with_all-in-Base-Mark-clause-joins c =
     let base = c.in-Base-Mark.is-0 in
     let mark = c.in-Base-Mark.is-1 in
     record {
@@ -47,8 +71,8 @@ returns-in_ok-with_all-in-Base-Mark c =
       symbols = λ pattern keys later after h k. c.in_ok-with_all-in-Base-Mark.ensures pattern keys later h (subst (λ l. AreLastSymbols pattern later l) (ap₂ (λ r b. counted r b (listed c.args.mark.symbols)) mark (ap (λ r. flag_after r after) base)) k);
     }
 
-pub returns-in_ok-with_all-in-VariableBase-PrimaryMark : goal.returns-in_ok-with_all-in-VariableBase-PrimaryMark
-returns-in_ok-with_all-in-VariableBase-PrimaryMark c =
+pub returns-in_ok-with_all-in-VariableBase-PrimaryMark-clause-joins : goal.returns-in_ok-with_all-in-VariableBase-PrimaryMark-clause-joins
+returns-in_ok-with_all-in-VariableBase-PrimaryMark-clause-joins c =
     let base = c.in-VariableBase-PrimaryMark.is-0 in
     let mark = c.in-VariableBase-PrimaryMark.is-1 in
     record {

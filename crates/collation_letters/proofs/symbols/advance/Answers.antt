@@ -4,13 +4,18 @@ use Rattle.collation_elements.specs.declared.keys.Key.{Key}
 use Rattle.collation_elements.specs.declared.keys.Key.TheVariants.{Primary}
 use Rattle.collation_pattern.specs.Border.{border}
 use Rattle.collation_letters.specs.Symbols.{IsSymbol}
-use Rattle.collation_letters.proofs.SymbolLemmas.{foreign-border, symbol-place, not-past}
+use Rattle.collation_letters.proofs.SymbolLemmas.{first-border, foreign-border, symbol-place, not-past}
 use Rattle.collation_letters.proofs.symbols.advance.Goals as goal
 
 pub returns-then-symbol-eq-FOREIGN-clause-border : goal.returns-then-symbol-eq-FOREIGN-clause-border
 returns-then-symbol-eq-FOREIGN-clause-border c = λ ks key is at.
     let pattern = c.args.pattern.now.keys in
-    foreign-border c.prefixes_end_with_the_last_key.ensures pattern ks key (subst (λ n. IsSymbol pattern key n) c.if-symbol-eq-FOREIGN.true is)
+    foreign-border c.laws_of_borders.ensures.last pattern ks key (subst (λ n. IsSymbol pattern key n) c.if-symbol-eq-FOREIGN.true is)
+
+pub returns-then-symbol-ne-FIRST-clause-border : goal.returns-then-symbol-ne-FIRST-clause-border
+returns-then-symbol-ne-FIRST-clause-border c = λ ks key is at.
+    let laws = c.laws_of_borders.ensures in
+    first-border laws.last laws.grow c.args.pattern.now.keys ks key c.args.symbol is c.if-symbol-ne-FIRST.true (at ∙ c.if-state-eq0.true)
 
 pub returns-then-place-keys-clause-border : goal.returns-then-place-keys-clause-border
 returns-then-place-keys-clause-border c = λ ks key is at.

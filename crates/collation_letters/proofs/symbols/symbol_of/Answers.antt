@@ -12,4 +12,5 @@ returns-clause-symbol c = record {
         | inr above ↦ not-past keys c.args.key.now place (omega (arith, above, c.loop-place-test.false, ap length c.keys-keys.ensures)) at
       ];
   known = λ place is. absurd (omega (arith, is));
+  first = λ place earlier is. absurd (omega (arith, is));
 }

@@ -1,7 +1,7 @@
-use Rattle.std.proofs.lemmas.List.Elements.{All-set}
-use Rattle.collation_letters.specs.Store.{IsKept}
 use Rattle.collation_letters.proofs.store.Letters.find.Goals as goal
 
 pub returns-clause-right : goal.returns-clause-right
 returns-clause-right g c =
-    All-set (IsKept (g.W.Weights.table c.args.table.now) c.args.pattern.now) c.args.self.now.kept.items _ _ c.letter_of-letter.ensures.letter c.requires
+    let table = g.W.Weights.table c.args.table.now in
+    let counted = c.count.ensures table c.args.pattern.now c.requires in
+    (c.keep.ensures table c.args.pattern.now counted.0 c.letter_of-letter.ensures.letter, counted.1)
