@@ -1,10 +1,9 @@
 -- A letter and a mark that joins it.
-use Rattle.std.specs.Option.{ForSome}
-use Rattle.std.proofs.Common.{◌≡◌, ◌≢◌, ◌∙◌, ℕ, ◌+◌, ◌≤◌, Bool, true, false, cond, not, nat_lt, ◌&&◌, List, [], ◌∷◌, ◌++◌, length, map, slice_get, Some, refl, sym, ap, ap₂, subst, arith, append_assoc, length-append}
+use Rattle.std.proofs.Common.{◌≡◌, ◌≢◌, ◌∙◌, ℕ, ◌+◌, ◌≤◌, Bool, true, false, cond, not, nat_lt, ◌&&◌, List, [], ◌∷◌, ◌++◌, length, map, slice_get, refl, sym, ap, ap₂, subst, arith, append_assoc, length-append}
 use Rattle.std.proofs.lemmas.Bool.{false≢true, le-ltb}
 use Rattle.std.proofs.lemmas.List.{map-append, same_from_push}
 use Rattle.nfd_points.specs.declared.points.Point.{Point}
-use Rattle.nfd_points.specs.Points.{byte_len, points_from, shifted, is_reorderable, is_in_order, is_starter, begins_with_starter}
+use Rattle.nfd_points.specs.Points.{byte_len, points_from, shifted, is_reorderable, is_in_order, begins_with_starter}
 use Rattle.nfd_points.specs.Laws.{PointsOfParts, PointsAreShifted}
 use Rattle.collation_table.specs.Table.{TableMap}
 use Rattle.collation_elements.specs.declared.keys.Key.{Key}
@@ -21,7 +20,7 @@ use Rattle.collation_letters.specs.declared.letter.Letter.{Letter}
 use Rattle.collation_letters.specs.declared.letter.Role.{Role}
 use Rattle.collation_letters.specs.declared.letter.Role.TheVariants.{Steps, Plain, Base, VariableBase, Silent, PrimaryMark, Mark}
 use Rattle.collation_letters.specs.Symbols.{AreLastSymbols, listed}
-use Rattle.collation_letters.specs.Letters.{begins_cluster, is_mark, not_mark, flag_after, counted, here, keys_alone, AreClosed, AreApart, IsPossible, HaveItems, IsKnown, IsLetter}
+use Rattle.collation_letters.specs.Letters.{begins_cluster, is_mark, flag_after, counted, here, keys_alone, AreClosed, IsPossible, HaveItems, IsKnown, IsLetter}
 use Rattle.collation_letters.specs.Joining.{Joins}
 use Rattle.collation_letters.proofs.LetterLemmas.{have-keys, letter-at}
 

@@ -1,12 +1,12 @@
 -- What is found of a character's points is its letter.
-use Rattle.std.specs.Option.{ForSome, IfSome}
+use Rattle.std.specs.Option.{IfSome}
 use Rattle.std.specs.List.{All}
-use Rattle.std.proofs.Common.{◌≡◌, ◌≢◌, ◌∙◌, ℕ, ◌+◌, ◌≤◌, Bool, true, false, cond, List, [], ◌∷◌, ◌++◌, length, map, slice_get, Option, Some, None, refl, sym, ap, ap₂, subst, arith}
+use Rattle.std.proofs.Common.{◌≡◌, ◌≢◌, ◌∙◌, ℕ, ◌≤◌, Bool, true, false, cond, List, [], ◌∷◌, ◌++◌, length, map, Option, Some, None, refl, sym, ap, ap₂, subst, arith}
 use Rattle.std.proofs.lemmas.List.{append-nil}
 use Rattle.std.proofs.lemmas.List.Elements.{All-map}
 use Rattle.nfd_points.specs.declared.points.Point.{Point}
 use Rattle.nfd_points.specs.Points.{decomposition, points_at, points_of, points_from, shifted, is_in_order, begins_with_starter}
-use Rattle.nfd_points.specs.Laws.{DecompositionsAreShort, DecompositionsAreInOrder}
+use Rattle.nfd_points.specs.Laws.{DecompositionsAreShort}
 use Rattle.collation_table.specs.Table.{TableMap, BeginsNoLongerString}
 use Rattle.collation_elements.specs.declared.keys.Key.{Key}
 use Rattle.collation_elements.specs.declared.keys.Item.TheVariants.{ClusterStart, Element}

@@ -1,9 +1,9 @@
 -- Symbols of keys, added one by one.
-use Rattle.std.proofs.Common.{◌≡◌, ◌∙◌, ◌≢◌, ℕ, zero, suc, ◌≤◌, ◌<◌, Bool, true, false, cond, List, [], ◌∷◌, ◌++◌, length, slice_get, get_or, take, drop, Option, Some, None, ◌-◌, refl, sym, ap, ap₂, subst, arith, inl, inr, append_assoc, length-append, length-drop}
+use Rattle.std.proofs.Common.{◌≡◌, ◌∙◌, ◌≢◌, ℕ, zero, suc, ◌≤◌, ◌<◌, List, [], ◌∷◌, ◌++◌, length, slice_get, take, drop, Option, Some, None, ◌-◌, refl, sym, ap, ap₂, subst, arith, inl, inr, append_assoc, length-append, length-drop}
 use Rattle.std.specs.List.{filter}
 use Rattle.std.specs.Option.{IfSome}
 use Rattle.std.proofs.lemmas.Bool.{cond-true, cond-false, cases_Bool, lt-ltb}
-use Rattle.std.proofs.lemmas.List.{append-nil, drop_at, length-take-le, take-append-drop}
+use Rattle.std.proofs.lemmas.List.{drop_at, length-take-le, take-append-drop}
 use Rattle.std.proofs.lemmas.Option.{none-some, same_Some, slice_get_within}
 use Rattle.collation_elements.specs.declared.keys.Key.{Key}
 use Rattle.collation_pattern.specs.Border.{border, PrefixesEndWithTheLastKey, BordersGrowByOne}
@@ -63,6 +63,7 @@ first-border law grow pattern ks key symbol is other none = at (border pattern (
     other_place zero same there = is.foreign same 0 there
     other_place (suc zero) same there = other same
     other_place (suc (suc p)) same there = is.first (suc p) 0 same (omega arith) there
+
     at : (n : ℕ) → border pattern (ks ++ key ∷ []) ≡ n → 0 ≡ n
     at zero e = refl
     at (suc zero) e = absurd (other_place symbol refl (law pattern ks key 0 e))

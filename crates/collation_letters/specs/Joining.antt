@@ -1,5 +1,5 @@
 -- What comes of a letter that begins a cluster and a mark that follows it.
-use Rattle.std.specs.Prelude.{◌≡◌, Bool, true, List, ◌++◌, if◌then◌else◌}
+use Rattle.std.specs.Prelude.{◌≡◌, Bool, true, List, ◌++◌}
 use Rattle.collation_elements.specs.declared.keys.Key.{Key}
 use Rattle.collation_letters.specs.declared.letter.Letter.{Letter}
 use Rattle.collation_letters.specs.declared.letter.Role.{Role}

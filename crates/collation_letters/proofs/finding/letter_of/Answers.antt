@@ -1,8 +1,6 @@
-use Rattle.std.specs.List.{All}
 use Rattle.std.proofs.Common.{◌≡◌, ◌≢◌, ◌∙◌, [], ◌∷◌, refl, sym, ap, subst, length, List, ◌≤◌}
-use Rattle.nfd_points.specs.Points.{is_in_order, points_from, points_of}
+use Rattle.nfd_points.specs.Points.{is_in_order, points_of}
 use Rattle.nfd_points.specs.declared.points.Point.{Point}
-use Rattle.collation_table.specs.Table.{BeginsNoLongerString}
 use Rattle.collation_elements.specs.CharacterItems.{character_keys}
 use Rattle.collation_letters.specs.declared.letter.Role.{Role}
 use Rattle.collation_letters.specs.declared.letter.Role.TheVariants.{Steps, Plain}

@@ -1,7 +1,6 @@
-use Rattle.std.proofs.Common.{◌≡◌, ◌≢◌, ◌∙◌, true, false, not, refl, sym, ap, subst, arith}
+use Rattle.std.proofs.Common.{◌∙◌, not, sym, ap, subst}
 use Rattle.std.proofs.lemmas.Bool.{false≢true}
 use Rattle.collation_letters.specs.declared.letter.Role.{Role}
-use Rattle.collation_letters.specs.Letters.{is_mark}
 use Rattle.collation_letters.specs.Finding.{HasRole}
 use Rattle.collation_letters.proofs.finding.role_and_symbols.Goals.{then-begins_with_starter, else-begins_with_starter+then-is_closed+then-points-eq1, else-begins_with_starter+else-is_closed}
 use Rattle.collation_letters.proofs.finding.role_and_symbols.Goals as goal

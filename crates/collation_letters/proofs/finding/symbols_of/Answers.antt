@@ -1,4 +1,4 @@
-use Rattle.std.proofs.Common.{◌≡◌, List, [], ◌∷◌, ◌++◌, sym, subst, append_assoc}
+use Rattle.std.proofs.Common.{List, [], ◌++◌, subst, append_assoc}
 use Rattle.std.specs.Option.{option_to_list}
 use Rattle.collation_elements.specs.declared.keys.Key.{Key}
 use Rattle.collation_letters.specs.Symbols.{AreLastSymbols, listed}

@@ -1,4 +1,4 @@
-use Rattle.std.proofs.Common.{◌≡◌, ◌∙◌, List, [], ◌∷◌, ◌++◌, true, refl, sym, ap, ap₂, subst}
+use Rattle.std.proofs.Common.{◌≡◌, ◌∙◌, List, [], ◌++◌, true, refl, sym, ap, ap₂, subst}
 use Rattle.std.proofs.lemmas.List.{append-nil}
 use Rattle.collation_elements.specs.declared.keys.Key.{Key}
 use Rattle.collation_letters.specs.Letters.{begins_cluster, is_mark, flag_after, counted}

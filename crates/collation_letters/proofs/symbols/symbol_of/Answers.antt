@@ -1,4 +1,4 @@
-use Rattle.std.proofs.Common.{◌≡◌, sym, List, inl, inr, length, slice_get, Some, ap, subst, arith}
+use Rattle.std.proofs.Common.{◌≡◌, sym, inl, inr, length, slice_get, Some, ap, subst, arith}
 use Rattle.std.proofs.lemmas.Bool.{cases_lt}
 use Rattle.collation_letters.proofs.SymbolLemmas.{not-past}
 use Rattle.collation_letters.proofs.symbols.symbol_of.Goals as goal

@@ -1,4 +1,4 @@
-use Rattle.std.proofs.Common.{List, [], ◌∷◌, ◌++◌, ◌∙◌, sym, ap, subst, arith}
+use Rattle.std.proofs.Common.{List, ◌++◌, ◌∙◌, sym, ap, subst, arith}
 use Rattle.std.proofs.lemmas.List.{append-nil}
 use Rattle.collation_elements.specs.declared.keys.Key.{Key}
 use Rattle.collation_letters.specs.Symbols.{AreLastSymbols, listed, some_symbol}

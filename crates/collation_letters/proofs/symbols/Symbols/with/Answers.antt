@@ -1,5 +1,4 @@
-use Rattle.std.proofs.Common.{List, [], ◌∷◌, ◌++◌, sym, subst, refl}
-use Rattle.collation_elements.specs.declared.keys.Key.{Key}
+use Rattle.std.proofs.Common.{[], ◌∷◌, ◌++◌, sym, subst, refl}
 use Rattle.collation_letters.specs.Symbols.{AreLastSymbols, listed}
 use Rattle.collation_letters.proofs.SymbolLemmas.{last-foreign, last-more, listed-more}
 use Rattle.collation_letters.proofs.symbols.Symbols.with.Goals as goal
