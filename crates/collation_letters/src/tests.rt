@@ -79,13 +79,13 @@ fn joined(alloc: Global, settings: Settings, text: &str) -> Result<Option<Letter
 fn letters_of_characters(rt: HostRuntime) -> Result<(), Fail> {
     let settings = ("a", Strength::Two, Variable::NonIgnorable);
     for (c, role, symbols, is_closed, is_apart, points, class) in [
-        ('a', Role::Base, one(1), true, true, 1, 0),
-        ('A', Role::Base, one(1), true, true, 1, 0),
-        ('b', Role::Base, one(FOREIGN), true, true, 1, 0),
-        (' ', Role::Base, one(FOREIGN), true, true, 1, 0),
+        ('a', Role::Plain, one(1), true, true, 1, 0),
+        ('A', Role::Plain, one(1), true, true, 1, 0),
+        ('b', Role::Plain, one(FOREIGN), true, true, 1, 0),
+        (' ', Role::Plain, one(FOREIGN), true, true, 1, 0),
         // begins `ch`, and stands in it behind the first place
         ('c', Role::Base, one(FOREIGN), false, true, 1, 0),
-        ('h', Role::Base, one(FOREIGN), true, false, 1, 0),
+        ('h', Role::Plain, one(FOREIGN), true, false, 1, 0),
         (
             '\u{301}',
             Role::PrimaryMark,
@@ -106,13 +106,13 @@ fn letters_of_characters(rt: HostRuntime) -> Result<(), Fail> {
         ),
         ('\u{AD}', Role::Silent, NO_SYMBOLS, true, true, 1, 0),
         // `e` and a mark; `u` begins a mapped string of two
-        ('\u{E9}', Role::Base, one(FOREIGN), true, true, 2, ABOVE),
+        ('\u{E9}', Role::Plain, one(FOREIGN), true, true, 2, ABOVE),
         ('\u{FA}', Role::Base, one(FOREIGN), false, true, 2, ABOVE),
         // implicit weights, of one point and of three
-        ('\u{4E00}', Role::Base, one(FOREIGN), true, true, 1, 0),
-        ('\u{AC01}', Role::Base, one(FOREIGN), true, true, 3, 0),
+        ('\u{4E00}', Role::Plain, one(FOREIGN), true, true, 1, 0),
+        ('\u{AC01}', Role::Plain, one(FOREIGN), true, true, 3, 0),
         // foreign, `a`, foreign: the last one puts away those before
-        ('x', Role::Base, one(FOREIGN), true, true, 1, 0),
+        ('x', Role::Plain, one(FOREIGN), true, true, 1, 0),
     ] {
         let letter = letter(rt.alloc(), settings, c)?;
         assert_eq!(rt; letter.role, role, "{c:?}");
@@ -131,7 +131,7 @@ fn letters_in_shifted_weighting(rt: HostRuntime) -> Result<(), Fail> {
     let (first, second, shifted) = (Strength::One, Strength::Two, Variable::Shifted);
     for (c, strength, role, symbols) in [
         (' ', second, Role::VariableBase, NO_SYMBOLS),
-        ('a', second, Role::Base, one(1)),
+        ('a', second, Role::Plain, one(1)),
         ('\u{301}', second, Role::Mark, one(2)),
         ('\u{327}', second, Role::Mark, one(FOREIGN)),
         ('\u{301}', first, Role::Mark, NO_SYMBOLS),
@@ -149,18 +149,25 @@ fn letters_in_shifted_weighting(rt: HostRuntime) -> Result<(), Fail> {
     Ok(())
 }
 
-/// A key has the first place where it stands; a pattern of more than 254 keys has no symbols.
+/// A key has the first place where it stands, if that is one of the first 254; a pattern of more than 1,024 keys has no symbols.
 #[test]
 fn symbols_of_keys(rt: HostRuntime) -> Result<(), Fail> {
     let table = Table::read(rt.alloc(), TABLE.as_bytes())?;
     let (strength, variable) = (Strength::One, Variable::NonIgnorable);
-    let most = "a".repeat(rt.alloc(), 254)?;
-    let more = "a".repeat(rt.alloc(), 255)?;
+    let mut last = "a".repeat(rt.alloc(), 253)?;
+    last.push('b')?;
+    let mut late = "a".repeat(rt.alloc(), 254)?;
+    late.push('b')?;
+    let most = "a".repeat(rt.alloc(), 1_024)?;
+    let more = "a".repeat(rt.alloc(), 1_025)?;
     let (a, b) = (Key::Primary(0x1C00, 0, 0), Key::Primary(0x1C10, 0, 0));
     for (text, key, want) in [
         ("aab", a, Some(1)),
         ("aab", b, Some(3)),
         ("a", b, Some(FOREIGN)),
+        (last.as_str(), b, Some(254)),
+        (late.as_str(), a, Some(1)),
+        (late.as_str(), b, None),
         (most.as_str(), a, Some(1)),
         (most.as_str(), b, Some(FOREIGN)),
         (more.as_str(), a, None),
@@ -191,7 +198,7 @@ fn marks_join(rt: HostRuntime) -> Result<(), Fail> {
             Some((Role::Base, symbols(1, 2, 2), 3, ABOVE)),
         ),
         ("\u{E9}\u{301}\u{301}", None),
-        ("e\u{327}", Some((Role::Base, one(FOREIGN), 2, BELOW))),
+        ("e\u{327}", Some((Role::Plain, one(FOREIGN), 2, BELOW))),
         (
             "e\u{327}\u{301}",
             Some((Role::Base, symbols(NO_SYMBOL, FOREIGN, 2), 3, ABOVE)),
@@ -237,7 +244,7 @@ fn same_letter_is_answered_again(rt: HostRuntime) -> Result<(), Fail> {
     let other = letters.letter(&table, &pattern, '\u{2061}');
     let back = letters.letter(&table, &pattern, 'a');
     for (letter, symbol) in [(first, 1), (again, 1), (other, FOREIGN), (back, 1)] {
-        assert_eq!(rt; letter.role, Role::Base);
+        assert_eq!(rt; letter.role, Role::Plain);
         assert_eq!(rt; letter.symbols, one(symbol));
     }
     Ok(())
@@ -256,7 +263,7 @@ fn letters_of_pairs(rt: HostRuntime) -> Result<(), Fail> {
     let other = letters.pair(&table, &pattern, '\u{823}', 'h');
     let back = letters.pair(&table, &pattern, 'c', 'h');
     for letter in [first, again, back] {
-        assert_eq!(rt; letter.role, Role::Base);
+        assert_eq!(rt; letter.role, Role::Plain);
         assert_eq!(rt; letter.symbols, one(2));
         assert!(rt; letter.is_closed && letter.is_apart);
         assert_eq!(rt; (letter.points, letter.class), (2, 0));
@@ -282,10 +289,10 @@ fn refused_letters_are_asked_for_again(rt: HostRuntime) -> Result<(), Fail> {
     let _is_refused = Letters::new(rt.alloc(), &table).is_err();
     let mut letters = Letters::new(rt.alloc(), &table)?;
     let letter = letters.letter(&table, &pattern, 'a');
-    assert_eq!(rt; letter.role, Role::Base);
+    assert_eq!(rt; letter.role, Role::Plain);
     assert_eq!(rt; letter.symbols, one(1));
     let pair = letters.pair(&table, &pattern, 'c', 'h');
-    assert_eq!(rt; pair.role, Role::Base);
+    assert_eq!(rt; pair.role, Role::Plain);
     assert_eq!(rt; pair.symbols, one(FOREIGN));
     Ok(())
 }
