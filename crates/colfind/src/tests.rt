@@ -25,6 +25,7 @@ use std::{env, fs, process};
 mod devices;
 mod folders;
 mod pieces;
+mod plain_tables;
 mod refusals;
 mod rows;
 mod selections;

@@ -43,10 +43,14 @@ fn ask(rt: &impl Abort, host: &HostRuntime, options: &[&str], row: &Row) -> Resu
 #[test]
 fn refused_allocations_are_reported(rt: HostRuntime) -> Result<(), Fail> {
     let path = file_with(&rt, "refusals", TABLE)?;
-    let rows: [Row; 5] = [
+    let jamo = b"\xe1\x84\x80\xe1\x85\xa1\xe1\x86\xa8".as_slice();
+    let rows: [Row; 8] = [
         ("1", "resume", b"r\xc3\xa9sum\xc3\xa9", 0, "0:8\n", ""),
         ("3", "aa", b"aaa", 0, "0:2\n1:3\n", ""),
         ("1", "\u{fa}", b"u\xcc\xa7\xcc\x81", 0, "0:5\n", ""),
+        ("2", "\u{fa}", b"u\xcc\xa7\xcc\x81", 1, "", ""),
+        ("1", "e", b"\xc3\xa9a\xc3\xa9", 0, "0:2\n3:5\n", ""),
+        ("3", "\u{ac01}", jamo, 0, "0:9\n", ""),
         ("3", "\u{1100}", b"\xea\xb0\x81", 1, "", ""),
         ("3", "a", b"ab \xff", 2, "0:1\n", "colfind: fault 31 at 3\n"),
     ];
@@ -79,5 +83,35 @@ fn refused_allocations_of_a_tailor_are_reported(rt: HostRuntime) -> Result<(), F
     }
     fs::remove_file(&rt, path.as_str())?;
     fs::remove_file(&rt, tailor.as_str())?;
+    Ok(())
+}
+
+/// Of a chain, and of the number of matches, nothing is printed where memory was refused.
+#[test]
+fn refused_allocations_of_a_selection_are_reported(rt: HostRuntime) -> Result<(), Fail> {
+    let path = file_with(&rt, "selection-refusals", TABLE)?;
+    let chain = ["--table", path.as_str(), "--select", "chain"];
+    let count = ["--table", path.as_str(), "--output", "count"];
+    let both = [
+        "--table",
+        path.as_str(),
+        "--select=chain",
+        "--output",
+        "count",
+    ];
+    let fault = "colfind: fault 31 at 5\n";
+    let rows: [(&[&str], Row); 7] = [
+        (&chain, ("3", "aa", b"aaa", 0, "0:2\n", "")),
+        (&chain, ("3", "aa", b"aaaa", 0, "0:2\n2:4\n", "")),
+        (&chain, ("3", "aa", b"aaaaa\xff", 2, "0:2\n2:4\n", fault)),
+        (&chain, ("3", "aa", b"a", 1, "", "")),
+        (&count, ("3", "aa", b"aaa", 0, "2\n", "")),
+        (&count, ("3", "a", b"", 1, "0\n", "")),
+        (&both, ("3", "aa", b"aaa", 0, "1\n", "")),
+    ];
+    for (options, row) in &rows {
+        ask(&rt, &rt, *options, row)?;
+    }
+    fs::remove_file(&rt, path.as_str())?;
     Ok(())
 }

@@ -2,7 +2,7 @@
 
 use super::calls::{Query, begin, compile, feed, finish, first_range, read, resume, save};
 use super::states::state_after;
-use super::{KEPT, ONE, Range, TABLE, THREE};
+use super::{KEPT, ONE, Range, TABLE, THREE, TWO};
 use collation_elements::Strength;
 use collation_search::{Found, Search, Select, StateFault, TextFault};
 use collation_table::Table;
@@ -58,9 +58,14 @@ fn refused_searches_are_asked_again(rt: HostRuntime) -> Result<(), Fail> {
     let three: [Range; 3] = [(1, 3), (10, 12), (11, 13)];
     let accented = b"\xc3\xa9a\xc3\xa9".as_slice();
     let two: [Range; 2] = [(0, 2), (3, 5)];
-    let rows: [Row; 4] = [
+    let composed = b"r\xc3\xa9sum\xc3\xa9".as_slice();
+    let marked = b"u\xcc\xa7\xcc\x81".as_slice();
+    let rows: [Row; 7] = [
         (THREE, "aa", letters, Ok(Some((1, 3))), &three, Err(bad)),
         (ONE, "e", accented, Ok(Some((0, 2))), &two, Ok(())),
+        (ONE, "resume", composed, Ok(Some((0, 8))), &[(0, 8)], Ok(())),
+        (ONE, "\u{fa}", marked, Ok(Some((0, 5))), &[(0, 5)], Ok(())),
+        (TWO, "\u{fa}", marked, Ok(None), &[], Ok(())),
         (THREE, "\u{ac01}", jamo, Ok(Some((0, 9))), &[(0, 9)], Ok(())),
         (THREE, "\u{1100}", b"\xea\xb0\x81", Ok(None), &[], Ok(())),
     ];
@@ -141,44 +146,97 @@ fn resume_again<'a>(
     }
 }
 
+/// Feeds the rest of a text to a search that was saved or resumed, and compares the words that it is then saved with, and all of its
+/// ranges, of which these were handed out before.
+fn go_on(
+    rt: &impl Abort,
+    alloc: Global,
+    mut search: Search<'_, Table>,
+    mut ranges: Vec<Range>,
+    rest: &[u8],
+    words: &[u64],
+    want: &[Range],
+) -> Result<(), Fail> {
+    assert_eq!(rt; feed(rt, &mut search, rest, &mut ranges), Ok(()));
+    let mut later = Vec::new(alloc);
+    save_again(rt, &search, &mut later, &[])?;
+    assert_eq!(rt; later.as_slice(), words);
+    let mut found = Found::new();
+    assert_eq!(rt; finish(search, &mut found), Ok(()));
+    ranges.extend_from_slice(found.as_slice())?;
+    assert_eq!(rt; ranges.as_slice(), want);
+    Ok(())
+}
+
+/// A strength, a pattern, a text, where it is cut, how many records the state has there without those that a chain adds, and the
+/// ranges.
+type Cut<'a> = (Strength, &'a str, &'a [u8], usize, usize, &'a [Range]);
+
 /// A refused save leaves the words, a refused resume answers 53, and what is asked again is answered as with ample memory. The words
-/// that stood before a state are kept. The state has so many records of four words. The search that was saved goes on, and is saved
-/// again with the words of one that is saved once.
-fn ask_again(rt: &impl Abort, alloc: Global, select: Select, records: usize) -> Result<(), Fail> {
+/// that stood before a state are kept. The search that was saved goes on as the one that is resumed, and is saved again with the words
+/// of one that is saved once.
+fn ask_again(rt: &impl Abort, alloc: Global, select: Select, row: Cut<'_>) -> Result<(), Fail> {
+    let (strength, letters, text, cut, records, want) = row;
     let table = read(alloc, TABLE)?;
-    let pattern = compile(alloc, &table, "aa", THREE, KEPT)?;
+    let pattern = compile(alloc, &table, letters, strength, KEPT)?;
     let query = Query {
         table: &table,
         pattern: &pattern,
         select,
     };
+    let (before, rest) = text.split_at(cut.min(text.len()));
     let mut search = begin(alloc, query)?;
-    let mut ranges = Vec::new(alloc);
-    assert_eq!(rt; feed(rt, &mut search, b"aae\xcc\x81", &mut ranges), Ok(()));
+    let mut ranges = Vec::with_capacity(alloc, 8)?;
+    assert_eq!(rt; feed(rt, &mut search, before, &mut ranges), Ok(()));
     let mut words = Vec::new(alloc);
     words.push(7)?;
     save_again(rt, &search, &mut words, &[7])?;
     assert_eq!(rt; words.get(0).copied(), Some(7));
     let state = words.get(1..).expect(rt, "words");
-    assert_eq!(rt; state.len() / 4, records);
+    let more = if select == Select::Chain { 1 } else { 0 };
+    assert_eq!(rt; state.len() / 4, records.wrapping_add(more));
     let resumed = resume_again(rt, alloc, query, state)?;
     let mut again = Vec::new(alloc);
     save_again(rt, &resumed, &mut again, &[])?;
     assert_eq!(rt; again.as_slice(), state);
-    assert_eq!(rt; feed(rt, &mut search, b"aa", &mut ranges), Ok(()));
-    let mut later = Vec::new(alloc);
-    save_again(rt, &search, &mut later, &[])?;
-    let once = state_after(rt, alloc, query, b"aae\xcc\x81aa")?;
-    assert_eq!(rt; later.as_slice(), once.as_slice());
-    Ok(())
+    let mut handed = Vec::with_capacity(alloc, 8)?;
+    handed.extend_from_slice(ranges.as_slice())?;
+    let once = state_after(rt, alloc, query, text)?;
+    go_on(rt, alloc, search, ranges, rest, &once, want)?;
+    go_on(rt, alloc, resumed, handed, rest, &once, want)
+}
+
+/// Asks again for each of some rows.
+fn ask_each_again(rt: &impl Abort, alloc: Global, select: Select) -> Result<(), Fail> {
+    let jamo = b"\xe1\x84\x80\xe1\x85\xa1\xe1\x86\xa8".as_slice();
+    let aa = b"aae\xcc\x81aa".as_slice();
+    let accented = b"\xc3\xa9a\xc3\xa9".as_slice();
+    ask_again(
+        rt,
+        alloc,
+        select,
+        (THREE, "aa", aa, 5, 5 + 2 + 1 + 1, &[(0, 2), (5, 7)]),
+    )?;
+    ask_again(
+        rt,
+        alloc,
+        select,
+        (ONE, "e", accented, 3, 5 + 1 + 1, &[(0, 2), (3, 5)]),
+    )?;
+    ask_again(
+        rt,
+        alloc,
+        select,
+        (THREE, "\u{ac01}", jamo, 6, 5 + 1 + 1, &[(0, 9)]),
+    )
 }
 
 #[test]
 fn refused_saves_and_resumes_are_asked_again(rt: HostRuntime) -> Result<(), Fail> {
-    ask_again(&rt, rt.alloc(), Select::All, 5 + 2 + 1 + 1)
+    ask_each_again(&rt, rt.alloc(), Select::All)
 }
 
 #[test]
 fn refused_saves_and_resumes_of_a_chain_are_asked_again(rt: HostRuntime) -> Result<(), Fail> {
-    ask_again(&rt, rt.alloc(), Select::Chain, 6 + 2 + 1 + 1)
+    ask_each_again(&rt, rt.alloc(), Select::Chain)
 }

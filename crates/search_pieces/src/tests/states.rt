@@ -16,7 +16,7 @@ pub(super) fn state_after(
     bytes: &[u8],
 ) -> Result<Vec<u64>, Fail> {
     let mut fed = begin(alloc, query)?;
-    let mut ranges = Vec::new(alloc);
+    let mut ranges = Vec::with_capacity(alloc, 8)?;
     let _fault = feed(rt, &mut fed, bytes, &mut ranges);
     let mut words = Vec::new(alloc);
     save(&fed, &mut words)?;
