@@ -53,7 +53,8 @@ pub const UNKNOWN: Letter = Letter {
 };
 
 impl Role {
-    ghost use Rattle.std.specs.Prelude.{◌≡◌};
+    ghost use Rattle.std.specs.Prelude.{◌≡◌, ◌↔◌, IsTrue};
+    ghost use Rattle.collation_letters.specs.declared.letter.Role.TheVariants.{Steps};
     ghost use Rattle.collation_letters.specs.Letters.{begins_cluster, flag_after, is_mark};
 
     /// Whether a cluster begins here.
@@ -81,7 +82,9 @@ impl Role {
 
     /// Whether characters of the role are left to the steps.
     #[inline(always)]
-    pub fn is_steps(self) -> bool {
+    pub fn is_steps(self) -> bool
+        ensures { IsTrue result ↔ (self ≡ Steps) }
+    {
         match self {
             Role::Steps => true,
             _ => false,
