@@ -6,7 +6,7 @@ use Rattle.std.proofs.lemmas.Bool.{false≢true}
 use Rattle.std.proofs.lemmas.Option.{none-some, same_Some}
 use Rattle.nfd_points.specs.declared.points.Point.{Point}
 use Rattle.nfd_points.specs.Points.{is_starter}
-use Rattle.collation_table.specs.Table.{TableMap, BeginsNoLongerString, ContinuesNoString, is_mapped, longest_prefix_within}
+use Rattle.collation_table.specs.Table.{TableMap, BeginsNoLongerString, is_mapped, longest_prefix_within}
 use Rattle.collation_elements.specs.Units.{code_points, Cut, blocks, joins, extended, prefix_length, units}
 use Rattle.collation_elements.specs.Windows.{next_cut}
 use Rattle.collation_elements.proofs.Cutting.{next_cut-of, units-next_cut}
@@ -71,29 +71,3 @@ next_cut-alone T (p ∷ ps) first at none =
 pub units-alone : (T : TableMap) (p : Point) (rest : List Point) → BeginsNoLongerString T p.cp → units T (p ∷ rest) ≡ (p ∷ []) ∷ units T rest
 units-alone T p rest none =
     units-next_cut T (p ∷ rest) (omega arith) ∙ ap (λ (cut : Cut). cut.unit ∷ units T cut.rest) (next_cut-alone T (p ∷ rest) p refl none)
-
--- ---- a point before a starter that stands in no mapped string after the first place
-
-longest_prefix_within-before : (T : TableMap) (cp d : ℕ) (cs : List ℕ) (n : ℕ) → ContinuesNoString T d → longest_prefix_within T (cp ∷ d ∷ cs) n ≤ 1
-longest_prefix_within-before T cp d cs zero none = omega arith
-longest_prefix_within-before T cp d cs (suc zero) none = one-cond (is_mapped T (cp ∷ []))
-longest_prefix_within-before T cp d cs (suc (suc n)) none =
-    shorter-cond (is_mapped T (cp ∷ d ∷ take n cs)) (suc (suc n)) (longest_prefix_within T (cp ∷ d ∷ cs) (suc n)) (none cp [] (take n cs))
-    (longest_prefix_within-before T cp d cs (suc n) none)
-
-prefix_length-before : (T : TableMap) (p d : Point) (ps : List Point) → ContinuesNoString T d.cp → prefix_length T (p ∷ d ∷ ps) ≡ 1
-prefix_length-before T p d ps none =
-    let few : longest_prefix_within T (p.cp ∷ d.cp ∷ code_points ps) (length (p.cp ∷ d.cp ∷ code_points ps)) ≤ 1 =
-    longest_prefix_within-before T p.cp d.cp (code_points ps) (length (p.cp ∷ d.cp ∷ code_points ps)) none in
-    omega arith
-
-extended-before : (T : TableMap) (p d : Point) (ps : List Point) → is_starter d ≡ true → extended T (p ∷ []) [] (d ∷ ps) ≡ record { unit = p ∷ []; rest = d ∷ ps }
-extended-before T p d ps starter = rw starter refl
-
-pub units-before : (T : TableMap) (p d : Point) (rest : List Point) → is_starter d ≡ true → ContinuesNoString T d.cp → units T (p ∷ d ∷ rest) ≡ (p ∷ []) ∷ units T (d ∷ rest)
-units-before T p d rest starter none =
-    units-next_cut T (p ∷ d ∷ rest) (omega arith)
-    ∙ ap (λ (cut : Cut). cut.unit ∷ units T cut.rest)
-    (next_cut-of T (p ∷ d ∷ rest) (omega arith)
-    ∙ ap (λ (k : ℕ). extended T (take k (p ∷ d ∷ rest)) [] (drop k (p ∷ d ∷ rest))) (prefix_length-before T p d rest none)
-    ∙ extended-before T p d rest starter)

@@ -1,13 +1,11 @@
 -- The items of a character's points, cut unit by unit, wherever they stand.
-use Rattle.std.proofs.Common.{◌≡◌, ℕ, zero, suc, ◌+◌, ◌-◌, ◌<◌, ◌≤◌, Bool, true, false, cond, ◌&&◌, List, [], ◌∷◌, ◌++◌, map, length, take, drop, Option, None, Some, IfSome, IfNone, unwrap_or, slice_get, refl, sym, ◌∙◌, ap, ap₂, arith, append_assoc, length-drop}
-use lib.ListN.{get_or}
+use Rattle.std.proofs.Common.{◌≡◌, ℕ, zero, suc, ◌+◌, ◌-◌, ◌<◌, ◌≤◌, Bool, true, false, cond, ◌&&◌, List, [], ◌∷◌, ◌++◌, map, length, take, drop, Option, None, Some, IfSome, IfNone, slice_get, refl, sym, ◌∙◌, ap, ap₂, arith, append_assoc, length-drop}
 use Rattle.std.specs.List.{All}
 use Rattle.std.proofs.lemmas.List.{length-map, map-append}
 use Rattle.std.proofs.lemmas.List.Elements.{All-nil, All-head, All-drop}
 use Rattle.nfd_points.specs.declared.points.Point.{Point}
-use Rattle.nfd_points.specs.Points.{ascii_point, is_starter, shifted}
-use Rattle.collation_table.specs.declared.elements.Element.{Element as CollationElement}
-use Rattle.collation_table.specs.Table.{TableMap, row_of, implicit_pair}
+use Rattle.nfd_points.specs.Points.{is_starter, shifted}
+use Rattle.collation_table.specs.Table.{TableMap}
 use Rattle.collation_elements.specs.declared.settings.Strength.{Strength}
 use Rattle.collation_elements.specs.declared.settings.Variable.{Variable}
 use Rattle.collation_elements.specs.declared.keys.Key.{Key}
@@ -190,32 +188,3 @@ other_items T w ps None given all more = λ once.
     let keys : length (item_keys (items_by T w ps)) ≡ length parts.1 = ap length (keys_among parts.0 parts.1 (items_by T w ps) parts.2) in
     let many : 3 < length parts.1 = more parts.0 parts.1 (all ∙ parts.2) in
     omega arith
-
--- what a weigher gave of one point that does not begin its code point's decomposition, and is no one key
-pub other_lone_items : (T : TableMap) (w : Weigher) (cp : ℕ) (unit : UnitValue) (given : List Item) →
-    unit.first_point ≡ record { cp = cp; ccc = 0; offset = 0; first = false } → unit.elements ≡ unwrap_or (row_of T (cp ∷ [])) (implicit_pair T cp) →
-    given ≡ value_items w unit → ((keys : List Key) → given ≡ map (λ key. Element key) keys → 1 < length keys) →
-    1 < length (item_keys (unit_items T w.strength w.variable w.after_variable (ascii_point 0 cp ∷ [])))
-other_lone_items T w cp unit given point row all more =
-    let p : Point = ascii_point 0 cp in
-    let es = unit_row T (p ∷ []) in
-    let ks : List Key = row_keys w.strength (weighted_row w.variable w.after_variable es) in
-    let keyed : given ≡ map (λ key. Element key) ks =
-    all
-    ∙ ap (λ (q : Point). row_items w.strength w.variable w.after_variable (Some q) unit.elements) point
-    ∙ ap (λ (xs : List CollationElement). map (λ key. Element key) (row_keys w.strength (weighted_row w.variable w.after_variable xs))) row in
-    let keys : length (item_keys (unit_items T w.strength w.variable w.after_variable (p ∷ []))) ≡ length ks =
-    ap length (keys_among (begins_cluster_with p es) ks (unit_items T w.strength w.variable w.after_variable (p ∷ [])) refl) in
-    let many : 1 < length ks = more ks keyed in
-    omega arith
-
--- an item that begins keys is no start of a cluster
-abbrev is_key : Item → ℕ
-is_key (ClusterStart at) = 0
-is_key (Element key) = 1
-
-pub start_amid_keys : (keys : List Key) (all : List Item) (at : ℕ) → all ≡ map (λ key. Element key) keys → 1 ≤ length all → get_or all 0 (ClusterStart 0) ≡ ClusterStart at → 1 < length keys
-start_amid_keys [] all at is some first = absurd (omega (arith, ap length is))
-start_amid_keys (k ∷ ks) all at is some first =
-    let clash : 1 ≡ 0 = ap (λ xs. is_key (get_or xs 0 (ClusterStart 0))) (sym is) ∙ ap is_key first in
-    absurd (omega (arith, clash))

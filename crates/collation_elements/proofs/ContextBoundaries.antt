@@ -51,10 +51,6 @@ not_below : (low high n : ℕ) (xs : List ℕ) → RisesIn low high xs → n < l
 not_below low high n [] h lt = refl
 not_below low high n (x ∷ xs) h lt = ap₂ (λ s t. s || t) (ne_eqb x n (λ e. omega arith)) (not_below (suc x) high n xs h.2 (omega arith))
 
-RisesIn-lower : (low lower high : ℕ) (xs : List ℕ) → lower ≤ low → RisesIn low high xs → RisesIn lower high xs
-RisesIn-lower low lower high [] le h = tt
-RisesIn-lower low lower high (x ∷ xs) le h = (omega arith, h.1, h.2)
-
 RisesIn-above : (low high : ℕ) (xs : List ℕ) → high ≤ low → RisesIn low high xs → xs ≡ []
 RisesIn-above low high [] le h = refl
 RisesIn-above low high (x ∷ xs) le h = absurd (omega arith)

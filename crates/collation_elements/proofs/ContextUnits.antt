@@ -205,12 +205,6 @@ CutsOff-from table (p ∷ ps) (u ∷ us) vs e =
     let more = CutsOff-from table (first_unit table p ps).rest us vs others in
     (more.0, (first, more.1), more.2)
 
-pub CutsOff-units : (table : TableMap) (ps : List Point) (us : List (List Point)) (rest : List Point) → CutsOff table ps us rest → units table ps ≡ us ++ units table rest
-CutsOff-units table ps [] rest h = ap (units table) h
-CutsOff-units table [] (u ∷ us) rest h = absurd h
-CutsOff-units table (p ∷ ps) (u ∷ us) rest h =
-    units-cons table p ps ∙ ap₂ (λ x xs. x ∷ xs) h.0 (CutsOff-units table (first_unit table p ps).rest us rest h.1)
-
 -- ---- a point that fails a test is not in a list that passes it
 
 record After (prefix left later : List Point) (s : Point) (rest : List Point) : Type 0 where

@@ -1,5 +1,5 @@
 -- A row whose first element has a primary weight is weighted as at the beginning of a text, and so are those after it.
-use Rattle.std.proofs.Common.{◌≡◌, ℕ, ◌<◌, Bool, true, false, ◌||◌, ◌==◌, nat_lt, List, [], ◌∷◌, ◌++◌, map, flat_map, refl, sym, ap, ap₂, ◌∙◌, arith, append_assoc, if◌then◌else◌, ltb-true}
+use Rattle.std.proofs.Common.{◌≡◌, ℕ, ◌<◌, Bool, true, false, ◌||◌, ◌==◌, nat_lt, List, [], ◌∷◌, ◌++◌, map, flat_map, refl, sym, ap, ap₂, ◌∙◌, arith, if◌then◌else◌, ltb-true}
 use Rattle.std.proofs.lemmas.Bool.{and_right, ne_eqb}
 use Rattle.nfd_points.specs.declared.points.Point.{Point}
 use Rattle.nfd_points.specs.Points.{shifted}
@@ -12,7 +12,6 @@ use Rattle.collation_elements.specs.declared.keys.Key.{Key}
 use Rattle.collation_elements.specs.Elements.{unit_row, after_variable, shifted_element, weighted_row, after_row, weighted_rows, begins_primary, ignorable}
 use Rattle.collation_elements.specs.Keys.{row_keys}
 use Rattle.collation_elements.specs.Items.{after_unit}
-use Rattle.collation_elements.specs.Weighing.{after_units}
 use Rattle.collation_elements.specs.Context.{PrimariesSettleWeighting}
 use Rattle.collation_elements.proofs.ContextOffsets.{unit_row-shift}
 
@@ -76,12 +75,6 @@ keys_of-primary table strength variable after u us h =
     keys_of-rows table strength variable after (u ∷ us)
     ∙ ap (flat_map (row_keys strength)) (weighted_rows-primary variable after (unit_row table u) (map (unit_row table) us) h)
     ∙ sym (keys_of-rows table strength variable false (u ∷ us))
-
-pub keys_of-append : (table : TableMap) (strength : Strength) (variable : Variable) (after : Bool) (us vs : List (List Point)) → keys_of table strength variable after (us ++ vs) ≡ keys_of table strength variable after us ++ keys_of table strength variable (after_units table variable after us) vs
-keys_of-append table strength variable after [] vs = refl
-keys_of-append table strength variable after (u ∷ us) vs =
-    ap (λ l. row_keys strength (weighted_row variable after (unit_row table u)) ++ l) (keys_of-append table strength variable (after_unit table variable after u) us vs)
-    ∙ sym (append_assoc (row_keys strength (weighted_row variable after (unit_row table u))) _ _)
 
 pub keys_of-shift : (table : TableMap) (strength : Strength) (variable : Variable) (after : Bool) (by : ℕ) (us : List (List Point)) → keys_of table strength variable after (map (map (shifted by)) us) ≡ keys_of table strength variable after us
 keys_of-shift table strength variable after by [] = refl

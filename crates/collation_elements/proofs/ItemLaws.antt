@@ -1,12 +1,12 @@
 -- The items of units in turn: the keys and the cluster starts among them, and one unit more.
-use Rattle.std.proofs.Common.{◌≡◌, ℕ, ◌+◌, ◌<◌, ◌≤◌, drop, get_or, subst, Bool, true, false, cond, List, [], ◌∷◌, ◌++◌, map, length, Option, Some, None, slice_get, unwrap_or, refl, sym, ◌∙◌, ap, ap₂, append_assoc}
+use Rattle.std.proofs.Common.{◌≡◌, ℕ, ◌+◌, ◌<◌, ◌≤◌, drop, get_or, subst, Bool, true, false, cond, List, [], ◌∷◌, ◌++◌, map, length, Option, Some, None, slice_get, refl, sym, ◌∙◌, ap, append_assoc}
 use Rattle.std.specs.List.{flat_map}
 use Rattle.std.specs.Option.{option_to_list}
 use Rattle.std.proofs.lemmas.List.{append-nil, drop_more, drop_all}
 use Rattle.std.proofs.lemmas.Grind.{flat_map-append}
 use Rattle.nfd_points.specs.declared.points.Point.{Point}
 use Rattle.collation_table.specs.declared.elements.Element.{Element as CollationElement}
-use Rattle.collation_table.specs.Table.{TableMap, row_of, implicit_pair}
+use Rattle.collation_table.specs.Table.{TableMap}
 use Rattle.collation_elements.specs.declared.settings.Strength.{Strength}
 use Rattle.collation_elements.specs.declared.settings.Variable.{Variable}
 use Rattle.collation_elements.specs.declared.settings.Variable.TheVariants.{NonIgnorable, Shifted}
@@ -14,11 +14,8 @@ use Rattle.collation_elements.specs.declared.keys.Key.{Key}
 use Rattle.collation_elements.specs.declared.keys.Item.{Item}
 use Rattle.collation_elements.specs.declared.keys.Item.TheVariants.{ClusterStart, Element}
 use Rattle.collation_elements.specs.declared.weigher.Weigher.{Weigher}
-use Rattle.nfd_points.specs.Points.{ascii_point}
-use Rattle.collation_elements.specs.declared.lone.LoneItems.{LoneItems}
-use Rattle.collation_elements.specs.Lone.{AreItemsOf, items_at}
 use Rattle.collation_elements.specs.Units.{units}
-use Rattle.collation_elements.specs.Elements.{unit_row, weighted_row, after_row, weighted_rows, begins_primary, begins_cluster}
+use Rattle.collation_elements.specs.Elements.{unit_row, weighted_row, after_row, weighted_rows, begins_cluster}
 use Rattle.collation_elements.specs.Keys.{row_keys, keys}
 use Rattle.collation_elements.specs.Boundaries.{unit_starts, cluster_starts}
 use Rattle.collation_elements.specs.Items.{row_items, start_items, unit_items, after_unit, items, key_items}
@@ -197,30 +194,3 @@ pub stands_after : (w0 w1 : Weigher) (unit : UnitValue) (new : List Item) → w1
 stands_after w0 w1 unit new w_is new_is T points us given is stands =
     subst (λ (w : Weigher). WeigherStandsFor T w (us ++ points ∷ []) (given ++ new)) (sym w_is)
     (subst (λ (xs : List Item). WeigherStandsFor T (weigher_after w0 unit) (us ++ points ∷ []) (given ++ xs)) (sym new_is) (weigher_stands T w0 points unit us given is stands))
-
--- ---- the unit of one starter
-
-pub lone_stands : (T : TableMap) (w : Weigher) (lone : LoneItems) (start cp : ℕ) (us : List (List Point)) (given : List Item) → AreItemsOf T w cp lone → WeigherStandsFor T w us given →
-    WeigherStandsFor T (weigher w.strength w.variable lone.after_variable) (us ++ (ascii_point start cp ∷ []) ∷ []) (given ++ items_at lone start)
-lone_stands T w lone start cp us given is stands =
-    let p : Point = ascii_point start cp in
-    let unit : UnitValue = record { first_point = p; elements = unit_row T (p ∷ []) } in
-    subst (λ (after : Bool). WeigherStandsFor T (weigher w.strength w.variable after) (us ++ (p ∷ []) ∷ []) (given ++ items_at lone start)) (is.1 start)
-    (subst (λ (xs : List Item). WeigherStandsFor T (weigher_after w unit) (us ++ (p ∷ []) ∷ []) (given ++ xs)) (is.0 start)
-    (weigher_stands T w (p ∷ []) unit us given (record { first_point = refl; elements = refl }) stands))
-
--- what the weigher gave where the point was not the first of its code point's decomposition, and whether the row begins a cluster
-pub lone_items_from : (T : TableMap) (w : Weigher) (cp : ℕ) (unit : UnitValue) (given : List Item) (key : Option Key) (begins after : Bool) →
-    unit.first_point ≡ record { cp = cp; ccc = 0; offset = 0; first = false } → unit.elements ≡ unwrap_or (row_of T (cp ∷ [])) (implicit_pair T cp) →
-    given ≡ value_items w unit → given ≡ map (λ k. Element k) (option_to_list key) →
-    begins ≡ begins_primary unit.elements → after ≡ after_row w.variable w.after_variable unit.elements →
-    AreItemsOf T w cp (record { begins_cluster = begins; key = key; after_variable = after })
-lone_items_from T w cp unit given key begins after point row items keyed starts later =
-    let keys : key_items w.strength (weighted_row w.variable w.after_variable (unwrap_or (row_of T (cp ∷ [])) (implicit_pair T cp))) ≡ map (λ k. Element k) (option_to_list key) =
-    ap (λ (es : List CollationElement). key_items w.strength (weighted_row w.variable w.after_variable es)) (sym row)
-    ∙ sym (items ∙ ap (λ (p : Point). row_items w.strength w.variable w.after_variable (Some p) unit.elements) point)
-    ∙ keyed in
-    let begun = sym (starts ∙ ap begins_primary row) in (
-      λ start. ap₂ (λ (b : Bool) (ks : List Item). cond b (ClusterStart start ∷ []) [] ++ ks) begun keys,
-      λ start. ap (λ (es : List CollationElement). after_row w.variable w.after_variable es) (sym row) ∙ sym later,
-    )

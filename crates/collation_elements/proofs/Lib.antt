@@ -3,6 +3,7 @@ pub mod PointLaws
 pub mod Cutting
 pub mod Alone
 pub mod Deciding
+pub mod DecidedUnits
 pub mod Joining
 pub mod Cuts
 pub mod LeftPoints

@@ -1,5 +1,6 @@
 pub mod Units
 pub mod Windows
+pub mod Decided
 pub mod Elements
 pub mod UnitValues
 pub mod UnitElements
@@ -14,6 +15,5 @@ pub mod Context
 pub mod Texts
 pub mod WorkedTable
 pub mod WorkedClusters
-pub mod Lone
 pub mod ShortItems
 pub mod CharacterItems

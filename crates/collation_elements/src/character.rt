@@ -12,7 +12,6 @@ ghost use Rattle.collation_elements.specs.CharacterItems.{AreItemsOfPoints, Begi
 ghost use Rattle.collation_elements.specs.Weighing.{weigher, after_units};
 
 use crate::keys::{Item, Key};
-use crate::texts::push_points;
 use crate::weigher::{MOST_ITEMS, Weigher};
 use crate::window::Window;
 use arrayvec::ArrayVec;
@@ -56,11 +55,10 @@ impl CharacterItems {
         ensures none { let all = items (W.table table.now) weigher.strength weigher.variable weigher.after_variable (units (W.table table.now) points.now) in
             IfNone result (BeginsOnce points.now → 3 < length (item_keys all)) }
     {
-        push_points(window, points);
+        window.push_all(points);
         window.end();
         let gathered = gather(table, window, &mut weigher);
-        window.skip(window.len());
-        window.reopen();
+        window.clear();
         CharacterItems::of_items(gathered?.as_slice(), weigher.after_variable())
     }
 

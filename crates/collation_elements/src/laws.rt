@@ -7,6 +7,7 @@ ghost use Rattle.collation_table.specs.Table.{TableMap, BeginsNoLongerString, Co
 ghost use Rattle.collation_elements.specs.declared.settings.Strength.{Strength};
 ghost use Rattle.collation_elements.specs.declared.settings.Variable.{Variable};
 ghost use Rattle.collation_elements.specs.Units.{units, MappedPairsAreUnits};
+ghost use Rattle.collation_elements.specs.Decided.{DecidedUnitsAreCut, UndecidedUnitsAreLeft, DecidedUnitsBegin, DecidedUnitsStay, EarlyCutsAreMadeGood};
 ghost use Rattle.collation_elements.specs.Keys.{keys};
 ghost use Rattle.collation_elements.specs.declared.keys.Item.{Item};
 ghost use Rattle.collation_elements.specs.declared.weigher.Weigher.{Weigher};
@@ -29,15 +30,6 @@ pub fn closed_points_append()
         → is_closed (xs ++ ys) ≡ true }
 {}
 
-/// A point with whose code point no mapped string of two or more begins is a unit by itself, whatever follows it, and so is one
-/// before a starter whose code point stands in no mapped string after the first place.
-pub fn lone_points_are_units()
-    ensures alone { (table : TableMap) (p : Point) (rest : List Point) → BeginsNoLongerString table p.cp
-        → units table (p ∷ rest) ≡ (p ∷ []) ∷ units table rest }
-    ensures before { (table : TableMap) (p d : Point) (rest : List Point) → is_starter d ≡ true → ContinuesNoString table d.cp
-        → units table (p ∷ d ∷ rest) ≡ (p ∷ []) ∷ units table (d ∷ rest) }
-{}
-
 /// The units of points and of those that follow are those of both by themselves, where with no code point of the first ones a
 /// mapped string of two or more begins, or where a starter follows whose code point stands in no mapped string after the first
 /// place. Two points are a unit, whatever follows them, where their code points are a mapped string and no longer one begins with it.
@@ -54,4 +46,14 @@ pub fn weighers_go_on()
     ensures { (table : TableMap) (w : Weigher) (us vs : List (List Point)) (given more : List Item) (after : Bool)
         → items table w.strength w.variable w.after_variable vs ≡ more → after_units table w.variable w.after_variable vs ≡ after
         → WeigherStandsFor table w us given → WeigherStandsFor table (weigher w.strength w.variable after) (us ++ vs) (given ++ more) }
+{}
+
+/// Units that are decided stay decided, whatever points follow, and begin the units of all. Units that were cut early, as if the text
+/// ended before a starter across which none reaches, are decided too once enough points stand from that starter on.
+pub fn decided_units_stay()
+    ensures cut { DecidedUnitsAreCut }
+    ensures left { UndecidedUnitsAreLeft }
+    ensures begin { DecidedUnitsBegin }
+    ensures stay { DecidedUnitsStay }
+    ensures early { EarlyCutsAreMadeGood }
 {}

@@ -20,7 +20,6 @@ mod character;
 mod context;
 mod keys;
 mod laws;
-mod lone;
 mod queue;
 mod settings;
 mod short;
@@ -34,10 +33,9 @@ pub use crate::character::CharacterItems;
 pub use crate::context::{clusters_are_parts, clusters_begin_afresh, parts_join};
 pub use crate::keys::{Item, Key};
 pub use crate::laws::{
-    closed_points_append, items_are_keys_and_starts, lone_points_are_units, units_stay_apart,
+    closed_points_append, decided_units_stay, items_are_keys_and_starts, units_stay_apart,
     weighers_go_on,
 };
-pub use crate::lone::LoneItems;
 pub use crate::settings::{Strength, Variable};
 pub use crate::short::ShortItems;
 pub use crate::texts::{ItemsFault, items_of_text};

@@ -123,6 +123,13 @@ impl Queue {
         }
     }
 
+    /// Takes out all points.
+    pub(crate) fn clear(&mut self)
+        ensures { self.new ≡ buffer [] self.old.capacity }
+    {
+        self.points.clear();
+    }
+
     /// Takes out the point at `index`. The others keep their order. Those before it move, as only a contraction that is
     /// not contiguous asks for.
     pub(crate) fn remove(&mut self, index: usize)

@@ -105,7 +105,7 @@ fn items_of_characters<W: Weights>(
             return Err(ItemsFault::Points);
         }
         offset += c.len_utf8() as u64;
-        push_points(&mut window, given.as_slice());
+        window.push_all(given.as_slice());
         cut_units(
             table,
             &mut window,
@@ -115,7 +115,7 @@ fn items_of_characters<W: Weights>(
         )?;
     }
     reorder.finish(&mut given);
-    push_points(&mut window, given.as_slice());
+    window.push_all(given.as_slice());
     window.end();
     cut_units(
         table,
@@ -125,20 +125,6 @@ fn items_of_characters<W: Weights>(
         &mut items,
     )?;
     Ok(items)
-}
-
-/// Puts points at the end of a window.
-pub(crate) fn push_points(window: &mut Window, points: &[Point])
-    requires room { length window.old.points + length points.now ≤ window.old.capacity }
-    requires open { window.old.has_ended ≡ false }
-    requires sound { All IsSoundPoint points.now }
-    ensures points { window.new ≡ record window.old { points = window.old.points ++ points.now } }
-    ensures stands { (table : TableMap) (taken : List Point) (given : List (List Point)) → WindowStandsFor table window.old taken given
-        → WindowStandsFor table window.new (taken ++ points.now) given }
-{
-    for point in points {
-        window.push(*point);
-    }
 }
 
 /// Cuts all units that are decided, and puts their items at the end of `items`, those of one unit after those of another into

@@ -2,7 +2,6 @@
 ghost use Rattle.std.specs.Prelude.{◌≡◌, ℕ, ◌+◌, ◌≤◌, ◌<◌, List, [], ◌∷◌, ◌++◌, true, false, length, map};
 ghost use Rattle.std.specs.Option.{option_to_list, ForSome};
 ghost use Rattle.nfd_points.specs.declared.points.Point.{Point};
-ghost use Rattle.nfd_points.specs.Points.{ascii_point, is_starter, shifted};
 ghost use Rattle.arrayvec.specs.ArrayVec.{array_vec_len};
 ghost use Rattle.collation_table.specs.declared.elements.Element.{Element as CollationElement};
 ghost use Rattle.collation_table.specs.Table.{TableMap};
@@ -11,14 +10,9 @@ ghost use Rattle.collation_table.specs.WellFormed.{is_lead};
 ghost use Rattle.collation_elements.specs.Keys.{element_keys, pair_key, second_at, third_at};
 ghost use Rattle.collation_elements.specs.UnitValues.{IsUnitOf};
 ghost use Rattle.collation_elements.specs.Items.{key_items};
-ghost use Rattle.collation_elements.specs.Units.{units as units_of};
-ghost use Rattle.collation_elements.specs.Lone.{AreItemsOf, items_at};
-ghost use Rattle.collation_elements.specs.CharacterItems.{AreItemsOfPoints, character_items};
 ghost use Rattle.collation_elements.specs.Weighing.{weigher, weigher_after, is_after_variable, weighted_element, after_element, value_items, WeigherStandsFor};
 
-use crate::character::CharacterItems;
 use crate::keys::{Item, Key};
-use crate::lone::LoneItems;
 use crate::settings::{Strength, Variable};
 use crate::unit::Unit;
 use arrayvec::ArrayVec;
@@ -46,9 +40,12 @@ impl Weigher {
         Weigher::restore(strength, variable, false)
     }
 
-    /// A weigher in the midst of a text: `after_variable` is what the weigher of the text before answers.
+    /// A weigher in the midst of a text, which goes on as the one of the text before, whose answer `after_variable` is.
     pub fn restore(strength: Strength, variable: Variable, after_variable: bool) -> Self
-        ensures { result ≡ weigher strength variable after_variable }
+        ensures value { result ≡ weigher strength variable after_variable }
+        ensures stands_for { (table : TableMap) (read : Weigher) (units : List (List Point)) (given : List Item)
+            → WeigherStandsFor table read units given → read.strength ≡ strength → read.variable ≡ variable
+            → is_after_variable read ≡ after_variable → WeigherStandsFor table result units given }
     {
         Weigher {
             strength,
@@ -89,30 +86,6 @@ impl Weigher {
         if let Some(lead) = lead {
             add_key(self.strength, lead, items);
         }
-    }
-
-    /// Takes the next unit, which is that of one starter with these items.
-    #[inline(always)]
-    pub fn take_lone(&mut self, lone: &LoneItems)
-        ensures after { self.new ≡ weigher self.old.strength self.old.variable lone.now.after_variable }
-        ensures stands { (table : TableMap) (start cp : ℕ) (units : List (List Point)) (given : List Item)
-            → AreItemsOf table self.old cp lone.now
-            → WeigherStandsFor table self.old units given
-            → WeigherStandsFor table self.new (units ++ (ascii_point start cp ∷ []) ∷ []) (given ++ items_at lone.now start) }
-    {
-        *self = Weigher::restore(self.strength, self.variable, lone.after_variable);
-    }
-
-    /// Takes the units of a character at once, of which these are the items.
-    #[inline(always)]
-    pub fn take_character(&mut self, items: &CharacterItems)
-        ensures after { self.new ≡ weigher self.old.strength self.old.variable items.now.after_variable }
-        ensures stands { (table : TableMap) (start : ℕ) (points : List Point) (units : List (List Point)) (given : List Item)
-            → AreItemsOfPoints table self.old points items.now
-            → WeigherStandsFor table self.old units given
-            → WeigherStandsFor table self.new (units ++ units_of table (map (shifted start) points)) (given ++ character_items items.now start) }
-    {
-        *self = Weigher::restore(self.strength, self.variable, items.after_variable);
     }
 
     #[inline(always)]

@@ -41,16 +41,11 @@ impl Model for Window {
 impl Window {
     /// An empty window for a table whose longest mapped string has `longest_key` points, with room for those and for what one
     /// call of a `nfd_points::Reorder` gives.
-    ///
-    /// With the points of another window pushed, whose end was not announced, it goes on as that one.
     pub fn with_capacity(alloc: Global, longest_key: usize) -> Result<Self, AllocError>
         requires some { 1 ≤ longest_key }
         requires few { longest_key ≤ MOST_STRING_POINTS }
         ensures empty { IfOk result (λ w. w ≡ record { points = []; capacity = longest_key + MOST_GIVEN; has_ended = false }) }
         ensures stands { IfOk result (λ w. (table : TableMap) → WindowStandsFor table w [] []) }
-        ensures stands_for { IfOk result (λ w. (table : TableMap) (read : Held) (taken : List Point) (given : List (List Point))
-            → WindowStandsFor table read taken given → read.has_ended ≡ false → read.points ≡ []
-            → WindowStandsFor table w taken given) }
     {
         Ok(Window {
             queue: Queue::with_capacity(alloc, longest_key + MOST_GIVEN)?,
@@ -94,21 +89,37 @@ impl Window {
         ensures stands { (table : TableMap) (taken : List Point) (given : List (List Point))
             → WindowStandsFor table self.old taken given
             → WindowStandsFor table self.new (taken ++ p ∷ []) given }
-        // and once it has the points that were read from a window, it goes on as that one
-        ensures stands_for { (table : TableMap) (read : Held) (taken : List Point) (given : List (List Point))
-            → WindowStandsFor table read taken given → read.has_ended ≡ false → read.points ≡ self.old.points ++ p ∷ []
-            → WindowStandsFor table self.new taken given }
     {
         self.queue.push(p);
     }
 
-    /// Takes out the first `count` points, whose units were taken without it.
-    pub fn skip(&mut self, count: usize)
-        requires { count ≤ length self.old.points }
-        ensures rest { self.new ≡ record self.old { points = drop count self.old.points } }
-        ensures short { has_short_runs 0 (code_points self.old.points) ≡ true → has_short_runs 0 (code_points self.new.points) ≡ true }
+    /// Adds points after the others.
+    pub(crate) fn push_all(&mut self, points: &[Point])
+        requires room { length self.old.points + length points.now ≤ self.old.capacity }
+        requires open { self.old.has_ended ≡ false }
+        requires sound { All IsSoundPoint points.now }
+        ensures points { self.new ≡ record self.old { points = self.old.points ++ points.now } }
+        ensures stands { (table : TableMap) (taken : List Point) (given : List (List Point))
+            → WindowStandsFor table self.old taken given
+            → WindowStandsFor table self.new (taken ++ points.now) given }
     {
-        self.queue.skip(count);
+        for point in points {
+            self.push(*point);
+        }
+    }
+
+    /// Puts in the points that another window held, whose end was not announced: this one, which is empty, goes on as that one.
+    pub fn restore(&mut self, points: &[Point])
+        requires empty { self.old.points ≡ [] }
+        requires open { self.old.has_ended ≡ false }
+        requires room { length points.now ≤ self.old.capacity }
+        requires sound { All IsSoundPoint points.now }
+        ensures points { self.new ≡ record self.old { points = points.now } }
+        ensures stands_for { (table : TableMap) (read : Held) (taken : List Point) (given : List (List Point))
+            → WindowStandsFor table read taken given → read.has_ended ≡ false → read.points ≡ points.now
+            → WindowStandsFor table self.new taken given }
+    {
+        self.push_all(points);
     }
 
     /// Announces that no point follows.
@@ -121,12 +132,12 @@ impl Window {
         self.has_ended = true;
     }
 
-    /// Lets an empty window take points again, those of another text.
-    pub fn reopen(&mut self)
-        requires { self.old.points ≡ [] }
-        ensures open { self.new ≡ record self.old { has_ended = false } }
+    /// Takes out all points, and forgets that the end was announced: it is as a new window, for the points of another text.
+    pub fn clear(&mut self)
+        ensures empty { self.new ≡ record { points = []; capacity = self.old.capacity; has_ended = false } }
         ensures stands { (table : TableMap) → WindowStandsFor table self.new [] [] }
     {
+        self.queue.clear();
         self.has_ended = false;
     }
 

@@ -112,22 +112,22 @@ only-one (q ∷ r ∷ qs) h = absurd (omega (arith, h))
 
 -- ---- items of units in turn
 
-items-append : (table : TableMap) (s : Strength) (v : Variable) (after : Bool) (us vs : List (List Point)) →
+pub items-append : (table : TableMap) (s : Strength) (v : Variable) (after : Bool) (us vs : List (List Point)) →
     items_of table s v after (us ++ vs) ≡ items_of table s v after us ++ items_of table s v (after_units table v after us) vs
 items-append table s v after [] vs = refl
 items-append table s v after (u ∷ us) vs =
     ap (λ (l : List Item). unit_items table s v after u ++ l) (items-append table s v (after_unit table v after u) us vs)
     ∙ sym (append_assoc (unit_items table s v after u) (items_of table s v (after_unit table v after u) us) (items_of table s v (after_units table v (after_unit table v after u) us) vs))
 
-after-append : (table : TableMap) (v : Variable) (after : Bool) (us vs : List (List Point)) → after_units table v after (us ++ vs) ≡ after_units table v (after_units table v after us) vs
+pub after-append : (table : TableMap) (v : Variable) (after : Bool) (us vs : List (List Point)) → after_units table v after (us ++ vs) ≡ after_units table v (after_units table v after us) vs
 after-append table v after [] vs = refl
 after-append table v after (u ∷ us) vs = after-append table v (after_unit table v after u) us vs
 
-after-plain : (table : TableMap) (after : Bool) (us : List (List Point)) → after_units table NonIgnorable after us ≡ after
+pub after-plain : (table : TableMap) (after : Bool) (us : List (List Point)) → after_units table NonIgnorable after us ≡ after
 after-plain table after [] = refl
 after-plain table after (u ∷ us) = after-plain table after us
 
-possible-after : (table : TableMap) (v : Variable) (after flag : Bool) (us : List (List Point)) → IsPossible v after → after_units table v after us ≡ flag → IsPossible v flag
+pub possible-after : (table : TableMap) (v : Variable) (after flag : Bool) (us : List (List Point)) → IsPossible v after → after_units table v after us ≡ flag → IsPossible v flag
 possible-after table v after flag us possible is = λ plain.
     sym is ∙ ap (λ w. after_units table w after us) plain ∙ after-plain table after us ∙ possible plain
 

@@ -179,3 +179,15 @@ letter-plain table pattern cs l base plain h =
       known = λ some. plain-known table pattern (points_from 0 cs) l base (h.known (base-is_known l.role base));
       plain = λ yes. plain;
     }
+
+-- nothing else speaks of units that reach into a letter
+pub letter-without_apart : (table : TableMap) (pattern : Compiled) (cs : List ℕ) (l : Letter) → IsLetter table pattern cs l → IsLetter table pattern cs (record l { is_apart = false })
+letter-without_apart table pattern cs l h =
+    record {
+      closed = h.closed;
+      apart = λ yes. absurd (false≢true yes);
+      known = λ some.
+          let k = h.known some in
+          record { some = k.some; in_order = k.in_order; count = k.count; few = k.few; class = k.class; starter = k.starter; one = k.one; items = k.items };
+      plain = h.plain;
+    }

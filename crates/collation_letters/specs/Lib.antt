@@ -3,3 +3,4 @@ pub mod Letters
 pub mod Finding
 pub mod Joining
 pub mod Store
+pub mod Apart

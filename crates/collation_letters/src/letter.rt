@@ -104,7 +104,7 @@ impl Role {
 }
 
 impl Letter {
-    ghost use Rattle.std.specs.Prelude.{◌≡◌, ℕ, List, true};
+    ghost use Rattle.std.specs.Prelude.{◌≡◌, ℕ, List, true, false};
     ghost use Rattle.nfd_points.specs.Points.{begins_with_starter, points_from};
     ghost use Rattle.collation_table.specs.Table.{TableMap};
     ghost use Rattle.collation_pattern.specs.Compiled.{Compiled};
@@ -132,6 +132,21 @@ impl Letter {
         match self.role {
             Role::Plain | Role::Base | Role::VariableBase | Role::Silent => true,
             Role::Steps | Role::PrimaryMark | Role::Mark => self.is_apart,
+        }
+    }
+
+    /// The same letter, without what is known of units that reach into it: fewer letters differ so.
+    pub fn without_apart(self) -> Letter
+        ensures letter { (table : TableMap) (pattern : Compiled) (cs : List ℕ) → IsLetter table pattern cs self → IsLetter table pattern cs result }
+        ensures same { result ≡ record self { is_apart = false } }
+    {
+        Letter {
+            role: self.role,
+            is_closed: self.is_closed,
+            is_apart: false,
+            points: self.points,
+            class: self.class,
+            symbols: self.symbols,
         }
     }
 

@@ -6,9 +6,10 @@
 //! into it or out of it, and what it does to variable weighting; or that nothing is known, and that it is left to the steps of the
 //! search. [`letter_of`] finds it, by the table's own calls, and [`letter_of_pair`] that of two characters which are one mapped
 //! string; [`Letters`] keeps those that were found; [`Letter::with_mark`] joins a mark to the letter before it. What a letter means
-//! stands in `specs/Letters.antt`.
+//! stands in `specs/Letters.antt`. [`is_next`] says before which character the units of a letter end (`specs/Apart.antt`).
 #![tactic(auto)]
 
+mod apart;
 mod finding;
 mod joining;
 mod laws;
@@ -19,6 +20,7 @@ mod places;
 mod store;
 mod symbols;
 
+pub use crate::apart::is_next;
 pub use crate::finding::letter_of;
 pub use crate::laws::laws_of_symbols;
 pub use crate::letter::{Letter, Role, UNKNOWN};

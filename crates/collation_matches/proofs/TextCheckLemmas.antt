@@ -9,6 +9,7 @@ use Rattle.std.proofs.lemmas.Str.{length-encode, encodes-chars}
 use Rattle.std.proofs.Math.Seq.{take-append-add, split_at}
 use Rattle.utf8_cut.specs.Characters.{characters, characters_end, with_offsets, first_fault, ill_formed_at, is_utf8_prefix}
 use Rattle.nfd_points.specs.Points.{byte_len}
+pub use Rattle.nfd_points.proofs.ByteLenLemmas.{byte_len_encoded}
 use Rattle.nfd_points.specs.PointFaults.{point_fault}
 use Rattle.collation_matches.specs.declared.faults.TextFault.{TextFault}
 use Rattle.collation_matches.specs.GoodPrefix.{most_bytes, seen, whole, byte_fault, first_of, fault, is_good_so_far}
@@ -89,11 +90,6 @@ pub still_open : (u : List ℕ) (b : ℕ) → length u < most_bytes → ill_form
 still_open u b short formed good = open_from (u ++ b ∷ []) (longer u b short) (not_formed (u ++ b ∷ []) formed) good
 
 -- the next character stands after the bytes of those so far
-pub byte_len_encoded : (cs : List ℕ) → byte_len cs ≡ length (encode_utf8_all cs)
-unfolding byte_len
-byte_len_encoded [] = refl
-byte_len_encoded (c ∷ cs) = let rest = byte_len_encoded cs in let here = length-encode c in let sum = length-append (encode_utf8 c) (encode_utf8_all cs) in omega arith
-
 pub next_offset : (u : List ℕ) → IsUtf8 (whole u) → characters_end u ≤ length u → characters_end u ≡ byte_len (chars (whole u))
 next_offset u text within =
     sym (length-take-le (characters_end u) u within) ∙ sym (ap length (encodes-chars (whole u) text)) ∙ sym (byte_len_encoded (chars (whole u)))

@@ -202,6 +202,13 @@ border-more pattern ks key =
     (ends_through (take (border pattern short) pattern) short (ks ++ key ∷ []) (border-ends pattern short)
     (ends_push (take s pattern) ks key (border-ends pattern ks))) (border_more-most pattern ks key)
 
+pub border-goes_on : (pattern ks ls : List Key) (key : Key) → border pattern ks ≡ border pattern ls →
+    border pattern (ks ++ key ∷ []) ≡ border pattern (ls ++ key ∷ [])
+border-goes_on pattern ks ls key same =
+    sym (border-more pattern ks key)
+    ∙ ap (λ n. border pattern (take n pattern ++ key ∷ [])) same
+    ∙ border-more pattern ls key
+
 pub border-grows : (pattern ks : List Key) (key : Key) → border pattern (ks ++ key ∷ []) ≤ suc (border pattern ks)
 border-grows pattern ks key = below (border pattern (ks ++ key ∷ [])) refl
   where

@@ -36,3 +36,8 @@ PrefixesEndWithTheLastKey =
 -- with one key more the border grows by one at most
 abbrev pub BordersGrowByOne : Type 0
 BordersGrowByOne = (pattern ks : List Key) (key : Key) → border pattern (ks ++ key ∷ []) ≤ suc (border pattern ks)
+
+-- what the border is with one key more follows from the border before it
+abbrev pub BordersGoOn : Type 0
+BordersGoOn =
+    (pattern ks ls : List Key) (key : Key) → border pattern ks ≡ border pattern ls → border pattern (ks ++ key ∷ []) ≡ border pattern (ls ++ key ∷ [])

@@ -1,6 +1,6 @@
 //! Laws of sort keys, lists of keys, and borders.
 
-ghost use Rattle.collation_pattern.specs.Border.{BordersGrowByOne, PrefixesEndWithTheLastKey};
+ghost use Rattle.collation_pattern.specs.Border.{BordersGoOn, BordersGrowByOne, PrefixesEndWithTheLastKey};
 ghost use Rattle.collation_pattern.specs.KeyLaw.{KeyLaw, SortKeyIsLevels};
 
 use collation_table::Weights;
@@ -15,8 +15,9 @@ pub fn key_law<W: Weights>(table: &W)
 }
 
 /// Where a prefix of a pattern ends a list of keys, its last key is the last of the list, and without this key a shorter prefix by
-/// one ends the list.
+/// one ends the list. What the border is with one key more follows from the border before it.
 pub fn laws_of_borders()
     ensures last { PrefixesEndWithTheLastKey }
     ensures grow { BordersGrowByOne }
+    ensures go_on { BordersGoOn }
 {}

@@ -1,108 +1,14 @@
 -- Characters that are taken at once: where their units end, and the text with them.
 use Rattle.std.specs.Char.{len_utf8}
-use Rattle.unicode_normalization.specs.Lookups.{canonical_combining_class}
-use Rattle.std.proofs.Common.{◌≡◌, ◌∙◌, ℕ, ◌+◌, ◌≤◌, true, false, None, List, [], ◌∷◌, ◌++◌, length, flat_map, slice_get, refl, sym, ap, ap₂, subst, arith, append_assoc}
-use Rattle.std.proofs.lemmas.List.{append-nil}
-use Rattle.std.proofs.lemmas.Option.{same_Some}
+use Rattle.std.proofs.Common.{◌≡◌, ◌∙◌, ℕ, ◌+◌, true, List, [], ◌∷◌, ◌++◌, refl, sym, ap, subst, arith, append_assoc}
 use Rattle.nfd_points.specs.declared.points.Point.{Point}
-use Rattle.nfd_points.specs.Points.{decomposition, byte_len, points_at, points_of, points_from, begins_with_starter, ordered}
-use Rattle.nfd_points.specs.PointFaults.{fault_from, point_fault}
-use Rattle.nfd_points.specs.Laws.{DecompositionsAreShort}
+use Rattle.nfd_points.specs.Points.{byte_len, points_of, points_from, begins_with_starter, ordered}
 use Rattle.collation_table.specs.Table.{TableMap}
 use Rattle.collation_elements.specs.Units.{units}
-use Rattle.collation_search.specs.Apart.{EndsBefore, AreApart, IsNext}
+use Rattle.collation_search.specs.Apart.{AreApart, IsNext}
 use Rattle.collation_search.proofs.ApartLaws.{Laws}
-
--- ---- where units end
-
-abbrev pub Splits : TableMap → List Point → Point → Type 0
-Splits table ps x = (more : List Point) → units table (ps ++ x ∷ more) ≡ units table ps ++ units table (x ∷ more)
-
-pub units-more : (table : TableMap) (ps qs tail : List Point) (x : Point) → qs ≡ x ∷ tail → Splits table ps x → units table (ps ++ qs) ≡ units table ps ++ units table qs
-units-more table ps qs tail x begun ends =
-    ap (λ (t : List Point). units table (ps ++ t)) begun ∙ ends tail ∙ ap (λ (t : List Point). units table ps ++ units table t) (sym begun)
-
-pub splits-more : (table : TableMap) (ps qs tail : List Point) (x y : Point) → qs ≡ x ∷ tail → Splits table ps x → Splits table qs y → Splits table (ps ++ qs) y
-splits-more table ps qs tail x y begun first second = λ more.
-    let U = units table in
-    let later = ap (λ (t : List Point). t ++ y ∷ more) begun in
-    ap U (append_assoc ps qs (y ∷ more)) ∙ ap (λ (t : List Point). U (ps ++ t)) later ∙ first (tail ++ y ∷ more)
-    ∙ ap (λ (t : List Point). U ps ++ U t) (sym later) ∙ ap (λ (us : List (List Point)). U ps ++ us) (second more)
-    ∙ sym (append_assoc (U ps) (U qs) (U (y ∷ more))) ∙ ap (λ (us : List (List Point)). us ++ U (y ∷ more)) (sym (units-more table ps qs tail x begun first))
-
--- ---- the points of one character
-
-pub record IsBegun (ps : List Point) : Type 0 where
-  pub first : Point
-  pub others : List Point
-  pub is : ps ≡ first ∷ others
-
-begun_at : (at : ℕ) (ds : List ℕ) → 1 ≤ length ds → IsBegun (points_at at true ds)
-unfolding points_at
-begun_at at [] some = absurd (omega (arith, some))
-begun_at at (d ∷ ds) some =
-    record { first = record { cp = d; ccc = canonical_combining_class d; offset = at; first = true }; others = points_at at false ds; is = refl }
-
-pub begun : DecompositionsAreShort → (at c : ℕ) → IsBegun (points_of at c)
-begun law at c = begun_at at (decomposition c) (law c).0
-
-first_at : (at : ℕ) (ds : List ℕ) (other : ℕ) → begins_with_starter (points_at at true ds) ≡ true → begins_with_starter (points_at other true ds) ≡ true
-unfolding points_at
-first_at at [] other h = refl
-first_at at (d ∷ ds) other h = h
-
-pub begins_anywhere : (at other c : ℕ) → begins_with_starter (points_of at c) ≡ true → begins_with_starter (points_of other c) ≡ true
-begins_anywhere at other c h = first_at at (decomposition c) other h
-
-begins-append : (ps qs : List Point) → IsBegun ps → begins_with_starter ps ≡ true → begins_with_starter (ps ++ qs) ≡ true
-begins-append ps qs b h =
-    ap (λ (t : List Point). begins_with_starter (t ++ qs)) b.is ∙ ap begins_with_starter (sym b.is) ∙ h
-
-pub from_one : (start c : ℕ) → points_from start (c ∷ []) ≡ points_of start c
-unfolding points_from
-from_one start c = append-nil (points_of start c)
-
-pub from_first : (start c : ℕ) (cs : List ℕ) → points_from start (c ∷ cs) ≡ points_of start c ++ points_from (start + len_utf8 c) cs
-unfolding points_from
-from_first start c cs = refl
-
-pub from_none : (start : ℕ) → points_from start [] ≡ []
-unfolding points_from
-from_none start = refl
-
-len_one : (c : ℕ) → byte_len (c ∷ []) ≡ len_utf8 c
-unfolding byte_len
-len_one c = omega arith
-
-pub len_none : byte_len [] ≡ 0
-unfolding byte_len
-len_none = refl
-
--- ---- one character more
-
-pub ends_here : (table : TableMap) (ps : List Point) (at c : ℕ) (b : IsBegun (points_of at c)) → EndsBefore table ps at c → Splits table ps b.first
-ends_here table ps at c b ends = ends b.first (ap (λ t. slice_get t 0) b.is)
-
-pub ends_there : (table : TableMap) (ps : List Point) (at c : ℕ) (b : IsBegun (points_of at c)) → Splits table ps b.first → EndsBefore table ps at c
-ends_there table ps at c b splits = λ x is. subst (Splits table ps) (same_Some b.first x (sym (ap (λ t. slice_get t 0) b.is) ∙ is)) splits
-
-one_good : Laws → (c : ℕ) → point_fault (c ∷ []) ≡ None
-one_good laws c =
-    let few = (laws.short c).1 in
-    let one : flat_map decomposition (c ∷ []) ≡ decomposition c = append-nil (decomposition c) in
-    let long = ap length one in laws.few (c ∷ []) (omega (arith, few, long))
-
-ordered_none : ordered [] ≡ []
-unfolding ordered
-ordered_none = refl
-
-good_none : point_fault [] ≡ None
-unfolding fault_from
-good_none = refl
-
-begun_append : (xs ys : List Point) → IsBegun ys → (zs : List Point) → zs ≡ xs ++ ys → IsBegun zs
-begun_append [] ys b zs same = record { first = b.first; others = b.others; is = same ∙ b.is }
-begun_append (x ∷ xs) ys b zs same = record { first = x; others = xs ++ ys; is = same }
+use Rattle.collation_letters.proofs.ApartLemmas.{begins-append, begun_append, begun_from, good_none, ordered_none, next-more, units-next}
+pub use Rattle.collation_letters.proofs.ApartLemmas.{Splits, begun, begins_anywhere, from_first, from_none, from_one, len_none, units-more, splits-more, ends_here, ends_there}
 
 pub apart-none : Laws → (table : TableMap) (start next : ℕ) → begins_with_starter (points_of start next) ≡ true → AreApart table start [] next
 apart-none laws table start next begins =
@@ -116,25 +22,6 @@ apart-none laws table start next begins =
       ends = λ x is more. ap (λ (t : List Point). units table (t ++ x ∷ more)) nothing ∙ ap (λ (t : List Point). units table t ++ units table (x ∷ more)) (sym nothing);
     }
 
--- the points of characters in a row begin with those of the first
-pub begun_from : Laws → (at c : ℕ) (cs all : List ℕ) → all ≡ c ∷ cs → IsBegun (points_from at all)
-begun_from laws at c cs all same =
-    let b = begun laws.short at c in
-    record {
-      first = b.first;
-      others = b.others ++ points_from (at + len_utf8 c) cs;
-      is = ap (points_from at) same ∙ from_first at c cs ∙ ap (λ (t : List Point). t ++ points_from (at + len_utf8 c) cs) b.is;
-    }
-
-ends_first : (laws : Laws) (table : TableMap) (ps : List Point) (at c : ℕ) (cs all : List ℕ) (same : all ≡ c ∷ cs) → EndsBefore table ps at c → Splits table ps (begun_from laws at c cs all same).first
-unfolding begun_from begun
-ends_first laws table ps at c cs all same ends = ends_here table ps at c (begun laws.short at c) ends
-
-begins_all : Laws → (at other c : ℕ) (cs all : List ℕ) → all ≡ c ∷ cs → begins_with_starter (points_of at c) ≡ true → begins_with_starter (points_from other all) ≡ true
-begins_all laws at other c cs all same h =
-    ap begins_with_starter (ap (points_from other) same ∙ from_first other c cs)
-    ∙ begins-append (points_of other c) (points_from (other + len_utf8 c) cs) (begun laws.short other c) (begins_anywhere at other c h)
-
 pub apart-more : Laws → (table : TableMap) (start c next : ℕ) (cs others more : List ℕ) → more ≡ c ∷ others → AreApart table start cs c → IsNext table (start + byte_len cs) more next → AreApart table start (cs ++ more) next
 apart-more laws table start c next cs others more same h n =
     let at = start + byte_len cs in
@@ -142,8 +29,8 @@ apart-more laws table start c next cs others more same h n =
     let S = points_from at more in
     let b = begun_from laws at c others more same in
     let all : points_from start (cs ++ more) ≡ A ++ S = laws.parts start cs more in
-    let end : start + byte_len (cs ++ more) ≡ at + byte_len more = omega (arith, laws.bytes cs more) in
-    let after = begun laws.short (at + byte_len more) next in
+    let so_far : IsNext table start cs c = record { in_order = h.in_order; good = h.good; begins = h.next_begins; ends = h.ends } in
+    let further = next-more laws table start c next cs others more same so_far n in
     record {
       begins =
           let joined : points_from start ((cs ++ more) ++ next ∷ []) ≡ points_from start (cs ++ more) ++ points_from (start + byte_len (cs ++ more)) (next ∷ []) = laws.parts start (cs ++ more) (next ∷ []) in
@@ -154,34 +41,13 @@ apart-more laws table start c next cs others more same h n =
           ∙ begins-append (A ++ points_of at c) (points_from (at + len_utf8 c) others) (begun_append A (points_of at c) (begun laws.short at c) (A ++ points_of at c) refl) (ap begins_with_starter (sym one) ∙ h.begins) in
           ap begins_with_starter joined ∙ begins-append (points_from start (cs ++ more)) (points_from (start + byte_len (cs ++ more)) (next ∷ []))
           (begun_append A S b (points_from start (cs ++ more)) all) (ap begins_with_starter all ∙ first);
-      next_begins = subst (λ i. begins_with_starter (points_of i next) ≡ true) (sym end) n.begins;
-      in_order = ap ordered all ∙ laws.at_starters A S (begins_all laws at at c others more same h.next_begins) ∙ ap₂ (λ (s t : List Point). s ++ t) h.in_order n.in_order ∙ sym all;
-      good = laws.anew cs more (begins_all laws at 0 c others more same h.next_begins) h.good n.good;
-      ends = subst (λ i. EndsBefore table (points_from start (cs ++ more)) i next) (sym end)
-          (subst (λ (ps : List Point). EndsBefore table ps (at + byte_len more) next) (sym all)
-          (ends_there table (A ++ S) (at + byte_len more) next after
-          (splits-more table A S b.others b.first after.first b.is (ends_first laws table A at c others more same h.ends) (ends_here table S (at + byte_len more) next after n.ends))));
+      next_begins = further.begins;
+      in_order = further.in_order;
+      good = further.good;
+      ends = further.ends;
     }
 
 -- their units are their own
 pub units-apart : Laws → (table : TableMap) (start c : ℕ) (cs others more : List ℕ) → more ≡ c ∷ others → AreApart table start cs c →
     units table (points_from start (cs ++ more)) ≡ units table (points_from start cs) ++ units table (points_from (start + byte_len cs) more)
-units-apart laws table start c cs others more same h =
-    let at = start + byte_len cs in
-    let A = points_from start cs in
-    let b = begun_from laws at c others more same in
-    ap (units table) (laws.parts start cs more) ∙ units-more table A (points_from at more) b.others b.first b.is (ends_first laws table A at c others more same h.ends)
-
--- a character by itself
-pub next_of_one : Laws → (table : TableMap) (at c next : ℕ) → begins_with_starter (points_of (at + len_utf8 c) next) ≡ true → EndsBefore table (points_of at c) (at + len_utf8 c) next →
-    IsNext table at (c ∷ []) next
-next_of_one laws table at c next begins ends =
-    let one = len_one c in
-    let same : at + len_utf8 c ≡ at + byte_len (c ∷ []) = omega (arith, one) in
-    record {
-      in_order = ap ordered (from_one at c) ∙ laws.stays (points_of at c) (laws.in_order at c) ∙ sym (from_one at c);
-      good = one_good laws c;
-      begins = subst (λ i. begins_with_starter (points_of i next) ≡ true) same begins;
-      ends = subst (λ i. EndsBefore table (points_from at (c ∷ [])) i next) same
-          (subst (λ (ps : List Point). EndsBefore table ps (at + len_utf8 c) next) (sym (from_one at c)) ends);
-    }
+units-apart laws table start c cs others more same h = units-next laws table start c cs others more same h.ends

@@ -1,16 +1,24 @@
 -- Pieces of a text in turn, and calls of a sink in turn.
 use Rattle.std.specs.Prelude.{Result, OnOk, OnErr, IfErr, Ok, Err, Option, None, Some}
 use Rattle.std.specs.List.{FoldsTo}
-use Rattle.std.proofs.Common.{◌≡◌, ◌∙◌, ℕ, false, List, [], ◌∷◌, ◌++◌, refl, sym, ap, subst, append_assoc}
+use Rattle.std.proofs.Common.{◌≡◌, ◌∙◌, ℕ, zero, suc, ◌+◌, ◌<◌, ◌≤◌, max, false, List, [], ◌∷◌, ◌++◌, length, true, inl, refl, sym, ap, subst, arith, append_assoc, length-append}
+use Rattle.std.specs.Str.{chars}
 use Rattle.std.proofs.lemmas.List.{append-nil}
 use Rattle.collation_table.specs.declared.lookup.Weights.{Ghosts}
 use Rattle.collation_matches.specs.declared.faults.TextFault.{TextFault}
 use Rattle.collation_search.specs.declared.search.Search.{Search}
 use Rattle.collation_matches.specs.Answer.{Answer}
-use Rattle.collation_matches.specs.GoodPrefix.{is_good_so_far}
-use Rattle.collation_search.specs.Search.{HasSearched, HasReported, HasReportedNone, sought}
+use Rattle.nfd_points.specs.Laws.{DecompositionsAreShort}
+use Rattle.collation_table.specs.Table.{longest_mapped}
+use Rattle.collation_elements.specs.Decided.{left_points, EarlyCutsAreMadeGood}
+use Rattle.collation_matches.specs.GoodPrefix.{is_good_so_far, whole}
+use Rattle.collation_search.specs.Early.{starters_from}
+use Rattle.collation_search.specs.Search.{HasSearched, HasTaken, HasReported, HasReportedNone, sought}
+use Rattle.collation_search.specs.StateAfter.{final_points, reported_after, fault_so_far, IsReported}
 use Rattle.collation_matches.specs.Sought.{IsCompiledFrom, Sought, answer_to}
-use Rattle.collation_search.specs.Feeding.{Feeds}
+use Rattle.collation_search.specs.Feeding.{fault_of, Feeds, MayCut, Takes}
+use Rattle.collation_search.proofs.StarterCounts.{made-good, made-good_none}
+use Rattle.collation_search.proofs.StateLemmas.{StateLaws, reported-known, fault-known}
 
 -- ---- results
 
@@ -46,17 +54,32 @@ none_of (Some f) h = absurd (h f refl)
 pub none_or_some : (o : Option TextFault) (f : TextFault) → o ≡ None → o ≡ Some f → ⊥
 none_or_some o f none some = cc
 
+-- a fact of an answer, in each case
+by_answer : {E : Type 0} → (r : Result (Unit {0}) E) (P : Result (Unit {0}) E → Type 0) → (OnOk r (P (Ok tt))) → IfErr r (λ e. P (Err e)) → P r
+by_answer (Ok done) P ok err = ok
+by_answer (Err e) P ok err = err
+
+on_ok-all : {E : Type 0} → (r : Result (Unit {0}) E) (Far P : ℕ → Type 0) (Q : Type 0) → (((place : ℕ) → Far place → P place) → Q) → ((place : ℕ) → Far place → OnOk r (P place)) → OnOk r Q
+on_ok-all (Ok done) Far P Q f h = f h
+on_ok-all (Err e) Far P Q f h = tt
+
 one_byte : (u : List ℕ) (byte : ℕ) (more : List ℕ) → (u ++ byte ∷ []) ++ more ≡ u ++ byte ∷ more
 one_byte u byte more = append_assoc u (byte ∷ []) more
 
+-- from the place up to which units may be cut early, enough characters that begin with a starter are left to the steps
+abbrev pub LeavesEnough : Sought → ℕ → List ℕ → Type 0
+LeavesEnough s reach piece =
+    (u : List ℕ) → is_good_so_far (u ++ piece) ≡ true → 0 < reach → max 2 (longest_mapped s.table) ≤ starters_from (length u + reach) (chars (whole (u ++ piece)))
+
 module _ {W : Type 0} {G : Ghosts W} where
   -- nothing was taken yet
-  pub feeds-none : (search : Search W G) → ((f : TextFault) → HasReported search f → ⊥) → Feeds search [] (Ok tt) [] search
-  feeds-none search none = record {
-    stands = λ u handed h.
-        subst (λ t. HasSearched search t (handed ++ [])) (sym (append-nil u)) (subst (λ (t : List (ℕ × ℕ)). HasSearched search u t) (sym (append-nil handed)) h);
-    answer = λ text u more handed compiled h. tt;
-    closed = λ u more handed h. tt;
+  pub takes-none : (search : Search W G) (reach : ℕ) → ((f : TextFault) → HasReported search f → ⊥) → Takes search reach [] (Ok tt) [] search
+  takes-none search reach none = record {
+    stands = λ place u handed h.
+        subst (λ t. HasTaken search place t (handed ++ [])) (sym (append-nil u)) (subst (λ (t : List (ℕ × ℕ)). HasTaken search place u t) (sym (append-nil handed)) h.1);
+    ended = λ place u more handed h. tt;
+    answer = λ place text u more handed compiled h. tt;
+    closed = λ place u more handed h. tt;
     reported = tt;
     again = λ f h. absurd (none f h);
     none = none_of search.fault none;
@@ -64,16 +87,22 @@ module _ {W : Type 0} {G : Ghosts W} where
     same_sought = refl;
   }
 
-  -- one piece and then another
-  pub feeds-append : (a b c : Search W G) (p q : List ℕ) (r : Result (Unit {0}) TextFault) (xs ys : List (ℕ × ℕ)) →
-      Feeds a p (Ok tt) xs b → Feeds b q r ys c → Feeds a (p ++ q) r (xs ++ ys) c
-  feeds-append a b c p q r xs ys first second = record {
-    stands = λ u handed h.
+  -- one part of a piece and then another
+  pub takes-append : (a b c : Search W G) (near later reach : ℕ) (p q : List ℕ) (r : Result (Unit {0}) TextFault) (xs ys : List (ℕ × ℕ)) →
+      (0 < near → near ≤ reach) → (0 < later → length p + later ≤ reach) → Takes a near p (Ok tt) xs b → Takes b later q r ys c → Takes a reach (p ++ q) r (xs ++ ys) c
+  takes-append a b c near later reach p q r xs ys near_in later_in first second = record {
+    stands = λ place u handed h.
         on_ok-map r _ _
-        (λ s. subst (λ t. HasSearched c t (handed ++ (xs ++ ys))) (append_assoc u p q)
-        (subst (λ (t : List (ℕ × ℕ)). HasSearched c ((u ++ p) ++ q) t) (append_assoc handed xs ys) s))
-        (second.stands (u ++ p) (handed ++ xs) (first.stands u handed h));
-    answer = λ text u more handed compiled h.
+        (λ s. subst (λ t. HasTaken c place t (handed ++ (xs ++ ys))) (append_assoc u p q)
+        (subst (λ (t : List (ℕ × ℕ)). HasTaken c place ((u ++ p) ++ q) t) (append_assoc handed xs ys) s))
+        (second.stands place (u ++ p) (handed ++ xs) (between place u handed h));
+    ended = λ place u more handed h.
+        if_err-map r _ _
+        (λ f e. subst (λ t. IsReported (sought a) (t ++ more) (handed ++ (xs ++ ys)) (Some f)) (append_assoc u p q)
+        (subst (λ (t : List (ℕ × ℕ)). IsReported (sought a) (((u ++ p) ++ q) ++ more) t (Some f)) (append_assoc handed xs ys)
+        (subst (λ (s : Sought). IsReported s (((u ++ p) ++ q) ++ more) ((handed ++ xs) ++ ys) (Some f)) first.same_sought e)))
+        (second.ended place (u ++ p) more (handed ++ xs) (between place u handed h));
+    answer = λ place text u more handed compiled h.
         let same = first.same_sought in
         if_err-map r _ _
         (λ f e.
@@ -81,48 +110,70 @@ module _ {W : Type 0} {G : Ghosts W} where
         ∙ ap (λ (s : Sought). answer_to s text (((u ++ p) ++ q) ++ more)) (sym same)
         ∙ e
         ∙ ap (λ (t : List (ℕ × ℕ)). let z : Answer = record { ranges = t; fault = Some f } in z) (append_assoc handed xs ys))
-        (second.answer text (u ++ p) more (handed ++ xs) (subst (λ (s : Sought). IsCompiledFrom s text) (sym same) compiled) (first.stands u handed h));
-    closed = λ u more handed h.
+        (second.answer place text (u ++ p) more (handed ++ xs) (subst (λ (s : Sought). IsCompiledFrom s text) (sym same) compiled) (between place u handed h));
+    closed = λ place u more handed h.
         on_err-map r _ _ (λ e. ap (λ t. is_good_so_far (t ++ more)) (sym (append_assoc u p q)) ∙ e)
-        (second.closed (u ++ p) more (handed ++ xs) (first.stands u handed h));
+        (second.closed place (u ++ p) more (handed ++ xs) (between place u handed h));
     reported = second.reported;
     again = λ f h. absurd (ok_not_err tt f (first.again f h).0);
     none = second.none;
     memory = if_err-map r _ _ (λ f h kind. absurd (none_or_some b.fault f first.none (h kind))) second.memory;
     same_sought = second.same_sought ∙ first.same_sought;
   }
+    where
+      between : (place : ℕ) (u : List ℕ) (handed : List (ℕ × ℕ)) → MayCut a reach place u handed → MayCut b later place (u ++ p) (handed ++ xs)
+      between place u handed h = (
+        λ some.
+            let within = later_in some in
+            let far = h.0 (omega (arith, some, within)) in
+            let sum = length-append u p in
+            omega (arith, within, far, sum),
+        first.stands place u handed (
+          λ some.
+              let within = near_in some in
+              let far = h.0 (omega (arith, some, within)) in
+              omega (arith, within, far),
+          h.1,
+        ),
+      )
 
   -- after a fault the rest of a piece is not read
-  pub feeds-stop : (a b : Search W G) (p q : List ℕ) (f : TextFault) (xs : List (ℕ × ℕ)) → Feeds a p (Err f) xs b → Feeds a (p ++ q) (Err f) xs b
-  feeds-stop a b p q f xs h = record {
-    stands = λ u handed s. tt;
-    answer = λ text u more handed compiled s.
-        ap (λ t. answer_to (sought a) text t) (ap (λ t. t ++ more) (sym (append_assoc u p q)) ∙ append_assoc (u ++ p) q more)
-        ∙ h.answer text u (q ++ more) handed compiled s;
-    closed = λ u more handed s. ap is_good_so_far (ap (λ t. t ++ more) (sym (append_assoc u p q)) ∙ append_assoc (u ++ p) q more) ∙ h.closed u (q ++ more) handed s;
+  pub takes-stop : (a b : Search W G) (reach : ℕ) (p q : List ℕ) (f : TextFault) (xs : List (ℕ × ℕ)) → Takes a reach p (Err f) xs b → Takes a reach (p ++ q) (Err f) xs b
+  takes-stop a b reach p q f xs h = record {
+    stands = λ place u handed s. tt;
+    ended = λ place u more handed s. subst (λ t. IsReported (sought a) t (handed ++ xs) (Some f)) (sym (later u more)) (h.ended place u (q ++ more) handed s);
+    answer = λ place text u more handed compiled s. ap (λ t. answer_to (sought a) text t) (later u more) ∙ h.answer place text u (q ++ more) handed compiled s;
+    closed = λ place u more handed s. ap is_good_so_far (later u more) ∙ h.closed place u (q ++ more) handed s;
     reported = h.reported;
     again = h.again;
     none = tt;
     memory = h.memory;
     same_sought = h.same_sought;
   }
+    where
+      later : (u more : List ℕ) → (u ++ (p ++ q)) ++ more ≡ (u ++ p) ++ (q ++ more)
+      later u more = ap (λ t. t ++ more) (sym (append_assoc u p q)) ∙ append_assoc (u ++ p) q more
 
-  -- one byte is a piece
-  pub feeds-byte : (a b : Search W G) (byte : ℕ) (r : Result (Unit {0}) TextFault) (found : List (ℕ × ℕ)) →
-      ((u : List ℕ) (handed : List (ℕ × ℕ)) → HasSearched a u handed → OnOk r (HasSearched b (u ++ byte ∷ []) (handed ++ found))) →
-      ((text u more : List ℕ) (handed : List (ℕ × ℕ)) → IsCompiledFrom (sought a) text → HasSearched a u handed →
+  -- one byte is a part of a piece
+  pub takes-byte : (a b : Search W G) (byte : ℕ) (r : Result (Unit {0}) TextFault) (found : List (ℕ × ℕ)) →
+      ((place : ℕ) (u : List ℕ) (handed : List (ℕ × ℕ)) → HasTaken a place u handed → OnOk r (HasTaken b place (u ++ byte ∷ []) (handed ++ found))) →
+      ((place : ℕ) (u more : List ℕ) (handed : List (ℕ × ℕ)) → HasTaken a place u handed → IfErr r (λ f. IsReported (sought a) (u ++ byte ∷ more) (handed ++ found) (Some f))) →
+      ((place : ℕ) (text u more : List ℕ) (handed : List (ℕ × ℕ)) → IsCompiledFrom (sought a) text → HasTaken a place u handed →
       IfErr r (λ f. answer_to (sought a) text (u ++ byte ∷ more) ≡ record { ranges = handed ++ found; fault = Some f })) →
-      ((u more : List ℕ) (handed : List (ℕ × ℕ)) → HasSearched a u handed → OnErr r (is_good_so_far (u ++ byte ∷ more) ≡ false)) →
+      ((place : ℕ) (u more : List ℕ) (handed : List (ℕ × ℕ)) → HasTaken a place u handed → OnErr r (is_good_so_far (u ++ byte ∷ more) ≡ false)) →
       IfErr r (λ f. HasReported b f) → ((f : TextFault) → HasReported a f → (r ≡ Err f) × (found ≡ [])) →
       OnOk r (HasReportedNone b) → IfErr r (λ f. f.kind ≡ 35 → HasReported a f) → sought b ≡ sought a →
-      Feeds a (byte ∷ []) r found b
-  feeds-byte a b byte r found stands answer closed reported again none memory same = record {
-    stands = stands;
-    answer = λ text u more handed compiled h.
+      Takes a 0 (byte ∷ []) r found b
+  takes-byte a b byte r found stands ended answer closed reported again none memory same = record {
+    stands = λ place u handed h. stands place u handed h.1;
+    ended = λ place u more handed h.
+        let Q : List ℕ → Type 0 = λ t. IfErr r (λ f. IsReported (sought a) t (handed ++ found) (Some f)) in
+        subst Q (sym (one_byte u byte more)) (ended place u more handed h.1);
+    answer = λ place text u more handed compiled h.
         let Q : List ℕ → Type 0 = λ t. IfErr r (λ f. answer_to (sought a) text t ≡ record { ranges = handed ++ found; fault = Some f }) in
-        subst Q (sym (one_byte u byte more)) (answer text u more handed compiled h);
-    closed = λ u more handed h.
-        let Q : List ℕ → Type 0 = λ t. OnErr r (is_good_so_far t ≡ false) in subst Q (sym (one_byte u byte more)) (closed u more handed h);
+        subst Q (sym (one_byte u byte more)) (answer place text u more handed compiled h.1);
+    closed = λ place u more handed h.
+        let Q : List ℕ → Type 0 = λ t. OnErr r (is_good_so_far t ≡ false) in subst Q (sym (one_byte u byte more)) (closed place u more handed h.1);
     reported = reported;
     again = again;
     none = none;
@@ -130,12 +181,112 @@ module _ {W : Type 0} {G : Ghosts W} where
     same_sought = same;
   }
 
+  -- characters without a fault
+  pub takes-good : (a b : Search W G) (reach : ℕ) (piece : List ℕ) (found : List (ℕ × ℕ)) → a.fault ≡ None → b.fault ≡ None → sought b ≡ sought a →
+      ((place : ℕ) (u : List ℕ) (handed : List (ℕ × ℕ)) → MayCut a reach place u handed → HasTaken b place (u ++ piece) (handed ++ found)) → Takes a reach piece (Ok tt) found b
+  takes-good a b reach piece found none_before none same stands = record {
+    stands = stands;
+    ended = λ place u more handed h. tt;
+    answer = λ place text u more handed compiled h. tt;
+    closed = λ place u more handed h. tt;
+    reported = tt;
+    again = λ f h. absurd (none_or_some a.fault f none_before h);
+    none = none;
+    memory = tt;
+    same_sought = same;
+  }
+
+  -- ---- a whole piece
+
+  -- where none was cut early, or where enough starters follow the place
+  searched-from : (search : Search W G) (place : ℕ) (u : List ℕ) (handed : List (ℕ × ℕ)) → (h : HasTaken search place u handed) →
+      search.finder.window.points ≡ left_points (sought search).table (final_points (chars (whole u))) → HasSearched search u handed
+  searched-from search place u handed h left = record {
+    cut_stands = h.cut_stands;
+    found = h.found;
+    open_bytes = h.open_bytes;
+    no_fault = h.no_fault;
+    some_key = h.some_key;
+    left = left;
+  }
+
+  taken-from : (search : Search W G) (place : ℕ) (u : List ℕ) (handed : List (ℕ × ℕ)) → HasSearched search u handed → HasTaken search place u handed
+  taken-from search place u handed h = record {
+    cut_stands = h.cut_stands;
+    found = h.found;
+    open_bytes = h.open_bytes;
+    no_fault = h.no_fault;
+    some_key = h.some_key;
+    left = inl h.left;
+  }
+
+  made_good : DecompositionsAreShort → EarlyCutsAreMadeGood → (b : Search W G) (reach : ℕ) (u piece : List ℕ) (handed : List (ℕ × ℕ)) → LeavesEnough (sought b) reach piece →
+      ((place : ℕ) → (0 < reach → length u + reach ≤ place) → HasTaken b place (u ++ piece) handed) → HasSearched b (u ++ piece) handed
+  made_good short law b zero u piece handed enough taken =
+      let h = taken 0 (λ some. absurd (omega (arith, some))) in
+      searched-from b 0 (u ++ piece) handed h (made-good_none (sought b).table (chars (whole (u ++ piece))) b.finder.window.points h.left)
+  made_good short law b (suc reach) u piece handed enough taken =
+      let place = length u + suc reach in
+      let h = taken place (λ some. omega arith) in
+      let follow = enough u h.open_bytes (omega arith) in
+      searched-from b place (u ++ piece) handed h (made-good short law (sought b).table place (chars (whole (u ++ piece))) b.finder.window.points (omega (arith, follow)) h.left)
+
+  -- what was taken of a whole piece, of which enough was left to the steps, is what steps alone make of it
+  pub feeds-of : StateLaws → DecompositionsAreShort → EarlyCutsAreMadeGood → (a b : Search W G) (reach : ℕ) (piece : List ℕ) (r : Result (Unit {0}) TextFault) (found : List (ℕ × ℕ)) →
+      LeavesEnough (sought a) reach piece → Takes a reach piece r found b → Feeds a piece r found b
+  feeds-of laws short law a b reach piece r found enough t = record {
+    stands = stands;
+    known = λ u handed h.
+        by_answer r (λ answer. handed ++ found ≡ reported_after (sought a) (u ++ piece))
+        (on_ok-map r _ _ (λ now. (reported u handed now).0) (stands u handed h))
+        (if_err-map r _ _ (λ f now. now.0) (over u handed h));
+    fault = λ u handed h.
+        by_answer r (λ answer. fault_of answer ≡ fault_so_far (u ++ piece))
+        (on_ok-map r _ _ (λ now. (reported u handed now).1) (stands u handed h))
+        (if_err-map r _ _ (λ f now. now.1) (over u handed h));
+    ended = λ u more handed h. t.ended (length u + reach) u more handed (begins u handed h);
+    answer = λ text u more handed compiled h. t.answer (length u + reach) text u more handed compiled (begins u handed h);
+    closed = λ u more handed h. t.closed (length u + reach) u more handed (begins u handed h);
+    reported = t.reported;
+    again = t.again;
+    none = t.none;
+    memory = t.memory;
+    same_sought = t.same_sought;
+  }
+    where
+      begins : (u : List ℕ) (handed : List (ℕ × ℕ)) → HasSearched a u handed → MayCut a reach (length u + reach) u handed
+      begins u handed h = (λ some. omega arith, taken-from a (length u + reach) u handed h)
+
+      over : (u : List ℕ) (handed : List (ℕ × ℕ)) → HasSearched a u handed → IfErr r (λ f. IsReported (sought a) (u ++ piece) (handed ++ found) (Some f))
+      over u handed h =
+          subst (λ bytes. IfErr r (λ f. IsReported (sought a) bytes (handed ++ found) (Some f))) (append-nil (u ++ piece)) (t.ended (length u + reach) u [] handed (begins u handed h))
+
+      stands : (u : List ℕ) (handed : List (ℕ × ℕ)) → HasSearched a u handed → OnOk r (HasSearched b (u ++ piece) (handed ++ found))
+      stands u handed h =
+          let there : LeavesEnough (sought b) reach piece = subst (λ s. LeavesEnough s reach piece) (sym t.same_sought) enough in
+          on_ok-all r (λ place. (0 < reach → length u + reach ≤ place)) (λ place. HasTaken b place (u ++ piece) (handed ++ found)) (HasSearched b (u ++ piece) (handed ++ found))
+          (made_good short law b reach u piece (handed ++ found) there)
+          (λ place far. t.stands place u handed (far, taken-from a place u handed h))
+
+      reported : (u : List ℕ) (handed : List (ℕ × ℕ)) → HasSearched b (u ++ piece) (handed ++ found) → IsReported (sought a) (u ++ piece) (handed ++ found) None
+      reported u handed now =
+          subst (λ s. IsReported s (u ++ piece) (handed ++ found) None) t.same_sought
+          (reported-known laws (sought b) b.cut b.finder b.fault (u ++ piece) (handed ++ found) now refl, fault-known laws (sought b) b.cut b.finder b.fault (u ++ piece) (handed ++ found) now refl)
+
+  -- where none is cut early
+  pub feeds-steps : StateLaws → DecompositionsAreShort → EarlyCutsAreMadeGood → (a b : Search W G) (piece : List ℕ) (r : Result (Unit {0}) TextFault) (found : List (ℕ × ℕ)) →
+      Takes a 0 piece r found b → Feeds a piece r found b
+  feeds-steps laws short law a b piece r found t = feeds-of laws short law a b 0 piece r found (λ u good some. absurd (omega (arith, some))) t
+
   -- a fault that was reported before is reported again, whatever the piece is
   pub feeds-reported : (search : Search W G) (piece : List ℕ) (f : TextFault) → HasReported search f →
       ((u : List ℕ) (handed : List (ℕ × ℕ)) → HasSearched search u handed → ⊥) → ((g : TextFault) → HasReported search g → Some f ≡ Some g) →
       Feeds search piece (Err f) [] search
   feeds-reported search piece f reported not_open again = record {
     stands = λ u handed h. tt;
+    known = λ u handed h. absurd (not_open u handed h);
+    fault = λ u handed h. absurd (not_open u handed h);
+    ended = λ u more handed h. absurd (not_open u handed h);
     answer = λ text u more handed compiled h. absurd (not_open u handed h);
     closed = λ u more handed h. absurd (not_open u handed h);
     reported = reported;
@@ -143,18 +294,4 @@ module _ {W : Type 0} {G : Ghosts W} where
     none = tt;
     memory = λ kind. reported;
     same_sought = refl;
-  }
-
-  -- a piece without a fault
-  pub feeds-good : (a b : Search W G) (piece : List ℕ) (found : List (ℕ × ℕ)) → a.fault ≡ None → b.fault ≡ None → sought b ≡ sought a →
-      ((u : List ℕ) (handed : List (ℕ × ℕ)) → HasSearched a u handed → HasSearched b (u ++ piece) (handed ++ found)) → Feeds a piece (Ok tt) found b
-  feeds-good a b piece found none_before none same stands = record {
-    stands = stands;
-    answer = λ text u more handed compiled h. tt;
-    closed = λ u more handed h. tt;
-    reported = tt;
-    again = λ f h. absurd (none_or_some a.fault f none_before h);
-    none = none;
-    memory = tt;
-    same_sought = same;
   }

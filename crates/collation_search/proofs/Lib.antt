@@ -4,6 +4,8 @@ pub mod SearchAnswers
 pub mod SearchBegins
 pub mod FeedLemmas
 pub mod PieceLemmas
+pub mod UnderWay
+pub mod WorkedStatesAfterLemmas
 pub mod MatchingLemmas
 pub mod StatePointLemmas
 pub mod SavedPoints
@@ -15,16 +17,16 @@ pub mod SavedState
 pub mod RestoredState
 pub mod ResumeLemmas
 pub mod IndexLemmas
-pub mod AsciiRunLemmas
-pub mod AsciiUnitLemmas
-pub mod LoneLemmas
-pub mod RunWindowLemmas
-pub mod PassedLemmas
-mod PassingLemmas
+pub mod CharactersTaken
 pub mod ApartLaws
 pub mod ApartLemmas
 pub mod PauseLemmas
-pub mod CharacterUnitLemmas
+pub mod EarlyLemmas
+pub mod StarterCounts
+pub mod TextSeams
+pub mod StateLemmas
 pub mod CharacterLemmas
-pub mod SequenceLemmas
-mod CombiningLemmas
+pub mod LetterSteps
+pub mod LetterApart
+pub mod SkipSteps
+pub mod LoopSteps

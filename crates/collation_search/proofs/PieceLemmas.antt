@@ -16,6 +16,7 @@ use Rattle.collation_matches.specs.Sought.{IsCompiledFrom, Sought, answer_to}
 use Rattle.collation_search.specs.Feeding.{Feeds}
 use Rattle.collation_search.specs.Pieces.{joined, HasEnded, IsUnderWay, AreUnderWay, Passes, AreStates, HasStates, most_words}
 use Rattle.collation_search.specs.Resuming.{GoesOn, KeepsSaved}
+use Rattle.collation_search.specs.StateAfter.{IsReported}
 
 abbrev pub told : List (ℕ × ℕ) → Option TextFault → Answer
 told ranges fault = record { ranges = ranges; fault = fault }
@@ -40,7 +41,7 @@ module _ {W : Type 0} {G : Ghosts W} where
       (u : List ℕ) (handed : List (ℕ × ℕ)) → HasSearched old u handed → IsUnderWay new (sought old) (u ++ piece) (handed ++ found)
   under_way-open old new piece (Ok done) found fed u handed h = (fed.same_sought, inl (fed.stands u handed h))
   under_way-open old new piece (Err f) found fed u handed h =
-      (fed.same_sought, inr (f, record { reported = fed.reported; answer = λ text more compiled. fed.answer text u more handed compiled h }))
+      (fed.same_sought, inr (f, record { reported = fed.reported; answer = λ text more compiled. fed.answer text u more handed compiled h; known = λ more. fed.ended u more handed h }))
 
   -- a piece that a search after a fault is given
   under_way-ended : (old new : Search W G) (piece : List ℕ) (r : Result (Unit {0}) TextFault) (found : List (ℕ × ℕ)) → Feeds old piece r found new →
@@ -58,6 +59,9 @@ module _ {W : Type 0} {G : Ghosts W} where
                 ap (λ t. answer_to (sought old) text t) (append_assoc u piece more)
                 ∙ h.answer text (piece ++ more) compiled
                 ∙ ap (λ (t : List (ℕ × ℕ)). let z : Answer = record { ranges = t; fault = Some f } in z) (sym same);
+            known = λ more.
+                subst (λ t. IsReported (sought old) t (handed ++ found) (Some f)) (sym (append_assoc u piece more))
+                (subst (λ (t : List (ℕ × ℕ)). IsReported (sought old) (u ++ (piece ++ more)) t (Some f)) (sym same) (h.known (piece ++ more)));
           },
         ),
       )
@@ -79,7 +83,7 @@ module _ {W : Type 0} {G : Ghosts W} where
       (u : List ℕ) (handed : List (ℕ × ℕ)) → IsUnderWay saved s u handed → IsUnderWay resumed s u handed
   under_way-resumed saved resumed s words same on u handed (sought_same, inl h) = (on.same, inl (on.stands saved u handed (sought_same, same, h)))
   under_way-resumed saved resumed s words same on u handed (sought_same, inr h) =
-      (on.same, inr (h.0, record { reported = on.reported saved h.0 (sought_same, same, h.1.reported); answer = h.1.answer }))
+      (on.same, inr (h.0, record { reported = on.reported saved h.0 (sought_same, same, h.1.reported); answer = h.1.answer; known = h.1.known }))
 
   ends-open : (last : Search W G) (text u : List ℕ) (handed found : List (ℕ × ℕ)) (r : Result (Unit {0}) TextFault) →
       OnOk r (answer_to (sought last) text u ≡ record { ranges = handed ++ found; fault = None }) →

@@ -68,4 +68,5 @@ module _ (laws : SavedLaws) (s : Sought) (cut : CutState) (finder : Finder) (tak
     open_bytes = h.open_bytes;
     no_fault = refl;
     some_key = h.some_key;
+    left = ap (λ w. w.points) same_window ∙ h.left;
   }

@@ -132,7 +132,7 @@ range_at-last pattern ks end =
     ∙ ap (λ (ps : List KeyPlace). range_at ps end) (map_drop (length ks - length pattern) ks)
     ∙ ap (λ n. range_at (drop (n - length pattern) (map place_of ks)) end) (sym (length-map ks place_of))
 
-border_none : (pattern : List Key) → border pattern [] ≡ 0
+pub border_none : (pattern : List Key) → border pattern [] ≡ 0
 border_none pattern = omega (arith, border_up_to-le pattern [] (min (length pattern) 0))
 
 -- ---- how a state grows
@@ -209,25 +209,27 @@ cond_same false xs ys h = refl
 abbrev pub found_before : {pattern : List Key} {items : List Item} {ranges : List (ℕ × ℕ)} {w : Walk} → (h : WalksOver pattern items ranges w) → List (ℕ × ℕ)
 found_before {pattern} h = found pattern h.before h.current.start
 
--- the ranges that are found if the current cluster ends there
-ranges_at : {pattern : List Key} {items : List Item} {ranges : List (ℕ × ℕ)} {w : Walk} → (h : WalksOver pattern items ranges w) → (end : ℕ) →
-    found pattern (h.before ++ h.current ∷ []) end ≡ found_before h ++ cond w.has_keys (cond (w.state == length pattern) (range_at w.places.items end) []) []
-ranges_at {pattern} {items} {ranges} {w} h end =
-    let cs = h.before ++ h.current ∷ [] in
-    let ks = placed cs in
+-- the range that ends with the current cluster if that ends there
+pub ended_at : {pattern : List Key} {items : List Item} {ranges : List (ℕ × ℕ)} {w : Walk} → (h : WalksOver pattern items ranges w) → (end : ℕ) →
+    ended pattern (h.before ++ h.current ∷ []) end ≡ cond w.has_keys (cond (w.state == length pattern) (range_at w.places.items end) []) []
+ended_at {pattern} {items} {ranges} {w} h end =
+    let ks = placed (h.before ++ h.current ∷ []) in
     let ends : ended_by_keys pattern ks end ≡ cond (w.state == length pattern) (range_at w.places.items end) [] =
     ended-by_border pattern ks end
     ∙ ap (λ n. cond (n == length pattern) (range_from (drop (length ks - length pattern) ks) end) []) (sym h.state)
     ∙ ap (λ (rs : List (ℕ × ℕ)). cond (w.state == length pattern) rs []) (range_at-last pattern ks end)
     ∙ cond_same (w.state == length pattern) (range_at (keep_last (length pattern) (map place_of ks)) end) (range_at w.places.items end)
     (λ whole. ap (λ (ps : List KeyPlace). range_at ps end) (all_places h (eqb-true w.state (length pattern) whole))) in
-    found-more pattern h.before h.current end
-    ∙ ap (λ (rs : List (ℕ × ℕ)). found_before h ++ rs)
-    (ended-last pattern h.before h.current end
+    ended-last pattern h.before h.current end
     ∙ ap (λ b. cond b (ended_by_keys pattern ks end) []) (sym h.has_keys)
-    ∙ ap (λ (rs : List (ℕ × ℕ)). cond w.has_keys rs []) ends)
+    ∙ ap (λ (rs : List (ℕ × ℕ)). cond w.has_keys rs []) ends
 
-all_clusters : {pattern : List Key} {items : List Item} {ranges : List (ℕ × ℕ)} {w : Walk} → (h : WalksOver pattern items ranges w) →
+-- the ranges that are found then
+ranges_at : {pattern : List Key} {items : List Item} {ranges : List (ℕ × ℕ)} {w : Walk} → (h : WalksOver pattern items ranges w) → (end : ℕ) →
+    found pattern (h.before ++ h.current ∷ []) end ≡ found_before h ++ cond w.has_keys (cond (w.state == length pattern) (range_at w.places.items end) []) []
+ranges_at {pattern} h end = found-more pattern h.before h.current end ∙ ap (λ (rs : List (ℕ × ℕ)). found_before h ++ rs) (ended_at h end)
+
+pub all_clusters : {pattern : List Key} {items : List Item} {ranges : List (ℕ × ℕ)} {w : Walk} → (h : WalksOver pattern items ranges w) →
     clusters_from text_begin items ≡ h.before ++ h.current ∷ []
 all_clusters {pattern} {items} h = ap (clusters_from text_begin) (sym (append-nil items)) ∙ h.clusters []
 

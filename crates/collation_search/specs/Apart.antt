@@ -1,7 +1,6 @@
 -- A search that takes characters at once: all units so far were cut, as if the text ended there, and no unit reaches into or out of
 -- the next character.
-use Rattle.std.specs.Prelude.{◌≡◌, ℕ, ◌+◌, true, None, List, [], ◌∷◌, ◌++◌, slice_get}
-use Rattle.std.specs.Option.{ForSome}
+use Rattle.std.specs.Prelude.{◌≡◌, ℕ, ◌+◌, true, None, List, [], ◌∷◌, ◌++◌}
 use Rattle.collation_table.specs.Table.{TableMap}
 use Rattle.nfd_points.specs.declared.points.Point.{Point}
 use Rattle.nfd_points.specs.Points.{byte_len, points_of, points_from, points, begins_with_starter, ordered}
@@ -15,21 +14,7 @@ use Rattle.collation_elements.specs.Windows.{Held}
 use Rattle.collation_pattern.specs.Compiled.{Compiled}
 use Rattle.collation_search.specs.declared.walk.Walk.{Walk}
 use Rattle.collation_search.specs.Walks.{WalksOver}
-
--- ---- where units end
-
--- no unit reaches from these points to the character c that stands after them, at an offset
-abbrev pub EndsBefore : TableMap → List Point → ℕ → ℕ → Type 0
-EndsBefore table ps at c =
-    ForSome (slice_get (points_of at c) 0) (λ x. (more : List Point) → units table (ps ++ x ∷ more) ≡ units table ps ++ units table (x ∷ more))
-
--- What is known of characters in a row, of which the first stands at an offset, that are taken before the character that follows:
--- they are in canonical order and without a fault, it begins with a starter, and no unit reaches to it.
-pub record IsNext (table : TableMap) (at : ℕ) (cs : List ℕ) (next : ℕ) : Type 0 where
-  pub in_order : ordered (points_from at cs) ≡ points_from at cs
-  pub good : point_fault cs ≡ None
-  pub begins : begins_with_starter (points_of (at + byte_len cs) next) ≡ true
-  pub ends : EndsBefore table (points_from at cs) (at + byte_len cs) next
+pub use Rattle.collation_letters.specs.Apart.{EndsBefore, IsNext}
 
 -- Characters of a text, of which the first stands at an offset, that can be taken at once: they begin with a starter, so that
 -- canonical ordering does not cross their beginning, and the same holds of them.

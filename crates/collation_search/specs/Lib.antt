@@ -2,6 +2,8 @@ pub mod Indexing
 pub mod Walks
 pub mod Matching
 pub mod Finding
+pub mod StateAfter
+pub mod Early
 pub mod Searching
 pub mod Search
 pub mod Feeding
@@ -9,7 +11,7 @@ pub mod State
 pub mod Resuming
 pub mod Pieces
 pub mod Saving
-pub mod AsciiUnits
-pub mod Characters
+pub mod WorkedStatesAfter
 pub mod Apart
-pub mod Passing
+pub mod LetterRun
+pub mod Caches

@@ -1,12 +1,14 @@
 -- A search that takes a text in pieces, and is saved and resumed after each.
-use Rattle.std.specs.Prelude.{◌≡◌, ◌⊎◌, ℕ, max, List, [], ◌∷◌, ◌++◌, length, Result, Some, flat_map}
+use Rattle.std.specs.Prelude.{◌≡◌, ◌⊎◌, ℕ, ◌+◌, max, List, [], ◌∷◌, ◌++◌, length, Result, Some, flat_map}
 use Rattle.std.specs.Borrow.{Bor}
 use Rattle.collation_table.specs.declared.lookup.Weights.{Ghosts}
 use Rattle.collation_matches.specs.declared.faults.TextFault.{TextFault}
 use Rattle.collation_search.specs.declared.search.Search.{Search}
 use Rattle.collation_search.specs.Feeding.{Feeds}
 use Rattle.collation_search.specs.Resuming.{GoesOn}
+use Rattle.collation_search.specs.Saving.{records_before}
 use Rattle.collation_search.specs.State.{words_of}
+use Rattle.collation_search.specs.StateAfter.{IsReported, state_after}
 use Rattle.collation_search.specs.Search.{sought, HasSearched, HasReported}
 use Rattle.collation_matches.specs.Sought.{Sought, IsCompiledFrom, answer_to}
 
@@ -14,10 +16,12 @@ use Rattle.collation_matches.specs.Sought.{Sought, IsCompiledFrom, answer_to}
 abbrev pub joined : List (Bor (List ℕ)) → List ℕ
 joined pieces = flat_map (λ piece. piece.now) pieces
 
--- The search has reported the fault: whatever follows the bytes, the ranges and this fault are the answer.
+-- The search has reported the fault: whatever follows the bytes, the ranges and this fault are the answer, and what is reported after
+-- these bytes.
 pub record HasEnded {W : Type 0} {G : Ghosts W} (search : Search W G) (s : Sought) (taken : List ℕ) (handed : List (ℕ × ℕ)) (fault : TextFault) : Type 0 where
   pub reported : HasReported search fault
   pub answer : (text more : List ℕ) → IsCompiledFrom s text → answer_to s text (taken ++ more) ≡ record { ranges = handed; fault = Some fault }
+  pub known : (more : List ℕ) → IsReported s (taken ++ more) handed (Some fault)
 
 -- The bytes went in and the ranges were handed out: they are open, or they have ended at a fault.
 abbrev pub IsUnderWay : {W : Type 0} {G : Ghosts W} → Search W G → Sought → List ℕ → List (ℕ × ℕ) → Type 0
@@ -58,3 +62,14 @@ pub record HasStates {W : Type 0} (G : Ghosts W) (s : Sought) (pieces : List (Bo
 unfoldable pub most_words : List (List ℕ) → ℕ
 most_words [] = 0
 most_words (words ∷ rest) = max (length words) (most_words rest)
+
+-- ---- the states at the cuts, by the bytes alone
+
+-- how many records the state after these bytes has
+abbrev pub records_after : Sought → List ℕ → ℕ
+records_after s u = let state = state_after s u in records_before s.select + (length state.places + (length state.window + length state.waiting))
+
+-- how many the greatest of the states after each of these pieces has, where some bytes stand before them
+unfoldable pub most_records_after : Sought → List ℕ → List (Bor (List ℕ)) → ℕ
+most_records_after s u [] = 0
+most_records_after s u (piece ∷ pieces) = max (records_after s (u ++ piece.now)) (most_records_after s (u ++ piece.now) pieces)

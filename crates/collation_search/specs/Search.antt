@@ -5,6 +5,7 @@ use Rattle.collation_matches.specs.declared.faults.TextFault.{TextFault}
 use Rattle.collation_search.specs.declared.search.Search.{Search}
 use Rattle.collation_matches.specs.Sought.{Sought}
 use Rattle.collation_search.specs.Searching.{Searched}
+use Rattle.collation_search.specs.Early.{Taken}
 
 abbrev pub sought : {W : Type 0} {G : Ghosts W} → Search W G → Sought
 sought {W} {G} search = record {
@@ -17,6 +18,11 @@ sought {W} {G} search = record {
 abbrev pub HasSearched : {W : Type 0} {G : Ghosts W} → Search W G → List ℕ → List (ℕ × ℕ) → Type 0
 HasSearched {W} {G} search taken handed =
     Searched (G.table search.query.table.now) search.query.pattern.now search.cut search.finder search.fault taken handed
+
+-- The same within a piece, where units may have been cut early, up to a byte offset in the text at most.
+abbrev pub HasTaken : {W : Type 0} {G : Ghosts W} → Search W G → ℕ → List ℕ → List (ℕ × ℕ) → Type 0
+HasTaken {W} {G} search place taken handed =
+    Taken (G.table search.query.table.now) search.query.pattern.now search.cut search.finder search.fault place taken handed
 
 -- a fault was reported, at which the text counts as ended
 abbrev pub HasReported : {W : Type 0} {G : Ghosts W} → Search W G → TextFault → Type 0

@@ -1,6 +1,6 @@
 -- What a walk over some items of a text represents: the ranges that end with the clusters that have ended, and where the last keys
 -- stand.
-use Rattle.std.specs.Prelude.{◌≡◌, ℕ, ◌≤◌, List, [], ◌∷◌, ◌++◌, length, map}
+use Rattle.std.specs.Prelude.{◌≡◌, ℕ, ◌≤◌, nat_lt, Bool, true, false, List, [], ◌∷◌, ◌++◌, length, map}
 use Rattle.circular_buffer.specs.Buffer.{keep_last}
 use Rattle.collation_elements.specs.declared.keys.Key.{Key}
 use Rattle.collation_elements.specs.declared.keys.Item.{Item}
@@ -8,6 +8,7 @@ use Rattle.collation_elements.specs.Clusters.{Cluster, clusters_from}
 use Rattle.collation_pattern.specs.Border.{border}
 use Rattle.collation_matches.specs.ByClusters.{PlacedKey}
 use Rattle.collation_search.specs.declared.walk.KeyPlace.{KeyPlace}
+use Rattle.collation_search.specs.declared.walk.Standing.{Standing}
 use Rattle.collation_search.specs.declared.walk.Walk.{Walk}
 use Rattle.collation_matches.specs.Selecting.{selected, remembered}
 use Rattle.collation_matches.specs.ByClusters.{text_begin, has_keys, found, placed}
@@ -15,6 +16,22 @@ use Rattle.collation_matches.specs.ByClusters.{text_begin, has_keys, found, plac
 -- where a key stands, without the key
 abbrev pub place_of : PlacedKey → KeyPlace
 place_of k = record { start = k.start; is_first = k.is_first }
+
+-- a flag as a number
+abbrev pub flag_word : Bool → ℕ
+flag_word false = 0
+flag_word true = 1
+
+-- where a walk stands, and a walk that stands there
+abbrev pub standing_of : Walk → Standing
+standing_of walk = record { state = walk.state; start = walk.start; keys = flag_word walk.has_keys }
+
+abbrev pub stands : Walk → Standing → Walk
+stands walk at = record walk { state = at.state; start = at.start; has_keys = nat_lt 0 at.keys }
+
+-- where a walk stands after a cluster at this offset with one key, where none waits
+abbrev pub passed_at : ℕ → Standing
+passed_at start = record { state = 0; start = start; keys = 1 }
 
 -- A walk over these items by this pattern, which has handed out these ranges: with any items that follow, the clusters are
 -- those `before`, which have ended, and those from the current one on. The ranges are those that end with one of the former, or

@@ -1,11 +1,79 @@
 //! A search that takes a piece of a text at once.
-ghost use Rattle.std.specs.Prelude.{◌≡◌, List};
+ghost use Rattle.std.specs.Prelude.{◌≡◌, ℕ, ◌+◌, ◌<◌, ◌≤◌, max, List, ◌++◌, length, take, true};
+ghost use Rattle.std.specs.Char.{len_utf8};
 ghost use Rattle.std.specs.List.{FoldsTo};
+ghost use Rattle.std.specs.Option.{option_to_list};
+ghost use Rattle.std.specs.Str.{chars};
+ghost use Rattle.utf8_cut.specs.Sequences.{SpellsCharacter};
+ghost use Rattle.nfd_points.specs.Points.{points_of, begins_with_starter};
+ghost use Rattle.collation_table.specs.Table.{longest_mapped};
+ghost use Rattle.collation_letters.specs.Store.{AreLetters};
+ghost use Rattle.collation_matches.specs.GoodPrefix.{is_good_so_far, whole};
+ghost use Rattle.collation_search.specs.Early.{starters_from};
 
 use crate::matching::Found;
-use crate::search::Search;
+use crate::search::{MOST_BYTES, Query, Search};
+use collation_elements::decided_units_stay;
+use collation_letters::Letters;
 use collation_matches::TextFault;
 use collation_table::Weights;
+use nfd_points::laws::{laws_of_decompositions, laws_of_reordering};
+use utf8_cut::{
+    first_character, incomplete_sequences_begin_characters, text_may_stand_before,
+    whole_characters_are_the_longest_text,
+};
+
+/// How far letters of a piece are taken, in bytes: up to one from which on as many characters that begin with a starter stand in the
+/// piece as the longest mapped string has code points. These are left to the steps, so that a search holds at the end of the piece
+/// what steps alone leave.
+fn reach<W: Weights>(query: &Query<'_, W>, letters: &mut Letters, piece: &[u8]) -> usize
+    requires { AreLetters (W.table query.now.table.now) query.now.pattern.now letters.old }
+    ensures right { AreLetters (W.table query.now.table.now) query.now.pattern.now letters.new }
+    ensures enough { (u : List ℕ) → is_good_so_far (u ++ piece.now) ≡ true → 0 < result
+        → max 2 (longest_mapped (W.table query.now.table.now)) ≤ starters_from (length u + result) (chars (whole (u ++ piece.now))) }
+{
+    whole_characters_are_the_longest_text();
+    text_may_stand_before();
+    incomplete_sequences_begin_characters();
+    let mut at = piece.len();
+    let mut left = query.longest_key.max(2);
+    while at > 0 && left > 0 {
+        at -= 1;
+        if starter_comes_first(query, letters, &piece[at..]) {
+            left -= 1;
+        }
+    }
+    if left == 0 { at } else { 0 }
+}
+
+/// Whether a character that is known to begin with a starter stands at the front of some bytes.
+fn starter_comes_first<W: Weights>(
+    query: &Query<'_, W>,
+    letters: &mut Letters,
+    bytes: &[u8],
+) -> bool
+    requires { AreLetters (W.table query.now.table.now) query.now.pattern.now letters.old }
+    ensures right { AreLetters (W.table query.now.table.now) query.now.pattern.now letters.new }
+    ensures starter { result ≡ true → (c : ℕ) × (len_utf8 c ≤ length bytes.now) × SpellsCharacter (take (len_utf8 c) bytes.now) c
+        × (begins_with_starter (points_of 0 c) ≡ true) }
+{
+    match first_character(bytes) {
+        Some(c) => letters.letter(query.table, query.pattern, c).is_starter(),
+        None => false,
+    }
+}
+
+/// Calls the sink for a range, if there is one.
+#[inline(always)]
+pub(crate) fn call<F: FnMut(u64, u64)>(range: Option<(u64, u64)>, sink: &mut F)
+    requires { F.IsAlwaysCallable sink.old }
+    ensures called { FoldsTo (λ f range g. F.step f range.0 range.1 tt g) sink.old (option_to_list range) sink.new }
+    ensures callable { F.IsAlwaysCallable sink.new }
+{
+    if let Some((start, end)) = range {
+        sink(start, end);
+    }
+}
 
 /// Calls the sink once for each range, in order.
 pub(crate) fn hand_out<F: FnMut(u64, u64)>(ranges: &[(u64, u64)], sink: &mut F)
@@ -21,9 +89,14 @@ pub(crate) fn hand_out<F: FnMut(u64, u64)>(ranges: &[(u64, u64)], sink: &mut F)
 }
 
 impl<'a, W: Weights> Search<'a, W> {
-    ghost use Rattle.std.specs.Prelude.{◌≡◌, ℕ, List};
+    ghost use Rattle.std.specs.Prelude.{◌≡◌, ℕ, ◌+◌, ◌<◌, ◌≤◌, max, List, [], ◌++◌, length, take, None, Ok, true};
     ghost use Rattle.std.specs.List.{FoldsTo};
-    ghost use Rattle.collation_search.specs.Feeding.{Feeds};
+    ghost use Rattle.std.specs.Str.{chars};
+    ghost use Rattle.collation_table.specs.Table.{longest_mapped};
+    ghost use Rattle.collation_matches.specs.GoodPrefix.{is_good_so_far, whole};
+    ghost use Rattle.collation_search.specs.Early.{starters_from};
+    ghost use Rattle.collation_search.specs.Feeding.{Feeds, Takes};
+    ghost use Rattle.collation_search.specs.Search.{sought};
 
     /// Takes the bytes of a piece of the text, and calls the sink once for each range that became known, in order, with its
     /// start and its end in bytes from the beginning of the text. The sink must take any two numbers.
@@ -39,14 +112,17 @@ impl<'a, W: Weights> Search<'a, W> {
             × Feeds self.old piece.now result found self.new }
         ensures callable { F.IsAlwaysCallable sink.new }
     {
+        decided_units_stay();
+        laws_of_decompositions();
+        laws_of_reordering();
         if let Some(fault) = self.reported() {
             return Err(fault);
         }
         let mut found = Found::new();
         let reach = self.reach(piece);
-        let mut at = self.take_at_once(piece, reach, &mut found, sink);
+        let mut at = self.take_letters(piece, reach, &mut found, sink);
         while at < piece.len() {
-            match self.step(piece[at], &mut found) {
+            match self.step_on(piece[at], &mut found) {
                 Ok(()) => hand_out(found.as_slice(), sink),
                 Err(fault) => {
                     hand_out(found.as_slice(), sink);
@@ -54,8 +130,52 @@ impl<'a, W: Weights> Search<'a, W> {
                 }
             }
             at += 1;
-            at += self.take_at_once(&piece[at..], reach.saturating_sub(at), &mut found, sink);
+            at += self.take_letters(&piece[at..], reach.saturating_sub(at), &mut found, sink);
         }
         Ok(())
+    }
+
+    /// How far letters of a piece are taken, in bytes.
+    fn reach(&mut self, piece: &[u8]) -> usize
+        requires none { self.old.fault ≡ None }
+        ensures taken { Takes self.old 0 [] (Ok tt) [] self.new }
+        ensures enough { (u : List ℕ) → is_good_so_far (u ++ piece.now) ≡ true → 0 < result
+            → max 2 (longest_mapped (sought self.old).table) ≤ starters_from (length u + result) (chars (whole (u ++ piece.now))) }
+    {
+        reach(&self.query, &mut self.cache.letters, piece)
+    }
+
+    /// Takes the letters at the front of a piece that can be taken, up to `reach`, and calls the sink once for each range that became
+    /// known, in order. It answers how many bytes it took. `found` is room that it uses.
+    fn take_letters<F: FnMut(u64, u64)>(
+        &mut self,
+        piece: &[u8],
+        reach: usize,
+        found: &mut Found,
+        sink: &mut F,
+    ) -> usize
+        requires none { self.old.fault ≡ None }
+        requires callable { F.IsAlwaysCallable sink.old }
+        ensures within { result ≤ length piece.now }
+        ensures taken { (ranges : List (ℕ × ℕ)) × FoldsTo (λ f range g. F.step f range.0 range.1 tt g) sink.old ranges sink.new
+            × Takes self.old reach (take result piece.now) (Ok tt) ranges self.new }
+        ensures callable { F.IsAlwaysCallable sink.new }
+    {
+        whole_characters_are_the_longest_text();
+        let count = self.cut.count();
+        if reach == 0 || self.cut.held_start() != count || MOST_BYTES - count < piece.len() as u64 {
+            return 0;
+        }
+        let len = self.finder.take_letters(
+            &self.query,
+            &mut self.cache,
+            piece,
+            reach,
+            count,
+            found,
+            sink,
+        );
+        self.cut.take_characters(len as u64);
+        len
     }
 }

@@ -8,11 +8,15 @@ ghost use Rattle.collation_table.specs.declared.limits.TheConstants.{MOST_STRING
 use crate::matching::{Found, cut_units, keep, push_points};
 use crate::walk::Walk;
 use arrayvec::ArrayVec;
-use collation_elements::{Item, MOST_ITEMS, Weigher, Window, closed_points_append};
+use collation_elements::{
+    Item, MOST_ITEMS, Weigher, Window, closed_points_append, decided_units_stay,
+};
 use collation_matches::Select;
 use collation_pattern::Pattern;
 use collation_table::{MOST_STRING_POINTS, Weights};
-use nfd_points::laws::{laws_of_decompositions, laws_of_faults, laws_of_ordering, laws_of_runs};
+use nfd_points::laws::{
+    laws_of_decompositions, laws_of_faults, laws_of_ordering, laws_of_reordering, laws_of_runs,
+};
 use nfd_points::{MOST_GIVEN, Point, PointFault, Reorder};
 use std::alloc::{AllocError, Global};
 
@@ -49,6 +53,7 @@ impl Finder {
     ghost use Rattle.collation_elements.specs.Windows.{is_decided};
     ghost use Rattle.collation_elements.specs.Items.{items as items_of_units};
     ghost use Rattle.collation_search.specs.Apart.{HasWalked, IsPausedBefore};
+    ghost use Rattle.collation_search.specs.Early.{IsCutUpTo};
     ghost use Rattle.collation_search.specs.Finding.{FinderStandsFor};
     ghost use Rattle.collation_elements.specs.Clusters.{clusters_from};
     ghost use Rattle.collation_matches.specs.ByClusters.{text_begin, found as all_found};
@@ -64,6 +69,7 @@ impl Finder {
     ) -> Result<Finder, AllocError>
         ensures stands { IfOk result (λ f. FinderStandsFor (W.table table.now) pattern.now f [] []) }
         ensures open { IfOk result (λ f. f.window.has_ended ≡ false) }
+        ensures empty { IfOk result (λ f. f.window.points ≡ []) }
         ensures longest { IfOk result (λ f. f.longest_key ≡ longest_key_of (W.table table.now)) }
         ensures pattern_len { IfOk result (λ f. f.pattern_len ≡ length pattern.now.keys) }
         ensures select { IfOk result (λ f. f.walk.select ≡ select) }
@@ -110,6 +116,14 @@ impl Finder {
             → IsPausedBefore (W.table table.now) pattern.now self.old.reorder self.old.window self.old.weigher self.old.walk taken ranges c
             → offset ≡ byte_len taken → begins_with_starter (points_of offset c) ≡ true
             → OnOk result (FinderStandsFor (W.table table.now) pattern.now self.new (taken ++ c ∷ []) (ranges ++ found.new.items)) }
+        // the points left are those of which no unit is decided, but for units that were cut early
+        ensures left { (place : ℕ) (taken : List ℕ) (ranges : List _) → FinderStandsFor (W.table table.now) pattern.now self.old taken ranges
+            → offset ≡ byte_len taken → IsCutUpTo (W.table table.now) place taken self.old.window.points
+            → OnOk result (IsCutUpTo (W.table table.now) place (taken ++ c ∷ []) self.new.window.points) }
+        ensures left_afresh { (taken : List ℕ) (ranges : List _)
+            → IsPausedBefore (W.table table.now) pattern.now self.old.reorder self.old.window self.old.weigher self.old.walk taken ranges c
+            → offset ≡ byte_len taken → begins_with_starter (points_of offset c) ≡ true
+            → OnOk result (IsCutUpTo (W.table table.now) (byte_len taken) (taken ++ c ∷ []) self.new.window.points) }
         ensures undecided { OnOk result (is_decided (W.table table.now) self.new.window ≡ false) }
         ensures apart { self.old.reorder.held ≡ [] → result ≡ Ok tt }
         ensures kind { IfErr result (λ f. f.kind ≡ 32) }
@@ -122,9 +136,11 @@ impl Finder {
         ensures select { self.new.walk.select ≡ self.old.walk.select }
     {
         closed_points_append();
+        decided_units_stay();
         laws_of_decompositions();
         laws_of_faults();
         laws_of_ordering();
+        laws_of_reordering();
         laws_of_runs();
         self.reorder.push(c, offset, &mut self.given)?;
         push_points(&mut self.window, self.given.as_slice());

@@ -13,27 +13,20 @@
 //! one contract: a text in any pieces, with a search that is saved, dropped and resumed after each.
 #![tactic(auto)]
 
-mod apart;
-mod ascii;
-mod ascii_units;
-mod at_once;
-mod character_units;
-mod characters;
-mod combining;
 mod feed;
 mod finder;
 mod indexing;
-mod lone_run;
+mod letter_loop;
+mod letter_run;
 mod matching;
-mod passing;
 mod pieces;
 mod resuming;
 mod resuming_walk;
-mod run_window;
 mod saving;
 mod search;
-mod sequences;
+mod skipping;
 mod walk;
+pub mod worked;
 
 pub use crate::indexing::index;
 pub use crate::matching::{Found, MOST_FOUND};

@@ -6,6 +6,7 @@ ghost use Rattle.unicode_normalization.specs.StreamSafe.{has_short_runs};
 ghost use Rattle.nfd_points.specs.Reordering.{IsSoundPoint, code_points, is_closed};
 ghost use Rattle.collation_table.specs.Table.{TableMap, longest_mapped};
 ghost use Rattle.collation_elements.specs.declared.keys.Item.{Item};
+ghost use Rattle.collation_elements.specs.Decided.{left_points};
 ghost use Rattle.collation_elements.specs.ItemParts.{item_starts};
 ghost use Rattle.collation_elements.specs.UnitValues.{IsUnitOf};
 ghost use Rattle.collation_elements.specs.Weighing.{value_items, weigher_after, WeigherStandsFor};
@@ -15,7 +16,7 @@ ghost use Rattle.collation_search.specs.Walks.{WalksOver};
 
 use crate::walk::Walk;
 use arrayvec::ArrayVec;
-use collation_elements::{Item, Key, MOST_ITEMS, Unit, Weigher, Window};
+use collation_elements::{Item, Key, MOST_ITEMS, Unit, Weigher, Window, decided_units_stay};
 use collation_pattern::Pattern;
 use collation_table::Weights;
 use nfd_points::Point;
@@ -187,9 +188,11 @@ pub(crate) fn cut_units<W: Weights>(
     ensures last { window.old.has_ended ≡ false → is_closed window.old.points ≡ true → is_closed window.new.points ≡ true }
     ensures all { window.old.has_ended ≡ true → window.new.points ≡ [] }
     ensures undecided { is_decided (W.table table.now) window.new ≡ false }
+    ensures left { window.old.has_ended ≡ false → window.new.points ≡ left_points (W.table table.now) window.old.points }
     ensures state { walk.new.state ≤ length pattern.now.keys }
     ensures select { walk.new.select ≡ walk.old.select }
 {
+    decided_units_stay();
     while let Some(unit) = window.next_unit(table) {
         take_unit(weigher, walk, pattern, unit, items, found);
     }

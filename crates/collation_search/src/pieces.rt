@@ -1,7 +1,7 @@
 //! A whole search over a text in pieces, saved and resumed after each.
 ghost use Rattle.std.specs.Prelude.{◌≡◌, ℕ, ◌*◌, ◌≤◌, List, [], length, IfOk};
 ghost use Rattle.std.specs.List.{FoldsTo};
-ghost use Rattle.collation_search.specs.Pieces.{joined, most_words, AreUnderWay, Passes, HasStates};
+ghost use Rattle.collation_search.specs.Pieces.{joined, most_records_after, most_words, AreUnderWay, Passes, HasStates};
 ghost use Rattle.collation_search.specs.Resuming.{GoesOn};
 ghost use Rattle.collation_search.specs.Saving.{most_records};
 ghost use Rattle.collation_matches.specs.Sought.{IsCompiledFrom, answer_to};
@@ -9,10 +9,13 @@ ghost use Rattle.collation_matches.specs.Sought.{IsCompiledFrom, answer_to};
 use crate::feed::hand_out;
 use crate::matching::Found;
 use crate::search::Search;
+use collation_elements::decided_units_stay;
 use collation_matches::{Select, TextFault};
 use collation_pattern::Pattern;
+use collation_states::laws::laws_of_states;
 use collation_states::{RECORD_WORDS, StateFault};
 use collation_table::Weights;
+use nfd_points::laws::laws_of_reordering;
 use std::alloc::{AllocError, Global};
 
 /// What a search in pieces reported beside its ranges.
@@ -47,8 +50,13 @@ pub fn search_in_pieces<W: Weights, F: FnMut(u64, u64)>(
         × HasStates W.Weights (record { table = W.table table.now; pattern = pattern.now; select = select }) pieces.now states last
         × (4 * told.most_records ≡ most_words states)) }
     ensures few { IfOk result (λ told. told.most_records ≤ most_records (record { table = W.table table.now; pattern = pattern.now; select = select })) }
+    // how many records the greatest state has depends on the cuts alone
+    ensures most { IfOk result (λ told. told.most_records ≡ most_records_after (record { table = W.table table.now; pattern = pattern.now; select = select }) [] pieces.now) }
     ensures callable { F.IsAlwaysCallable sink.new }
 {
+    decided_units_stay();
+    laws_of_reordering();
+    laws_of_states();
     let mut words = first_state(alloc, table, pattern, select)?;
     let mut most_records = 0usize;
     for piece in pieces {

@@ -1,7 +1,6 @@
 //! Resumes a search from the words of a saved state.
 
 use crate::finder::Finder;
-use crate::matching::push_points;
 use crate::saving::sizes;
 use crate::search::Search;
 use collation_elements::{Weigher, clusters_are_parts};
@@ -42,7 +41,7 @@ impl Finder {
         ensures pattern_len { self.new.pattern_len ≡ self.old.pattern_len }
     {
         self.reorder = Reorder::restore(alloc, state.waiting.as_slice());
-        push_points(&mut self.window, state.window.as_slice());
+        self.window.restore(state.window.as_slice());
         self.weigher = Weigher::restore(
             pattern.strength(),
             pattern.variable(),

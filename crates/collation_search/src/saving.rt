@@ -1,15 +1,17 @@
 //! Saves a search: what it holds as words, by which it can go on later.
 
-ghost use Rattle.std.specs.Prelude.{◌≡◌, ◌+◌, ◌++◌, ◌<◌, ◌≤◌, length, vec_len, vec_capacity, OnOk, OnErr};
-ghost use Rattle.collation_states.specs.State.{head_of, place_words, point_words};
+ghost use Rattle.std.specs.Prelude.{◌≡◌, ℕ, List, ◌+◌, ◌++◌, ◌<◌, ◌≤◌, length, vec_len, vec_capacity, OnOk, OnErr};
+ghost use Rattle.collation_states.specs.State.{head_of, place_words, point_words, words as state_words};
 ghost use Rattle.collation_states.specs.Saving.{BeginsWith};
 ghost use Rattle.collation_search.specs.State.{sizes_of, kept_places, saved_places, match_waits, state_of, words_of};
 ghost use Rattle.collation_search.specs.Search.{sought};
+ghost use Rattle.collation_search.specs.StateAfter.{state_after};
+ghost use Rattle.collation_search.specs.Pieces.{IsUnderWay};
 ghost use Rattle.collation_search.specs.Saving.{HasRecords, most_records};
 
 use crate::search::Search;
 use crate::walk::Walk;
-use collation_elements::Window;
+use collation_elements::{Window, decided_units_stay};
 use collation_matches::Select;
 use collation_pattern::Pattern;
 use collation_states::laws::laws_of_states;
@@ -17,6 +19,7 @@ use collation_states::{
     Head, Sizes, append_head, append_place, append_point, append_points, number_of, reported_head,
 };
 use collation_table::Weights;
+use nfd_points::laws::laws_of_reordering;
 use std::alloc::AllocError;
 
 /// The sizes and the settings of what is looked for.
@@ -45,13 +48,30 @@ impl<'a, W: Weights> Search<'a, W> {
         ensures kept { OnErr result (words.new.items ≡ words.old.items) }
         ensures full { OnErr result (vec_capacity words.old < vec_len words.old + length (words_of self.now)) }
         ensures few { HasRecords (words_of self.now) (most_records (sought self.now)) }
+        // the words are those of the state after the bytes taken, however these were cut, and whatever was saved and resumed before
+        ensures state { (u : List ℕ) (handed : List (ℕ × ℕ)) → IsUnderWay self.now (sought self.now) u handed
+            → words_of self.now ≡ state_words (sizes_of (sought self.now)) (state_after (sought self.now) u) }
     {
+        decided_units_stay();
+        laws_of_reordering();
         let before = words.len();
         let saved = self.append_state(words);
         if saved.is_err() {
             words.truncate(before);
         }
         saved
+    }
+
+    /// Two searches for the same that have taken the same bytes agree, however these were cut into pieces and whatever was saved and
+    /// resumed on the way: they have handed out the same ranges, and they save the same words.
+    pub fn agrees_with(&self, other: &Self)
+        ensures handed { (u : List ℕ) (mine theirs : List (ℕ × ℕ)) → sought other.now ≡ sought self.now
+            → IsUnderWay self.now (sought self.now) u mine → IsUnderWay other.now (sought other.now) u theirs → mine ≡ theirs }
+        ensures words { (u : List ℕ) (mine theirs : List (ℕ × ℕ)) → sought other.now ≡ sought self.now
+            → IsUnderWay self.now (sought self.now) u mine → IsUnderWay other.now (sought other.now) u theirs → words_of self.now ≡ words_of other.now }
+    {
+        decided_units_stay();
+        laws_of_reordering();
     }
 
     /// Appends the state.

@@ -1,20 +1,20 @@
 //! The search over a stream of bytes.
-ghost use Rattle.std.specs.Prelude.{◌≡◌, ℕ, ◌+◌, ◌<◌, ◌≤◌, Bool, length, slice_get, None, true, false};
+ghost use Rattle.std.specs.Prelude.{◌≡◌, ◌+◌, ◌≤◌, length, None, false};
 ghost use Rattle.std.specs.Option.{ForSome};
 ghost use Rattle.collation_table.specs.Table.{longest_mapped as longest_key_of};
-ghost use Rattle.collation_search.specs.AsciiUnits.{IsAsciiUnit, IsPassed};
-ghost use Rattle.collation_search.specs.Characters.{IsRight};
+ghost use Rattle.std.proofs.Props.{props};
+ghost use Rattle.collation_search.specs.Caches.{AreRight};
 ghost use Rattle.collation_matches.specs.GoodPrefix.{most_bytes};
 
-use crate::ascii_units::AsciiUnit;
-use crate::characters::Characters;
 use crate::finder::Finder;
 use crate::matching::Found;
+use crate::skipping::Cache;
+use collation_elements::decided_units_stay;
 use collation_matches::{Select, TextFault, answers_in_time, matches_by_clusters};
 use collation_pattern::Pattern;
 pub use collation_states::MOST_BYTES;
 use collation_table::Weights;
-use nfd_points::laws::laws_of_faults;
+use nfd_points::laws::{laws_of_decompositions, laws_of_faults, laws_of_reordering};
 use std::alloc::{AllocError, Global};
 use utf8_cut::{Cut, Cutting, any_bytes_may_follow, whole_characters_are_the_longest_text};
 
@@ -25,13 +25,7 @@ pub(crate) struct Query<'a, W: Weights> {
     pub(crate) pattern: &'a Pattern,
     /// The number of code points of the table's longest key.
     pub(crate) longest_key: usize,
-    /// What is cached for the ASCII characters, so that the table is not asked for them again.
-    pub(crate) ascii: [AsciiUnit; 128],
-    /// Which of them are skipped where no prefix of the pattern has matched.
-    pub(crate) passed: [bool; 128],
     ghost longest: { longest_key ≡ longest_key_of (W.table table.now) },
-    ghost units: { (c : ℕ) → ForSome (slice_get ascii c) (IsAsciiUnit (W.table table.now) pattern.now c) },
-    ghost passed_by: { (c : ℕ) → ForSome (slice_get passed c) (λ (by : Bool). by ≡ true → IsPassed (W.table table.now) pattern.now c) },
 }
 
 /// A search for a pattern in a text whose bytes come in pieces.
@@ -42,9 +36,9 @@ pub struct Search<'a, W: Weights> {
     pub(crate) finder: Finder,
     /// The fault at which the text counts as ended.
     pub(crate) fault: Option<TextFault>,
-    /// What is cached for the characters that it met. It is no part of a state: it is found out anew.
-    pub(crate) characters: Characters,
-    ghost right: { IsRight (W.table query.table.now) query.pattern.now characters },
+    /// What it has found out of the characters that it met. It is no part of a state: it is found anew.
+    pub(crate) cache: Cache,
+    ghost right: { AreRight (W.table query.table.now) query.pattern.now cache } by { Prim.hlevel props },
     ghost longest: { finder.longest_key ≡ query.longest_key },
     ghost pattern_len: { finder.pattern_len ≡ length query.pattern.now.keys },
     ghost open: { fault ≡ None → finder.window.has_ended ≡ false },
@@ -63,7 +57,9 @@ impl<'a, W: Weights> Search<'a, W> {
     ghost use Rattle.collation_search.specs.Finding.{FinderStandsFor};
     ghost use Rattle.collation_matches.specs.Lag.{code_points_from};
     ghost use Rattle.collation_matches.specs.declared.select.Select.TheVariants.{All};
-    ghost use Rattle.collation_search.specs.Search.{HasSearched, HasReported, HasReportedNone, sought};
+    ghost use Rattle.collation_search.specs.Search.{HasSearched, HasTaken, HasReported, HasReportedNone, sought};
+    ghost use Rattle.collation_search.specs.StateAfter.{reported_after, fault_so_far, IsReported};
+    ghost use Rattle.collation_search.specs.Feeding.{fault_of as told};
     ghost use Rattle.collation_matches.specs.Sought.{IsCompiledFrom, answer_to, settled_in};
     ghost use Rattle.collation_matches.specs.GoodPrefix.{fault as fault_of, is_good_so_far, most_bytes, whole};
 
@@ -95,14 +91,17 @@ impl<'a, W: Weights> Search<'a, W> {
     {
         let _some = pattern.len();
         let finder = Finder::new(alloc, table, pattern, select)?;
-        let characters = Characters::new(alloc, table)?;
-        let query = Query::new(table, pattern);
+        let cache = Cache::new(alloc, table)?;
         Ok(Search {
-            query,
+            query: Query {
+                table,
+                pattern,
+                longest_key: table.longest_key(),
+            },
             cut: Cut::new(),
             finder,
             fault: None,
-            characters,
+            cache,
         })
     }
 
@@ -110,15 +109,15 @@ impl<'a, W: Weights> Search<'a, W> {
     fn take(&mut self, byte: u8, found: &mut Found) -> Result<(), TextFault>
         requires none { self.old.fault ≡ None }
         requires empty { found.old.items ≡ [] }
-        ensures stands { (u : List ℕ) (ranges : List _) → HasSearched self.old u ranges
-            → OnOk result (HasSearched self.new (u ++ byte ∷ []) (ranges ++ found.new.items)) }
-        ensures kept { (u : List ℕ) (ranges : List _) → HasSearched self.old u ranges
+        ensures stands { (place : ℕ) (u : List ℕ) (ranges : List _) → HasTaken self.old place u ranges
+            → OnOk result (HasTaken self.new place (u ++ byte ∷ []) (ranges ++ found.new.items)) }
+        ensures kept { (place : ℕ) (u : List ℕ) (ranges : List _) → HasTaken self.old place u ranges
             → OnErr result (FinderStandsFor (W.table self.new.query.table.now) self.new.query.pattern.now self.new.finder (chars (whole u)) ranges) }
-        ensures fault { (u more : List ℕ) (ranges : List _) → HasSearched self.old u ranges
+        ensures fault { (place : ℕ) (u more : List ℕ) (ranges : List _) → HasTaken self.old place u ranges
             → IfErr result (λ f. fault_of (u ++ byte ∷ more) ≡ Some f) }
-        ensures offset { (u : List ℕ) (ranges : List _) → HasSearched self.old u ranges
+        ensures offset { (place : ℕ) (u : List ℕ) (ranges : List _) → HasTaken self.old place u ranges
             → IfErr result (λ f. f.offset ≡ characters_end u) }
-        ensures closed { (u more : List ℕ) (ranges : List _) → HasSearched self.old u ranges
+        ensures closed { (place : ℕ) (u more : List ℕ) (ranges : List _) → HasTaken self.old place u ranges
             → OnErr result (is_good_so_far (u ++ byte ∷ more) ≡ false) }
         ensures kind { IfErr result (λ f. (31 ≤ f.kind) × (f.kind ≤ 34)) }
         ensures place { IfErr result (λ f. f.offset ≤ most_bytes) }
@@ -170,6 +169,35 @@ impl<'a, W: Weights> Search<'a, W> {
         ensures answer { (text u more : List ℕ) (handed : List _) → IsCompiledFrom (sought self.old) text → HasSearched self.old u handed
             → IfErr result (λ f. answer_to (sought self.old) text (u ++ byte ∷ more) ≡ record { ranges = handed ++ found.new.items; fault = Some f }) }
         ensures closed { (u more : List ℕ) (handed : List _) → HasSearched self.old u handed → OnErr result (is_good_so_far (u ++ byte ∷ more) ≡ false) }
+        // what was handed out, and whether a fault stands in the bytes, is known from the bytes alone
+        ensures known { (u : List ℕ) (handed : List _) → HasSearched self.old u handed
+            → handed ++ found.new.items ≡ reported_after (sought self.old) (u ++ byte ∷ []) }
+        ensures fault { (u : List ℕ) (handed : List _) → HasSearched self.old u handed → told result ≡ fault_so_far (u ++ byte ∷ []) }
+        ensures ended { (u more : List ℕ) (handed : List _) → HasSearched self.old u handed
+            → IfErr result (λ f. IsReported (sought self.old) (u ++ byte ∷ more) (handed ++ found.new.items) (Some f)) }
+        ensures few { length found.new.items ≤ longest_key_of (sought self.old).table + MOST_GIVEN }
+        ensures reported { IfErr result (λ f. HasReported self.new f) }
+        ensures again { (f : TextFault) → HasReported self.old f → (result ≡ Err f) × (found.new.items ≡ []) }
+        ensures none { OnOk result (HasReportedNone self.new) }
+        ensures memory { IfErr result (λ f. f.kind ≡ 35 → HasReported self.old f) }
+        ensures sought { sought self.new ≡ sought self.old }
+    {
+        decided_units_stay();
+        laws_of_decompositions();
+        laws_of_reordering();
+        self.step_on(byte, found)
+    }
+
+    /// The same, also within a piece, where units may have been cut early.
+    pub(crate) fn step_on(&mut self, byte: u8, found: &mut Found) -> Result<(), TextFault>
+        ensures stands { (place : ℕ) (u : List ℕ) (handed : List _) → HasTaken self.old place u handed
+            → OnOk result (HasTaken self.new place (u ++ byte ∷ []) (handed ++ found.new.items)) }
+        ensures ended { (place : ℕ) (u more : List ℕ) (handed : List _) → HasTaken self.old place u handed
+            → IfErr result (λ f. IsReported (sought self.old) (u ++ byte ∷ more) (handed ++ found.new.items) (Some f)) }
+        ensures answer { (place : ℕ) (text u more : List ℕ) (handed : List _) → IsCompiledFrom (sought self.old) text → HasTaken self.old place u handed
+            → IfErr result (λ f. answer_to (sought self.old) text (u ++ byte ∷ more) ≡ record { ranges = handed ++ found.new.items; fault = Some f }) }
+        ensures closed { (place : ℕ) (u more : List ℕ) (handed : List _) → HasTaken self.old place u handed
+            → OnErr result (is_good_so_far (u ++ byte ∷ more) ≡ false) }
         ensures few { length found.new.items ≤ longest_key_of (sought self.old).table + MOST_GIVEN }
         ensures reported { IfErr result (λ f. HasReported self.new f) }
         ensures again { (f : TextFault) → HasReported self.old f → (result ≡ Err f) × (found.new.items ≡ []) }
@@ -257,8 +285,10 @@ impl<'a, W: Weights> Search<'a, W> {
     }
 
     /// What the ranges handed out so far are of the answer, whatever bytes follow: they begin its list, and each range of it that
-    /// has 31 code points more than the longest key has at or after its end among the whole characters so far is one of them.
+    /// has 31 code points more than the longest key has at or after its end among the whole characters so far is one of them. They are
+    /// those that are reported after the bytes taken, however these were cut into pieces.
     pub fn has_handed_out(&self)
+        ensures known { (u : List ℕ) (handed : List (ℕ × ℕ)) → HasSearched self.now u handed → handed ≡ reported_after (sought self.now) u }
         ensures begins { (text u later : List ℕ) (handed : List (ℕ × ℕ)) → IsCompiledFrom (sought self.now) text → HasSearched self.now u handed
             → (rest : List (ℕ × ℕ)) × ((answer_to (sought self.now) text (u ++ later)).ranges ≡ handed ++ rest) }
         ensures in_time { (text u later : List ℕ) (handed : List (ℕ × ℕ)) (range : ℕ × ℕ) → IsCompiledFrom (sought self.now) text → HasSearched self.now u handed
@@ -269,6 +299,8 @@ impl<'a, W: Weights> Search<'a, W> {
         answers_in_time(self.query.table);
         whole_characters_are_the_longest_text();
         laws_of_faults();
+        decided_units_stay();
+        laws_of_reordering();
     }
 
     /// The fault that was reported, at which the text counts as ended.

@@ -1,5 +1,6 @@
 pub mod AfreshLemmas
 pub mod AnewLemmas
+pub mod ByteLenLemmas
 pub mod Computing
 pub mod CutLemmas
 pub mod DecompositionLemmas

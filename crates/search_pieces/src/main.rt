@@ -59,6 +59,3 @@ fn search(rt: &HostRuntime, table: &Table, asked: &Asked<'_>) -> Result<()> {
     )?;
     Ok(out.flush()?)
 }
-
-#[cfg(test)]
-mod tests;

@@ -22,14 +22,12 @@ use arrayvec::ArrayVec;
 use sequence::Form;
 use std::marker::Model;
 
-mod ascii;
 mod character;
 mod laws;
 mod reading;
 mod sequence;
 mod slice;
 
-pub use ascii::ascii_len;
 pub use character::{first_character, sized_character};
 pub use laws::{
     any_bytes_may_follow, incomplete_sequences_begin_characters, text_may_stand_before,
@@ -76,7 +74,7 @@ impl Model for Cut {
 impl Cut {
     ghost use Rattle.std.specs.Prelude.{◌≡◌, ℕ, ◌+◌, ◌^◌, ◌<◌, ◌≤◌, List, [], ◌∷◌, ◌++◌, length, Option, None, Some, IsTrue, ◌==◌, if◌then◌else◌, true, false};
     ghost use Rattle.std.specs.Char.{len_utf8};
-    ghost use Rattle.std.specs.Str.{IsAscii, IsUtf8, chars};
+    ghost use Rattle.std.specs.Str.{IsUtf8, chars};
     ghost use Rattle.utf8_cut.specs.Characters.{ill_formed_at, with_offsets};
     ghost use Rattle.utf8_cut.specs.Sequences.{SpellsCharacter, IsIllFormed};
     ghost use Rattle.utf8_cut.specs.Value.{between_characters};
@@ -139,19 +137,6 @@ impl Cut {
         let end = self.count + n;
         self.start = end;
         self.count = end;
-    }
-
-    /// Takes `n` bytes below 80 hex at once, as [`take_characters`](Cut::take_characters) does.
-    #[inline]
-    pub fn take_ascii(&mut self, n: u64)
-        requires between { self.old.start ≡ self.old.count }
-        requires fits { self.old.count + n ≤ 2 ^ 62 }
-        ensures state { self.new ≡ between_characters (self.old.count + n) }
-        ensures stands_for { (taken bytes : List ℕ) (given : List (ℕ × ℕ))
-            → StandsFor self.old taken given → length bytes ≡ n → IsAscii bytes
-            → StandsFor self.new (taken ++ bytes) (given ++ with_offsets self.old.count bytes) }
-    {
-        self.take_characters(n);
     }
 
     // Takes any byte. `push` has a shorter way for ASCII between characters.

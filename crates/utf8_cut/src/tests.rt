@@ -2,10 +2,10 @@
 // and a `Cut` agree on many bytes. Expected values come from the Unicode Standard, table 3-7, or
 // from `std`.
 ghost use Rattle.std.specs.Prelude.{◌≡◌, ℕ, ◌<◌, List, [], ◌∷◌, Some, None, length, IsTrue, true, false};
-ghost use Rattle.utf8_cut.specs.Characters.{characters, first_fault, ill_formed_at, is_utf8_prefix, is_incomplete_sequence, ascii_prefix_len};
+ghost use Rattle.utf8_cut.specs.Characters.{characters, first_fault, ill_formed_at, is_utf8_prefix, is_incomplete_sequence};
 
 use super::{
-    Cut, Cutting, any_bytes_may_follow, ascii_len, first_character, front,
+    Cut, Cutting, any_bytes_may_follow, first_character, front,
     incomplete_sequences_begin_characters, text_may_stand_before,
     whole_characters_are_the_longest_text,
 };
@@ -47,8 +47,6 @@ fn worked_rows()
         ≡ (0xD7FF, 0) ∷ (0xE000, 3) ∷ [] }
     ensures past_three_bytes { characters (0xEF ∷ 0xBF ∷ 0xBF ∷ 0xF0 ∷ 0x90 ∷ 0x80 ∷ 0x80 ∷ [])
         ≡ (0xFFFF, 0) ∷ (0x10000, 3) ∷ [] }
-    ensures ascii_before_a_byte { ascii_prefix_len (0x61 ∷ 0x7F ∷ 0x80 ∷ 0x61 ∷ []) ≡ 2 }
-    ensures no_ascii { ascii_prefix_len (0xFF ∷ []) ≡ 0 }
     ensures greatest { characters (0xF4 ∷ 0x8F ∷ 0xBF ∷ 0xBF ∷ []) ≡ (0x10FFFF, 0) ∷ [] }
 {}
 
@@ -253,44 +251,6 @@ fn front_agrees_with_single_pushes(rt: HostRuntime) -> Result<(), Fail> {
         assert!(rt; front_agrees(&bytes));
     }
     Ok(())
-}
-
-#[test]
-fn ascii_prefixes(rt: HostRuntime) {
-    assert_eq!(rt; ascii_len(b""), 0);
-    assert_eq!(rt; ascii_len(&[0xFF]), 0);
-    let mut letters = [b'a'; 32];
-    letters[31] = 0x80;
-    assert_eq!(rt; ascii_len(&letters), 31);
-    let mut letters = [b'a'; 65];
-    letters[64] = 0xC3;
-    assert_eq!(rt; ascii_len(&letters), 64);
-    assert_eq!(rt; ascii_len(&[b'a'; 4096]), 4096);
-}
-
-// Each length up to some blocks, from each place of a block.
-#[test]
-fn ascii_prefixes_of_each_length(rt: HostRuntime) {
-    for start in 0..32usize {
-        for len in 0..=200usize {
-            let mut bytes = [b'z'; 300];
-            bytes[start + len] = 0x80;
-            assert_eq!(rt; ascii_len(&bytes[start..]), len);
-            assert_eq!(rt; ascii_len(&bytes[start..start + len]), len);
-        }
-    }
-}
-
-#[test]
-fn ascii_is_taken_at_once(rt: HostRuntime) {
-    let mut cut = Cut::new();
-    let _ = cut.push(0xC3);
-    let _ = cut.push(0xA9);
-    assert!(rt; cut.held_start() == cut.count());
-    cut.take_ascii(3);
-    assert_eq!(rt; cut.count(), 5);
-    assert_eq!(rt; cut.held_start(), 5);
-    assert_eq!(rt; cut.push(b'a'), Cutting::Char('a', 5));
 }
 
 #[test]

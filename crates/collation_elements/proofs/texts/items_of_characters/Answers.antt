@@ -68,17 +68,17 @@ loop-c-preserved g c =
     let carried = c.in_default.ensures.carries (take i cs) old.0 old.1 c.loop-c.invariant.offset in
     let fronted = subst (λ (taken : List ℕ). HasReordered c.push.new.self taken (old.0 ++ c.push.new.out.items)) (sym (next_prefix cs i c.c-item.result below c.c-item.is)) carried in
     let reordered = subst (λ (out : List Point). HasReordered c.push.new.self (take (i + 1) cs) (old.0 ++ out)) (sym value) fronted in
-    let before : Gives table c.push_points.new.window c.loop-c.weigher c.loop-c.items.items (old.0 ++ c.as_slice.result.now) =
-    record { units = old.2.units; cut = c.push_points.ensures.stands table old.0 old.2.units old.2.cut; weighed = old.2.weighed } in
-    let not_ended = ap (λ w. w.has_ended) c.push_points.ensures.points ∙ c.loop-c.invariant.not_ended in
+    let before : Gives table c.push_all.new.self c.loop-c.weigher c.loop-c.items.items (old.0 ++ c.as_slice.result.now) =
+    record { units = old.2.units; cut = c.push_all.ensures.stands table old.0 old.2.units old.2.cut; weighed = old.2.weighed } in
+    let not_ended = ap (λ w. w.has_ended) c.push_all.ensures.points ∙ c.loop-c.invariant.not_ended in
     let closed = is_closed-both c.loop-c.window.points c.push.new.out.items c.loop-c.invariant.last c.in_default.ensures.closed in
-    let starter = ap is_closed (ap (λ w. w.points) c.push_points.ensures.points ∙ ap (λ out. c.loop-c.window.points ++ out) value) ∙ closed in
+    let starter = ap is_closed (ap (λ w. w.points) c.push_all.ensures.points ∙ ap (λ out. c.loop-c.window.points ++ out) value) ∙ closed in
     record {
       read = (old.0 ++ c.as_slice.result.now, reordered, c.in_ok-cut_units.ensures.stands (old.0 ++ c.as_slice.result.now) before);
       offset = let next = next_bytes cs i c.c-item.result below c.c-item.is in omega (arith, c.loop-c.invariant.offset, c.len_utf8.ensures.value, next);
       strength = c.in_ok-cut_units.ensures.settings.strength ∙ c.loop-c.invariant.strength;
       variable = c.in_ok-cut_units.ensures.settings.variable ∙ c.loop-c.invariant.variable;
-      capacity = c.in_ok-cut_units.ensures.capacity ∙ ap (λ w. w.capacity) c.push_points.ensures.points ∙ c.loop-c.invariant.capacity;
+      capacity = c.in_ok-cut_units.ensures.capacity ∙ ap (λ w. w.capacity) c.push_all.ensures.points ∙ c.loop-c.invariant.capacity;
       not_ended = c.in_ok-cut_units.ensures.ended ∙ not_ended;
       last = c.in_ok-cut_units.ensures.last not_ended starter;
       small = c.in_ok-cut_units.ensures.room not_ended starter;
@@ -95,7 +95,7 @@ returns-clause-items g c =
     let read = ap points (sym all) ∙ c.finish.ensures.rest (take i cs) old.0 old.1 ∙ ap (λ out. old.0 ++ out) (sym value) in
     let before : Gives table c.end.new.self c.loop-c.weigher c.loop-c.items.items (old.0 ++ c.as_slice-2.result.now) = record {
       units = old.2.units;
-      cut = c.end.ensures.stands table (old.0 ++ c.as_slice-2.result.now) old.2.units (c.push_points-2.ensures.stands table old.0 old.2.units old.2.cut);
+      cut = c.end.ensures.stands table (old.0 ++ c.as_slice-2.result.now) old.2.units (c.push_all-2.ensures.stands table old.0 old.2.units old.2.cut);
       weighed = old.2.weighed;
     } in
     let ended = ap (λ w. w.has_ended) c.end.ensures.ended in

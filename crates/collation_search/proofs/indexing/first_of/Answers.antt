@@ -1,6 +1,6 @@
 use Rattle.std.specs.Str.{chars}
 use Rattle.std.specs.Prelude.{Some, None, not}
-use Rattle.std.proofs.Common.{◌≡◌, ◌∙◌, ℕ, List, [], ◌++◌, inr, refl, arith, length, sym, ap, subst}
+use Rattle.std.proofs.Common.{◌≡◌, ◌∙◌, ℕ, List, [], ◌++◌, refl, arith, length, sym, ap, subst}
 use Rattle.std.proofs.lemmas.Str.{chars-nil, IsUtf8-nil}
 use Rattle.nfd_points.specs.PointFaults.{point_fault}
 use Rattle.collation_matches.specs.declared.faults.TextFault.{TextFault}

@@ -1,7 +1,9 @@
 use Rattle.std.proofs.Common.{◌∙◌, [], ◌∷◌, ◌++◌, refl, sym, ap, subst, arith}
 use Rattle.nfd_points.specs.Reordering.{IsSoundPoint}
+use Rattle.collation_elements.specs.Decided.{left_points}
 use Rattle.collation_elements.specs.Weighing.{value_items}
-use Rattle.collation_elements.specs.Windows.{next_cut}
+use Rattle.collation_elements.specs.Windows.{is_decided, next_cut}
+use Rattle.std.proofs.lemmas.Bool.{false≢true, false_from_ne_true}
 use Rattle.std.proofs.lemmas.List.Elements.{All-contains_itself}
 use Rattle.std.specs.List.{All, Contains}
 use Rattle.collation_search.specs.Matching.{HasMatched}
@@ -37,6 +39,11 @@ loop-unit-preserved g c =
       capacity = ap (λ w. w.capacity) c.in-Some.ensures.rest ∙ c.loop-unit.invariant.capacity;
       ended = ap (λ w. w.has_ended) c.in-Some.ensures.rest ∙ c.loop-unit.invariant.ended;
       last = λ open_window starts. c.in-Some.ensures.last (c.loop-unit.invariant.ended ∙ open_window) (c.loop-unit.invariant.last open_window starts);
+      left = λ goes_on.
+          let here = c.loop-unit.invariant.ended ∙ goes_on in
+          ap (λ w. left_points table w.points) c.in-Some.ensures.rest
+          ∙ sym (c.decided_units_stay.ensures.cut table c.loop-unit.window here (c.in-Some.ensures.decided.0 refl))
+          ∙ c.loop-unit.invariant.left goes_on;
       state = c.take_unit.ensures.state;
       select = c.take_unit.ensures.select ∙ c.loop-unit.invariant.select;
     }
@@ -50,6 +57,7 @@ loop-unit-init g c = record {
   capacity = refl;
   ended = refl;
   last = λ open_window starts. starts;
+  left = λ goes_on. refl;
   state = c.requires.state;
   select = refl;
 }
@@ -61,3 +69,10 @@ pub returns-clause-stands : goal.returns-clause-stands
 returns-clause-stands g c = λ points ranges h.
     subst (λ w. HasMatched (g.W.Weights.table c.args.table.now) c.args.pattern.now w c.loop-unit.weigher c.loop-unit.walk points (ranges ++ c.loop-unit.found.items))
     (sym c.in_default.ensures.unchanged) (c.loop-unit.invariant.stands points ranges h)
+
+pub returns-clause-left : goal.returns-clause-left
+returns-clause-left g c = λ goes_on.
+    let table = g.W.Weights.table c.args.table.now in
+    ap (λ w. w.points) c.in_default.ensures.unchanged
+    ∙ sym (c.decided_units_stay.ensures.left table c.loop-unit.window (false_from_ne_true (is_decided table c.loop-unit.window) (λ decided. false≢true (c.in_default.ensures.decided.1 decided))))
+    ∙ c.loop-unit.invariant.left goes_on

@@ -3,6 +3,7 @@ use Rattle.nfd_points.specs.declared.points.Point.{Point}
 use Rattle.std.specs.List.{All, Contains}
 use Rattle.unicode_normalization.specs.StreamSafe.{has_short_runs}
 use Rattle.nfd_points.specs.Reordering.{IsSoundPoint, code_points, is_closed}
+use Rattle.collation_elements.specs.Decided.{left_points}
 use Rattle.collation_search.specs.Matching.{HasMatched}
 use Rattle.collation_search.proofs.matching.cut_units.Given as goal
 
@@ -18,6 +19,8 @@ invariant-loop-unit g l = record {
   capacity : l.window.capacity ≡ l.initial.window.capacity;
   ended : l.window.has_ended ≡ l.initial.window.has_ended;
   last : l.initial.window.has_ended ≡ false → is_closed l.initial.window.points ≡ true → is_closed l.window.points ≡ true;
+  left : l.initial.window.has_ended ≡ false
+      → left_points (g.W.Weights.table l.table) l.window.points ≡ left_points (g.W.Weights.table l.table) l.initial.window.points;
   state : l.walk.state ≤ length l.pattern.keys;
   select : l.walk.select ≡ l.initial.walk.select;
 }

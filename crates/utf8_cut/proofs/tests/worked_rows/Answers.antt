@@ -23,7 +23,5 @@ returns c = record {
   least_and_greatest = refl;
   beside_surrogates = refl;
   past_three_bytes = refl;
-  ascii_before_a_byte = refl;
-  no_ascii = refl;
   greatest = refl;
 }

@@ -1,4 +1,4 @@
-use Rattle.std.proofs.Common.{◌∙◌, List, ◌++◌, sym, ap, subst, arith}
+use Rattle.std.proofs.Common.{◌∙◌, List, [], ◌∷◌, ◌++◌, sym, ap, subst, arith}
 use Rattle.nfd_points.specs.declared.points.Point.{Point}
 use Rattle.nfd_points.specs.Points.{points, points_of, begins_with_starter, ordered}
 use Rattle.nfd_points.specs.Reordering.{IsSoundPoint, code_points, is_closed}
@@ -10,6 +10,8 @@ use Rattle.collation_search.proofs.MatchingLemmas.{matched-first, all-among, amo
 use Rattle.collation_search.specs.Apart.{EndsBefore}
 use Rattle.collation_search.proofs.ApartLemmas.{begun, ends_here}
 use Rattle.collation_search.proofs.PauseLemmas.{first_given, matched-afresh}
+use Rattle.collation_elements.specs.Decided.{left_points}
+use Rattle.collation_search.proofs.EarlyLemmas.{final-more, cut-pushed, cut-afresh}
 use Rattle.collation_search.proofs.finder.Finder.take.Goals as goal
 
 pub invariant_of-self-2 : goal.invariant_of-self-2
@@ -56,6 +58,17 @@ returns-clause-stands g c = λ taken ranges h offset.
       matched = c.cut_units.ensures.stands (h.points ++ out) ranges before;
     }
 
+pub returns-clause-left : goal.returns-clause-left
+returns-clause-left g c = λ place taken ranges h offset before.
+    let table = g.W.Weights.table c.args.table.now in
+    let out = c.push.new.out.items in
+    let old = c.args.self.now in
+    let open_window = ap (λ w. w.has_ended) c.push_points.ensures.points ∙ c.requires.open in
+    let pushed = ap (λ w. w.points) c.push_points.ensures.points ∙ ap (λ ps. old.window.points ++ ps) c.as_slice.ensures.value in
+    let final = final-more c.laws_of_reordering.ensures.last old.reorder c.push.new.self taken (c.args.c ∷ []) h.points out h.reordered (c.in_ok-push.ensures.carries taken h.points h.reordered offset) in
+    cut-pushed c.decided_units_stay.ensures.stay table place taken (c.args.c ∷ []) out old.window.points c.cut_units.new.window.points final
+    (c.cut_units.ensures.left open_window ∙ ap (left_points table) pushed) before
+
 pub returns-clause-afresh : goal.returns-clause-afresh
 returns-clause-afresh g c = λ taken ranges p offset begins.
     let table = g.W.Weights.table c.args.table.now in
@@ -77,3 +90,20 @@ returns-clause-afresh g c = λ taken ranges p offset begins.
       reordered = c.in_ok-push.ensures.afresh taken p.paused.none_waits offset begins p.paused.good;
       matched = c.cut_units.ensures.stands (points taken ++ out) ranges before;
     }
+
+pub returns-clause-left_afresh : goal.returns-clause-left_afresh
+returns-clause-left_afresh g c = λ taken ranges p offset begins.
+    let table = g.W.Weights.table c.args.table.now in
+    let out = c.push.new.out.items in
+    let at = c.args.offset in
+    let b = begun c.laws_of_decompositions.ensures.short at c.args.c in
+    let all = c.in_ok-push.ensures.pushed ∙ ap (λ (hs : List Point). ordered (hs ++ points_of at c.args.c)) p.paused.none_waits
+    ∙ c.laws_of_ordering.ensures.stays (points_of at c.args.c) (c.laws_of_decompositions.ensures.in_order at c.args.c) ∙ b.is in
+    let starter = ap begins_with_starter (sym b.is) ∙ begins in
+    let given = first_given out c.push.new.self.held b.others b.first all starter c.in_ok-push.ensures.held.non_starters in
+    let ends = ends_here table (points taken) at c.args.c b (subst (λ k. EndsBefore table (points taken) k c.args.c) (sym offset) p.ends) in
+    let held = ap (λ w. w.points) c.push_points.ensures.points ∙ ap (λ (ps : List Point). ps ++ c.as_slice.result.now) p.paused.none_left ∙ c.as_slice.ensures.value in
+    let open_window = ap (λ w. w.has_ended) c.push_points.ensures.points ∙ c.requires.open in
+    cut-afresh c.laws_of_reordering.ensures.last table c.push.new.self taken c.args.c out given.0 c.cut_units.new.window.points b.first
+    (c.in_ok-push.ensures.afresh taken p.paused.none_waits offset begins p.paused.good) given.1 starter ends
+    (c.cut_units.ensures.left open_window ∙ ap (left_points table) held)

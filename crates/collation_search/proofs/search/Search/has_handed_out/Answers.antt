@@ -17,6 +17,7 @@ use Rattle.collation_matches.specs.Selecting.{selected}
 use Rattle.collation_matches.proofs.FewRanges.{answered-rise}
 use Rattle.collation_matches.proofs.LagLaw.{contains-in, in-contains}
 use Rattle.collation_matches.proofs.SelectedInTime.{selected-among, selected-early}
+use Rattle.collation_search.proofs.StateLemmas.{state_laws, reported-known}
 use Rattle.collation_search.proofs.SearchBegins.{begins-answer, begins-found}
 use Rattle.collation_search.proofs.search.Search.has_handed_out.Goals as goal
 
@@ -68,3 +69,9 @@ returns-clause-in_time g c = λ text u later handed range compiled h late there.
     let rise = answered-rise s.table s.pattern.strength s.pattern.variable text (u ++ later) in
     let kept = selected-early s.select raw early begins.0 range rise begins.1 (contains-in early range here) among in
     subst (λ (t : List (ℕ × ℕ)). Contains t range) (sym walked.handed_out) (in-contains (selected s.select early) range kept)
+
+pub returns-clause-known : goal.returns-clause-known
+returns-clause-known g c = λ u handed h.
+    let laws = state_laws c.decided_units_stay.ensures.begin c.laws_of_reordering.ensures.last c.laws_of_reordering.ensures.others in
+    let search = c.args.self.now in
+    reported-known laws (sought search) search.cut search.finder search.fault u handed h refl

@@ -1,27 +1,20 @@
-use Rattle.std.specs.Str.{chars, is_utf8}
-use Rattle.std.specs.Str.Lossy.{utf8_valid_len}
-use Rattle.std.specs.Char.{encode_utf8}
-use Rattle.std.proofs.Common.{[], length, refl, arith, sym, ap, subst}
-use Rattle.nfd_points.specs.PointFaults.{fault_from}
-use Rattle.collation_table.specs.Table.{TableMap}
-use Rattle.collation_pattern.specs.Compiled.{Compiled}
-use Rattle.collation_search.specs.Finding.{FinderStandsFor}
+use Rattle.std.proofs.Common.{◌∙◌, rules, refl, sym, arith}
+use Rattle.std.proofs.lemmas.Str.{chars-nil}
+use Rattle.collation_search.proofs.StateLemmas.{none-left}
 use Rattle.collation_search.proofs.search.Search.new_with.Goals as goal
 
-pub returns-clause-stands : goal.returns-clause-stands
-unfolding chars is_utf8 utf8_valid_len encode_utf8 fault_from
-returns-clause-stands g c =
-    let query = c.new-query.ensures in
-    let finder = c.in_ok-finder.finder in
-    let keys = ap (λ (p : Compiled). length p.keys) query.pattern in
-    record {
-      cut_stands = c.new-3.ensures.stands_for;
-      found = subst (λ (p : Compiled). FinderStandsFor (g.W.Weights.table c.new-query.result.table.now) p finder [] []) (sym query.pattern)
-          (subst (λ (t : TableMap). FinderStandsFor t c.args.pattern.now finder [] []) (sym query.table) c.in_ok-finder.ensures.stands);
-      open_bytes = refl;
-      no_fault = refl;
-      some_key = omega (arith, c.len-some.ensures.keys, c.len-some.ensures.some, keys);
-    }
+pub invariant_of-result-2-clause-right : goal.invariant_of-result-2-clause-right
+invariant_of-result-2-clause-right g c = c.in_ok-cache.ensures (g.W.Weights.table c.args.table.now) c.args.pattern.now
 
-pub invariant_of-result-clause-right : goal.invariant_of-result-clause-right
-invariant_of-result-clause-right g c = c.in_ok-characters.ensures.right (g.W.Weights.table c.new-query.result.table.now) c.new-query.result.pattern.now
+pub returns-clause-stands : goal.returns-clause-stands
+returns-clause-stands g c =
+    let cut = c.new-3.ensures.stands_for in
+    let finder = c.in_ok-finder.ensures.stands in
+    record {
+      cut_stands = search (rules, chars-nil);
+      found = search (rules, chars-nil);
+      open_bytes = search (rules, chars-nil);
+      no_fault = refl;
+      some_key = omega (arith, c.len-some.ensures.some, c.len-some.ensures.keys);
+      left = c.in_ok-finder.ensures.empty ∙ sym (none-left (g.W.Weights.table c.args.table.now));
+    }

@@ -1,21 +1,47 @@
-use Rattle.std.specs.Str.{chars}
-use Rattle.std.proofs.Common.{◌≡◌, ◌∙◌, ◌∷◌, ◌++◌, ap, subst}
-use Rattle.collation_matches.specs.GoodPrefix.{whole}
+use Rattle.std.specs.Prelude.{IfErr, OnErr, Some}
+use Rattle.std.proofs.Common.{◌≡◌, ℕ, false, List, [], ◌∷◌, ◌++◌, subst, append_assoc}
+use Rattle.collation_matches.specs.GoodPrefix.{is_good_so_far}
+use Rattle.collation_matches.specs.Sought.{answer_to}
+use Rattle.collation_search.specs.Feeding.{Feeds}
 use Rattle.collation_search.specs.Search.{sought}
-use Rattle.collation_matches.specs.Sought.{Sought}
-use Rattle.collation_search.specs.Walks.{WalksOver}
-use Rattle.collation_search.proofs.SearchAnswers.{answer-at_fault, items_in}
+use Rattle.collation_search.specs.StateAfter.{IsReported}
+use Rattle.collation_search.proofs.FeedLemmas.{takes-byte, feeds-steps}
+use Rattle.collation_search.proofs.StateLemmas.{StateLaws}
+use Rattle.collation_search.proofs.search.Search.step.Given.{Over}
+use Rattle.collation_search.proofs.search.Search.step.Goals.{After-step_on}
 use Rattle.collation_search.proofs.search.Search.step.Goals as goal
 
-pub returns-in-Err-clause-answer : goal.returns-in-Err-clause-answer
-returns-in-Err-clause-answer g c = λ text u more handed compiled h.
-    let table = g.W.Weights.table in
-    let old = sought c.args.self.now in
-    let new : Sought = record { table = table c.take.new.self.query.table.now; pattern = c.take.new.self.query.pattern.now; select = old.select } in
-    let same : new ≡ old = ap (λ q. let s : Sought = record { table = table q.table.now; pattern = q.pattern.now; select = old.select } in s) c.in-Err.ensures.same in
-    let ranges = handed ++ c.end.new.found.items in
-    let walked = subst (λ (s : Sought). WalksOver s.pattern.keys (items_in s (whole u)) ranges c.end.new.self.walk) same
-    (c.end.ensures.ended (chars (whole u)) handed (c.in-Err.ensures.kept u handed h)) in
-    answer-at_fault old c.matches_by_clusters.ensures.settled c.matches_by_clusters.ensures.items text u (c.args.byte ∷ more) ranges c.end.new.self.walk c.in-Err.fault
-    (c.end.ensures.select ∙ c.in-Err.ensures.select) compiled h.some_key (c.whole_characters_are_the_longest_text.ensures.text u) (c.whole_characters_are_the_longest_text.ensures.within u)
-    walked (c.in-Err.ensures.fault u more handed h) (c.in-Err.ensures.offset u handed h)
+-- what the byte does as a piece
+fed : (g : Over) (c : After-step_on g) → Feeds c.args.self.now (c.args.byte ∷ []) c.step_on.result c.step_on.new.found.items c.step_on.new.self
+fed g c =
+    let laws : StateLaws = record {
+      begin = c.decided_units_stay.ensures.begin;
+      last = c.laws_of_reordering.ensures.last;
+      others = c.laws_of_reordering.ensures.others;
+    } in
+    let e = c.step_on.ensures in
+    feeds-steps laws c.laws_of_decompositions.ensures.short c.decided_units_stay.ensures.early c.args.self.now c.step_on.new.self (c.args.byte ∷ []) c.step_on.result c.step_on.new.found.items
+    (takes-byte c.args.self.now c.step_on.new.self c.args.byte c.step_on.result c.step_on.new.found.items e.stands e.ended e.answer e.closed e.reported e.again e.none e.memory e.sought)
+
+pub returns-clause-stands : goal.returns-clause-stands
+returns-clause-stands g c = (fed g c).stands
+
+pub returns-clause-known : goal.returns-clause-known
+returns-clause-known g c = (fed g c).known
+
+pub returns-clause-fault : goal.returns-clause-fault
+returns-clause-fault g c = (fed g c).fault
+
+pub returns-clause-ended : goal.returns-clause-ended
+returns-clause-ended g c = λ u more handed h.
+    let Q : List ℕ → Type 0 = λ t. IfErr c.step_on.result (λ f. IsReported (sought c.args.self.now) t (handed ++ c.step_on.new.found.items) (Some f)) in
+    subst Q (append_assoc u (c.args.byte ∷ []) more) ((fed g c).ended u more handed h)
+
+pub returns-clause-answer : goal.returns-clause-answer
+returns-clause-answer g c = λ text u more handed compiled h.
+    let Q : List ℕ → Type 0 = λ t. IfErr c.step_on.result (λ f. answer_to (sought c.args.self.now) text t ≡ record { ranges = handed ++ c.step_on.new.found.items; fault = Some f }) in
+    subst Q (append_assoc u (c.args.byte ∷ []) more) ((fed g c).answer text u more handed compiled h)
+
+pub returns-clause-closed : goal.returns-clause-closed
+returns-clause-closed g c = λ u more handed h.
+    let Q : List ℕ → Type 0 = λ t. OnErr c.step_on.result (is_good_so_far t ≡ false) in subst Q (append_assoc u (c.args.byte ∷ []) more) ((fed g c).closed u more handed h)

@@ -9,7 +9,7 @@ use Rattle.collation_table.specs.Table.{TableMap}
 use Rattle.collation_pattern.specs.Compiled.{Compiled}
 use Rattle.collation_matches.specs.GoodPrefix.{most_bytes, whole}
 use Rattle.collation_search.specs.Finding.{FinderStandsFor}
-use Rattle.collation_search.specs.Searching.{Searched}
+use Rattle.collation_search.specs.Early.{IsCutUpTo, Taken}
 use Rattle.collation_matches.proofs.TextCheckLemmas.{fault_by_length, not_open_by_length, open_good, same_codes, still_open, fault_by_code, not_open_by_code, IsIllAfter, ill_after, fault_ill, not_open_ill}
 use Rattle.collation_search.proofs.ByteLemmas.{came, character-at_fault}
 use Rattle.collation_search.proofs.search.Search.take.Given.{Over}
@@ -17,20 +17,20 @@ use Rattle.collation_search.proofs.search.Search.take.Goals as goal
 use Rattle.collation_search.proofs.search.Search.take.Goals.{In-Bad}
 
 pub returns-then-count-ge-MOST_BYTES-clause-fault : goal.returns-then-count-ge-MOST_BYTES-clause-fault
-returns-then-count-ge-MOST_BYTES-clause-fault g c = λ u more ranges h.
+returns-then-count-ge-MOST_BYTES-clause-fault g c = λ place u more ranges h.
     let count = c.count.ensures.stands_for u (characters u) h.cut_stands in
     let full : most_bytes ≤ length u = omega (arith, c.if-count-ge-MOST_BYTES.true) in
     let start = c.held_start-offset.ensures.stands_for u (characters u) h.cut_stands in
     rw start (fault_by_length u c.args.byte more h.open_bytes full)
 
 pub returns-then-count-ge-MOST_BYTES-clause-closed : goal.returns-then-count-ge-MOST_BYTES-clause-closed
-returns-then-count-ge-MOST_BYTES-clause-closed g c = λ u more ranges h.
+returns-then-count-ge-MOST_BYTES-clause-closed g c = λ place u more ranges h.
     let count = c.count.ensures.stands_for u (characters u) h.cut_stands in
     let full : most_bytes ≤ length u = omega (arith, c.if-count-ge-MOST_BYTES.true) in
     not_open_by_length u c.args.byte more full
 
 pub returns-in-More-clause-stands : goal.returns-in-More-clause-stands
-returns-in-More-clause-stands g c = λ u ranges h.
+returns-in-More-clause-stands g c = λ place u ranges h.
     let table = g.W.Weights.table c.args.self.now.query.table.now in
     let pattern = c.args.self.now.query.pattern.now in
     let count = c.count.ensures.stands_for u (characters u) h.cut_stands in
@@ -46,12 +46,13 @@ returns-in-More-clause-stands g c = λ u ranges h.
       open_bytes = still_open u c.args.byte short (sym formed) (ap point_fault codes ∙ open_good u h.open_bytes);
       no_fault = h.no_fault;
       some_key = h.some_key;
+      left = subst (λ cs. IsCutUpTo table place cs c.args.self.now.finder.window.points) (sym codes) h.left;
     }
 
 -- what is known once an ill-formed sequence was met
-ill : (g : Over) (c : In-Bad g) (table : TableMap) (pattern : Compiled) (u : List ℕ) (ranges : List (ℕ × ℕ)) →
-    Searched table pattern c.args.self.now.cut c.args.self.now.finder c.args.self.now.fault u ranges → IsIllAfter (u ++ c.args.byte ∷ []) c.in-Bad.offset
-ill g c table pattern u ranges h =
+ill : (g : Over) (c : In-Bad g) (table : TableMap) (pattern : Compiled) (place : ℕ) (u : List ℕ) (ranges : List (ℕ × ℕ)) →
+    Taken table pattern c.args.self.now.cut c.args.self.now.finder c.args.self.now.fault place u ranges → IsIllAfter (u ++ c.args.byte ∷ []) c.in-Bad.offset
+ill g c table pattern place u ranges h =
     let x = u ++ c.args.byte ∷ [] in
     let state = c.in-Bad.ensures.state in
     let bad : c.push.new.self.is_bad ≡ true = ap (λ s. s.is_bad) state in
@@ -65,23 +66,23 @@ ill g c table pattern u ranges h =
     c.whole_characters_are_the_longest_text.ensures.within
 
 pub returns-in-Bad-clause-fault : goal.returns-in-Bad-clause-fault
-returns-in-Bad-clause-fault g c = λ u more ranges h.
+returns-in-Bad-clause-fault g c = λ place u more ranges h.
     let count = c.count.ensures.stands_for u (characters u) h.cut_stands in
     let short : length u < most_bytes = omega (arith, c.if-count-ge-MOST_BYTES.false) in
     let stands = c.in-Bad.ensures.stands_for u (characters u) h.cut_stands in
     let codes = same_codes u c.args.byte (sym stands.characters_given) in
-    fault_ill u c.args.byte more c.in-Bad.offset h.open_bytes short codes (ill g c _ _ u ranges h)
+    fault_ill u c.args.byte more c.in-Bad.offset h.open_bytes short codes (ill g c _ _ place u ranges h)
 
 pub returns-in-Bad-clause-closed : goal.returns-in-Bad-clause-closed
-returns-in-Bad-clause-closed g c = λ u more ranges h.
+returns-in-Bad-clause-closed g c = λ place u more ranges h.
     let count = c.count.ensures.stands_for u (characters u) h.cut_stands in
     let short : length u < most_bytes = omega (arith, c.if-count-ge-MOST_BYTES.false) in
-    not_open_ill u c.args.byte more c.in-Bad.offset short (ill g c _ _ u ranges h)
+    not_open_ill u c.args.byte more c.in-Bad.offset short (ill g c _ _ place u ranges h)
 
 -- ---- a character
 
 pub returns-in-Ok-clause-stands : goal.returns-in-Ok-clause-stands
-returns-in-Ok-clause-stands g c = λ u ranges h.
+returns-in-Ok-clause-stands g c = λ place u ranges h.
     let table = g.W.Weights.table c.args.self.now.query.table.now in
     let pattern = c.args.self.now.query.pattern.now in
     let known = came u c.args.byte c.in-Char.c c.in-Char.offset c.args.self.now.cut c.push.new.self h.cut_stands (c.in-Char.ensures.stands_for u (characters u) h.cut_stands)
@@ -97,10 +98,11 @@ returns-in-Ok-clause-stands g c = λ u ranges h.
       open_bytes = still_open u c.args.byte known.short (sym formed) good;
       no_fault = h.no_fault;
       some_key = h.some_key;
+      left = subst (λ cs. IsCutUpTo table place cs c.take.new.self.window.points) (sym known.codes) (c.in-Ok.ensures.left place (chars (whole u)) ranges h.found known.offset h.left);
     }
 
 pub returns-in-Err-clause-fault : goal.returns-in-Err-clause-fault
-returns-in-Err-clause-fault g c = λ u more ranges h.
+returns-in-Err-clause-fault g c = λ place u more ranges h.
     let known = came u c.args.byte c.in-Char.c c.in-Char.offset c.args.self.now.cut c.push.new.self h.cut_stands (c.in-Char.ensures.stands_for u (characters u) h.cut_stands)
     (let count = c.count.ensures.stands_for u (characters u) h.cut_stands in omega (arith, c.if-count-ge-MOST_BYTES.false)) c.in-Char.ensures.char_start
     (c.whole_characters_are_the_longest_text.ensures.text u) (c.whole_characters_are_the_longest_text.ensures.within u)
@@ -109,7 +111,7 @@ returns-in-Err-clause-fault g c = λ u more ranges h.
     fault_by_code (u ++ c.args.byte ∷ more) (byte_len (chars (whole u)), c.in-Err.fault.kind) at ∙ ap (λ o. Some (record { kind = c.in-Err.fault.kind; offset = o })) (sym known.offset)
 
 pub returns-in-Err-clause-closed : goal.returns-in-Err-clause-closed
-returns-in-Err-clause-closed g c = λ u more ranges h.
+returns-in-Err-clause-closed g c = λ place u more ranges h.
     let known = came u c.args.byte c.in-Char.c c.in-Char.offset c.args.self.now.cut c.push.new.self h.cut_stands (c.in-Char.ensures.stands_for u (characters u) h.cut_stands)
     (let count = c.count.ensures.stands_for u (characters u) h.cut_stands in omega (arith, c.if-count-ge-MOST_BYTES.false)) c.in-Char.ensures.char_start
     (c.whole_characters_are_the_longest_text.ensures.text u) (c.whole_characters_are_the_longest_text.ensures.within u)

@@ -1,0 +1,34 @@
+//! Where the units of a letter's characters end: before which characters it can be taken by itself.
+ghost use Rattle.std.specs.Prelude.{◌≡◌, ◌≢◌, ◌∷◌, [], ℕ, List, true, false};
+ghost use Rattle.collation_table.specs.Table.{TableMap};
+ghost use Rattle.collation_pattern.specs.Compiled.{Compiled};
+ghost use Rattle.collation_letters.specs.Apart.{IsNext};
+ghost use Rattle.collation_letters.specs.Letters.{IsLetter, is_mark};
+ghost use Rattle.collation_letters.specs.declared.letter.Role.TheVariants.{Steps};
+
+use crate::letter::{Letter, Role};
+use collation_elements::units_stay_apart;
+use nfd_points::laws::{laws_of_decompositions, laws_of_faults, laws_of_ordering, laws_of_points};
+
+/// Whether no unit reaches from the characters of a letter, which is not left to the steps, to the character that follows, and that
+/// begins with a starter, as far as is known.
+#[inline(always)]
+pub fn is_next(letter: &Letter, following: &Letter) -> bool
+    ensures apart { result ≡ true → (table : TableMap) (pattern : Compiled) (at : ℕ) (cs : List ℕ) (next : ℕ)
+        → IsLetter table pattern cs letter.now → IsLetter table pattern (next ∷ []) following.now → IsNext table at cs next }
+    ensures known { result ≡ true → (letter.now.role ≢ Steps) × (is_mark letter.now.role ≡ false) }
+{
+    units_stay_apart();
+    laws_of_points();
+    laws_of_ordering();
+    laws_of_faults();
+    laws_of_decompositions();
+    match letter.role {
+        // of most letters one question is enough
+        Role::Plain => following.is_starter(),
+        Role::Base | Role::VariableBase | Role::Silent => {
+            following.is_starter() && (letter.is_closed || following.is_apart)
+        }
+        Role::Steps | Role::PrimaryMark | Role::Mark => false,
+    }
+}

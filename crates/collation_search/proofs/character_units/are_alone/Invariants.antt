@@ -1,7 +1,0 @@
-use Rattle.std.proofs.Common.{take, All}
-use Rattle.collation_table.specs.Table.{BeginsNoLongerString}
-use Rattle.collation_search.proofs.character_units.are_alone.Given as goal
-
--- the points so far begin no longer string
-abbrev pub invariant-loop-point : goal.invariant-loop-point
-invariant-loop-point g l = All (λ p. BeginsNoLongerString (g.W.Weights.table l.table) p.cp) (take l.point-index l.points)

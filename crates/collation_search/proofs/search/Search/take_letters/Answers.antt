@@ -1,0 +1,43 @@
+use Rattle.std.specs.Str.{chars}
+use Rattle.std.proofs.Common.{◌≡◌, ◌∙◌, ◌+◌, ◌<◌, ◌≤◌, ℕ, List, [], length, take, refl, sym, ap, arith}
+use Rattle.std.proofs.lemmas.List.{length-take-le}
+use Rattle.utf8_cut.specs.Characters.{characters}
+use Rattle.collation_matches.specs.GoodPrefix.{whole}
+use Rattle.collation_matches.specs.Sought.{Sought}
+use Rattle.collation_search.proofs.FeedLemmas.{takes-none, takes-good, none_or_some}
+use Rattle.collation_search.proofs.CharactersTaken.{taken-text, offset-whole}
+use Rattle.collation_search.proofs.search.Search.take_letters.Goals as goal
+
+pub returns-then-reach-eq0-clause-taken : goal.returns-then-reach-eq0-clause-taken
+returns-then-reach-eq0-clause-taken g c =
+    let search = c.args.self.now in ([], refl, takes-none search c.args.reach (λ f h. none_or_some search.fault f c.requires.none h))
+
+pub returns-clause-taken : goal.returns-clause-taken
+returns-clause-taken g c =
+    let search = c.args.self.now in
+    let table = g.W.Weights.table search.query.table.now in
+    let n = c.take_letters-len.result in
+    let text = take n c.args.piece.now in
+    let taken = c.take_letters-len.ensures.taken in
+    let cut = c.take_characters.ensures in
+    let within = c.take_letters-len.ensures.within in
+    let long : n ≡ length text = sym (length-take-le n c.args.piece.now within) in
+    let count = c.count-count.ensures.value in
+    let some : 0 < c.args.reach = omega (arith, c.if-reach-eq0.false) in
+    let far : (place : ℕ) (u : List ℕ) → search.cut.count ≡ length u → (0 < c.args.reach → length u + c.args.reach ≤ place) → c.count-count.result + c.args.reach ≤ place =
+    λ place u same within. omega (arith, count, same, within some) in
+    let between : search.cut.start ≡ search.cut.count = sym c.held_start.ensures.value ∙ c.if-held_start-count.false ∙ count in (
+      taken.0,
+      taken.1,
+      takes-good search _ c.args.reach text taken.0 c.requires.none c.requires.none
+          (ap (λ select. let s : Sought = record { table = table; pattern = search.query.pattern.now; select = select } in s) c.take_letters-len.ensures.select)
+          (λ place u handed m.
+          let h = m.1 in
+          let at = offset-whole table search.query.pattern.now search.cut search.finder search.fault place u handed h between
+          (c.whole_characters_are_the_longest_text.ensures.text u) (c.whole_characters_are_the_longest_text.ensures.within u) in
+          taken-text table search.query.pattern.now search.cut c.take_characters.new.self search.finder c.take_letters-len.new.self search.fault
+          place u text (chars text) n handed taken.0 h long (omega (arith, count, within, c.if-count-piece.false)) cut.state
+          (cut.stands_for u text (characters u) h.cut_stands (sym long) c.take_letters-len.ensures.text)
+          (taken.2 (chars (whole u)) handed h.found (count ∙ at))
+          (c.take_letters-len.ensures.left place (chars (whole u)) handed h.found (count ∙ at) (far place u h.cut_stands.count m.0) h.left)),
+    )

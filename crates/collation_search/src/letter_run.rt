@@ -1,0 +1,276 @@
+//! Goes over the letters at the front of a piece, as long as no unit reaches into or out of one of them: its units, keys and the
+//! start of its cluster are then its own, whatever stands around it. What the window holds is cut before, as if the text ended
+//! there, and none of the characters comes into the window but the last one, with which the steps go on.
+ghost use Rattle.std.specs.Prelude.{◌≡◌, ◌≢◌, ℕ, ◌+◌, ◌<◌, ◌≤◌, List, [], ◌∷◌, length, take, drop, true, false, IfSome, IfNone};
+ghost use Rattle.std.specs.Char.{len_utf8};
+ghost use Rattle.std.specs.Str.{chars, IsUtf8};
+ghost use Rattle.utf8_cut.specs.Sequences.{SpellsCharacter};
+ghost use Rattle.collation_letters.specs.Letters.{IsLetter, is_mark};
+ghost use Rattle.collation_letters.specs.declared.letter.Role.TheVariants.{Steps, Plain};
+ghost use Rattle.collation_letters.specs.Store.{AreLetters};
+ghost use Rattle.std.specs.List.{FoldsTo};
+ghost use Rattle.nfd_points.specs.Points.{points_from};
+ghost use Rattle.collation_elements.specs.Units.{units};
+ghost use Rattle.collation_search.specs.declared.letter_loop.Place.{Place};
+ghost use Rattle.collation_search.specs.LetterRun.{HasGoneOn, place_of};
+ghost use Rattle.collation_search.specs.Walks.{passed_at};
+
+use crate::feed::hand_out;
+use crate::finder::Finder;
+use crate::letter_loop::{Place, Walked, walk_letters};
+use crate::matching::Found;
+use crate::search::Query;
+use crate::skipping::Cache;
+use crate::walk::flag_word;
+use collation_elements::{Weigher, units_stay_apart};
+use collation_letters::{Letter, Letters, is_next};
+use collation_table::Weights;
+use nfd_points::laws::{laws_of_decompositions, laws_of_faults, laws_of_ordering, laws_of_points};
+use utf8_cut::first_character;
+
+/// The character `c` at the front of a piece, which has this letter, with the marks behind it: their letter, and the character that
+/// follows; `None` where a mark is left to the steps, or no whole character follows.
+#[inline(always)]
+fn read_letter<W: Weights>(
+    query: &Query<'_, W>,
+    letters: &mut Letters,
+    piece: &[u8],
+    c: char,
+    letter: Letter,
+) -> Option<(Letter, Walked)>
+    requires c { (len_utf8 c ≤ length piece.now) × SpellsCharacter (take (len_utf8 c) piece.now) c }
+    requires letter { IsLetter (W.table query.now.table.now) query.now.pattern.now (c ∷ []) letter }
+    requires right { AreLetters (W.table query.now.table.now) query.now.pattern.now letters.old }
+    ensures within { IfSome result (λ r. r.1.len + len_utf8 r.1.next ≤ length piece.now) }
+    ensures next { IfSome result (λ r. SpellsCharacter (take (len_utf8 r.1.next) (drop r.1.len piece.now)) r.1.next) }
+    ensures letter { IfSome result (λ r. IsLetter (W.table query.now.table.now) query.now.pattern.now (r.1.next ∷ []) r.1.letter) }
+    ensures text { IfSome result (λ r. IsUtf8 (take r.1.len piece.now)) }
+    ensures begun { IfSome result (λ r. (others : List ℕ) × (chars (take r.1.len piece.now) ≡ c ∷ others)) }
+    ensures all { IfSome result (λ r. IsLetter (W.table query.now.table.now) query.now.pattern.now (chars (take r.1.len piece.now)) r.0) }
+    ensures right { AreLetters (W.table query.now.table.now) query.now.pattern.now letters.new }
+{
+    let mut all = letter;
+    let mut len = c.len_utf8();
+    'marks: loop {
+        let next = first_character(&piece[len..])?;
+        let following = letters.letter(query.table, query.pattern, next);
+        if !following.role.is_mark() {
+            return Some((
+                all,
+                Walked {
+                    len,
+                    next,
+                    letter: following,
+                },
+            ));
+        }
+        all = all.with_mark(following)?;
+        len += next.len_utf8();
+    }
+}
+
+/// The character that follows `c`, or its marks, at the front of a piece; `None` where a unit may reach to it from them.
+fn next_apart<W: Weights>(
+    query: &Query<'_, W>,
+    letters: &mut Letters,
+    piece: &[u8],
+    c: char,
+    letter: Letter,
+) -> Option<Walked>
+    requires c { (len_utf8 c ≤ length piece.now) × SpellsCharacter (take (len_utf8 c) piece.now) c }
+    requires letter { IsLetter (W.table query.now.table.now) query.now.pattern.now (c ∷ []) letter }
+    requires right { AreLetters (W.table query.now.table.now) query.now.pattern.now letters.old }
+    ensures within { IfSome result (λ w. w.len + len_utf8 w.next ≤ length piece.now) }
+    ensures next { IfSome result (λ w. SpellsCharacter (take (len_utf8 w.next) (drop w.len piece.now)) w.next) }
+    ensures letter { IfSome result (λ w. IsLetter (W.table query.now.table.now) query.now.pattern.now (w.next ∷ []) w.letter) }
+    ensures right { AreLetters (W.table query.now.table.now) query.now.pattern.now letters.new }
+{
+    let (all, walked) = read_letter(query, letters, piece, c, letter)?;
+    if is_next(&all, &walked.letter) {
+        Some(walked)
+    } else {
+        None
+    }
+}
+
+/// Whether it is worth while to begin with a character of this letter at the front of a piece: no unit reaches to it, the next one does
+/// not begin after `reach`, and no unit is seen to reach from it or from the next one to what follows.
+fn can_begin<W: Weights>(
+    query: &Query<'_, W>,
+    letters: &mut Letters,
+    piece: &[u8],
+    first: char,
+    letter: Letter,
+    reach: usize,
+) -> bool
+    requires first { (len_utf8 first ≤ length piece.now) × SpellsCharacter (take (len_utf8 first) piece.now) first }
+    requires letter { IsLetter (W.table query.now.table.now) query.now.pattern.now (first ∷ []) letter }
+    requires right { AreLetters (W.table query.now.table.now) query.now.pattern.now letters.old }
+    ensures apart { result ≡ true → letter.is_apart ≡ true }
+    ensures right { AreLetters (W.table query.now.table.now) query.now.pattern.now letters.new }
+{
+    if !letter.is_apart || first.len_utf8() > reach {
+        return false;
+    }
+    let Some(second) = next_apart(query, letters, piece, first, letter) else {
+        return false;
+    };
+    let piece = &piece[second.len..];
+    next_apart(query, letters, piece, second.next, second.letter).is_some()
+}
+
+impl Finder {
+    ghost use Rattle.std.specs.Prelude.{◌≡◌, ℕ, ◌+◌, ◌≤◌, List, [], ◌∷◌, ◌++◌, length, take, drop, true, false};
+    ghost use Rattle.std.specs.Char.{len_utf8};
+    ghost use Rattle.std.specs.Str.{chars, IsUtf8};
+    ghost use Rattle.std.specs.List.{FoldsTo};
+    ghost use Rattle.utf8_cut.specs.Sequences.{SpellsCharacter};
+    ghost use Rattle.nfd_points.specs.Points.{byte_len, points_of, points_from, begins_with_starter};
+    ghost use Rattle.collation_table.specs.Table.{longest_mapped as longest_key_of};
+    ghost use Rattle.collation_elements.specs.Units.{units};
+    ghost use Rattle.collation_letters.specs.Letters.{IsLetter};
+    ghost use Rattle.collation_search.specs.Caches.{AreRight};
+    ghost use Rattle.collation_matches.specs.GoodPrefix.{most_bytes};
+    ghost use Rattle.collation_search.specs.Apart.{AreApart, HasWalkedOn, IsPaused};
+    ghost use Rattle.collation_search.specs.Early.{IsCutUpTo};
+    ghost use Rattle.collation_search.specs.Finding.{FinderStandsFor};
+
+    /// Takes characters at the front of a piece, which stands at a byte offset, and calls the sink once for each range that became
+    /// known, in order. It answers how many bytes it took: those up to the first character that it can't take so, or that begins
+    /// after `reach`; none where that is the first one. `found` is room that it uses.
+    pub(crate) fn take_letters<W: Weights, F: FnMut(u64, u64)>(
+        &mut self,
+        query: &Query<'_, W>,
+        cache: &mut Cache,
+        piece: &[u8],
+        reach: usize,
+        offset: u64,
+        found: &mut Found,
+        sink: &mut F,
+    ) -> usize
+        requires open { self.old.window.has_ended ≡ false }
+        requires longest { self.old.longest_key ≡ longest_key_of (W.table query.now.table.now) }
+        requires pattern_len { self.old.pattern_len ≡ length query.now.pattern.now.keys }
+        requires right { AreRight (W.table query.now.table.now) query.now.pattern.now cache.old }
+        requires fits { offset + length piece.now ≤ most_bytes }
+        requires callable { F.IsAlwaysCallable sink.old }
+        ensures within { result ≤ length piece.now }
+        ensures text { IsUtf8 (take result piece.now) }
+        ensures taken { (ranges : List (ℕ × ℕ)) × FoldsTo (λ f range g. F.step f range.0 range.1 tt g) sink.old ranges sink.new
+            × ((taken : List ℕ) (handed : List (ℕ × ℕ)) → FinderStandsFor (W.table query.now.table.now) query.now.pattern.now self.old taken handed
+            → offset ≡ byte_len taken
+            → FinderStandsFor (W.table query.now.table.now) query.now.pattern.now self.new (taken ++ chars (take result piece.now)) (handed ++ ranges)) }
+        // units may be cut early, but only before a character that does not begin after `reach`
+        ensures left { (place : ℕ) (taken : List ℕ) (handed : List (ℕ × ℕ)) → FinderStandsFor (W.table query.now.table.now) query.now.pattern.now self.old taken handed
+            → offset ≡ byte_len taken → offset + reach ≤ place → IsCutUpTo (W.table query.now.table.now) place taken self.old.window.points
+            → IsCutUpTo (W.table query.now.table.now) place (taken ++ chars (take result piece.now)) self.new.window.points }
+        ensures right { AreRight (W.table query.now.table.now) query.now.pattern.now cache.new }
+        ensures open { self.new.window.has_ended ≡ false }
+        ensures longest { self.new.longest_key ≡ self.old.longest_key }
+        ensures pattern_len { self.new.pattern_len ≡ self.old.pattern_len }
+        ensures select { self.new.walk.select ≡ self.old.walk.select }
+        ensures callable { F.IsAlwaysCallable sink.new }
+    {
+        laws_of_points();
+        laws_of_ordering();
+        laws_of_faults();
+        laws_of_decompositions();
+        units_stay_apart();
+        let Some(first) = first_character(piece) else {
+            return 0;
+        };
+        let letter = cache.letters.letter(query.table, query.pattern, first);
+        if !can_begin(query, &mut cache.letters, piece, first, letter, reach) {
+            return 0;
+        }
+        self.pause(query, found);
+        hand_out(found.as_slice(), sink);
+        let (at, next) = self.walk_apart(query, cache, piece, first, letter, reach, offset, sink);
+        found.clear();
+        // where no point waits no character is at fault
+        let _ = self.take(query.table, query.pattern, next, offset + at as u64, found);
+        hand_out(found.as_slice(), sink);
+        at + next.len_utf8()
+    }
+
+    /// Cuts all that it holds, as if the text ended here, and puts the ranges that became known into `found`, which is emptied before.
+    fn pause<W: Weights>(&mut self, query: &Query<'_, W>, found: &mut Found)
+        requires open { self.old.window.has_ended ≡ false }
+        requires longest { self.old.longest_key ≡ longest_key_of (W.table query.now.table.now) }
+        requires pattern_len { self.old.pattern_len ≡ length query.now.pattern.now.keys }
+        ensures paused { (taken : List ℕ) (ranges : List (ℕ × ℕ)) → FinderStandsFor (W.table query.now.table.now) query.now.pattern.now self.old taken ranges
+            → IsPaused (W.table query.now.table.now) query.now.pattern.now self.new.reorder self.new.window self.new.weigher self.new.walk taken (ranges ++ found.new.items) }
+        ensures open { self.new.window.has_ended ≡ false }
+        ensures none_waits { self.new.reorder.held ≡ [] }
+        ensures longest { self.new.longest_key ≡ self.old.longest_key }
+        ensures pattern_len { self.new.pattern_len ≡ self.old.pattern_len }
+        ensures select { self.new.walk.select ≡ self.old.walk.select }
+    {
+        found.clear();
+        self.end(query.table, query.pattern, found);
+        self.window.clear();
+    }
+
+    /// Walks over characters at the front of a piece, of which the first is `first`, as long as no unit reaches from one to the next,
+    /// and that does not begin after `reach`. It answers how many bytes these have, and the character that follows.
+    fn walk_apart<W: Weights, F: FnMut(u64, u64)>(
+        &mut self,
+        query: &Query<'_, W>,
+        cache: &mut Cache,
+        piece: &[u8],
+        first: char,
+        first_letter: Letter,
+        reach: usize,
+        offset: u64,
+        sink: &mut F,
+    ) -> (usize, char)
+        requires first { (len_utf8 first ≤ length piece.now) × SpellsCharacter (take (len_utf8 first) piece.now) first }
+        requires letter { IsLetter (W.table query.now.table.now) query.now.pattern.now (first ∷ []) first_letter }
+        requires begins { begins_with_starter (points_of offset first) ≡ true }
+        requires pattern_len { self.old.pattern_len ≡ length query.now.pattern.now.keys }
+        requires right { AreRight (W.table query.now.table.now) query.now.pattern.now cache.old }
+        requires fits { offset + length piece.now ≤ most_bytes }
+        requires callable { F.IsAlwaysCallable sink.old }
+        ensures within { result.0 + len_utf8 result.1 ≤ length piece.now }
+        ensures reach { result.0 ≤ reach }
+        ensures next { SpellsCharacter (take (len_utf8 result.1) (drop result.0 piece.now)) result.1 }
+        ensures text { IsUtf8 (take result.0 piece.now) }
+        ensures begun { (others : List ℕ) × (chars (take result.0 piece.now) ++ result.1 ∷ [] ≡ first ∷ others) }
+        ensures apart { AreApart (W.table query.now.table.now) offset (chars (take result.0 piece.now)) result.1 }
+        ensures walked { (ranges : List (ℕ × ℕ)) × FoldsTo (λ f range g. F.step f range.0 range.1 tt g) sink.old ranges sink.new
+            × HasWalkedOn (W.table query.now.table.now) query.now.pattern.now self.old.weigher self.old.walk self.new.weigher self.new.walk
+            (units (W.table query.now.table.now) (points_from offset (chars (take result.0 piece.now)))) ranges }
+        ensures right { AreRight (W.table query.now.table.now) query.now.pattern.now cache.new }
+        ensures window { self.new.window ≡ self.old.window }
+        ensures reorder { self.new.reorder ≡ self.old.reorder }
+        ensures longest { self.new.longest_key ≡ self.old.longest_key }
+        ensures pattern_len { self.new.pattern_len ≡ self.old.pattern_len }
+        ensures select { self.new.walk.select ≡ self.old.walk.select }
+        ensures callable { F.IsAlwaysCallable sink.new }
+    {
+        let place = Place {
+            standing: self.walk.standing(),
+            variable: flag_word(self.weigher.after_variable()),
+        };
+        let from = Walked {
+            len: 0,
+            next: first,
+            letter: first_letter,
+        };
+        let (walked, place) = walk_letters(
+            &mut self.walk,
+            query,
+            cache,
+            piece,
+            from,
+            reach,
+            offset,
+            place,
+            sink,
+        );
+        self.walk.stand(place.standing);
+        let pattern = query.pattern;
+        self.weigher = Weigher::restore(pattern.strength(), pattern.variable(), place.variable > 0);
+        (walked.len, walked.next)
+    }
+}

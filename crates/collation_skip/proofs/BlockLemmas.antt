@@ -1,0 +1,80 @@
+-- What was passed of a text of ASCII, up to behind a character with a key that the pattern does not have.
+use Rattle.std.specs.Char.{len_utf8}
+use Rattle.std.specs.Str.{IsAscii}
+use Rattle.std.proofs.Common.{◌≡◌, ◌∙◌, ℕ, suc, ◌+◌, ◌≤◌, ◌<◌, true, false, List, [], ◌∷◌, ◌++◌, length, take, get_or, inl, inr, sym, ap, subst, arith}
+use Rattle.std.proofs.lemmas.Bool.{cases_lt}
+use Rattle.std.proofs.lemmas.List.{get_or-take, get_or_past, length-take-le}
+use Rattle.nfd_points.specs.declared.points.Point.{Point}
+use Rattle.nfd_points.specs.Points.{byte_len, points_from, begins_with_starter}
+use Rattle.nfd_points.specs.Laws.{AsciiIsItself}
+use Rattle.collation_table.specs.Table.{TableMap}
+use Rattle.collation_elements.specs.declared.keys.Item.{Item}
+use Rattle.collation_elements.specs.declared.keys.Item.TheVariants.{ClusterStart}
+use Rattle.collation_elements.specs.Units.{units}
+use Rattle.collation_elements.specs.Weighing.{after_units}
+use Rattle.collation_pattern.specs.Compiled.{Compiled}
+use Rattle.collation_letters.specs.declared.letter.Letter.{Letter}
+use Rattle.collation_letters.specs.Letters.{begins_cluster, is_mark, flag_after, keys_alone, IsLetter}
+use Rattle.collation_letters.specs.Symbols.{AreLastSymbols, SymbolsAreListed, some_symbol}
+use Rattle.collation_letters.proofs.ApartLemmas.{from_first}
+use Rattle.collation_letters.proofs.CharacterLemmas.{points_are_shifted}
+use Rattle.collation_letters.proofs.LetterApart.{plain-known}
+use Rattle.collation_skip.specs.declared.classes.Classes.{Classes}
+use Rattle.collation_skip.specs.Blocks.{AreClassesRight, IsClean, Passes}
+use Rattle.collation_skip.specs.Passed.{IsPassed}
+use Rattle.collation_skip.proofs.ClassLemmas.{begun_items, letter-items, letter-symbols}
+use Rattle.collation_skip.proofs.AsciiLemmas.{RunLaws, possible, ascii-at, bytes-len, run_items, run-to, run-items-more, quiet-more, front-one}
+
+-- ---- bytes of ASCII
+
+pub ascii-take : (bytes : List ℕ) (n : ℕ) → n ≤ length bytes → ((i : ℕ) → i < n → get_or bytes i 0 < 128) → IsAscii (take n bytes)
+ascii-take bytes n within ascii i = elim (cases_lt i n) [
+  | inl less ↦ subst (λ b. b < 128) (sym (get_or-take n bytes i 0 less)) (ascii i less)
+  | inr past ↦ (let long = length-take-le n bytes within in let e = get_or_past (take n bytes) i 0 (omega (arith, long, past)) in omega (arith, e))
+]
+
+begins-first : AsciiIsItself → (start : ℕ) (bytes : List ℕ) (n : ℕ) → 0 < length bytes → get_or bytes 0 0 < 128 → begins_with_starter (points_from start (take (suc n) bytes)) ≡ true
+begins-first law start [] n some less = absurd (omega (arith, some))
+begins-first law start (b ∷ bytes) n some less =
+    ap begins_with_starter (from_first start b (take n bytes) ∙ ap (λ (ps : List Point). ps ++ points_from (start + len_utf8 b) (take n bytes)) (law start b less))
+
+-- ---- what was passed
+
+pub passed-of : RunLaws → SymbolsAreListed → (table : TableMap) (pattern : Compiled) (classes : Classes) → AreClassesRight table pattern classes → (bytes : List ℕ) (total i : ℕ) → Passes classes bytes total → suc i < total → (l : Letter) →
+    IsLetter table pattern (get_or bytes i 0 ∷ []) l → IsClean l → (start : ℕ) → IsPassed table pattern start (start + i) (take (suc i) bytes) (get_or bytes (suc i) 0)
+passed-of laws listed table pattern classes rights bytes total i p less l h clean start =
+    let here : i < total = omega (arith, less) in
+    let long = p.within in
+    let within : i < length bytes = omega (arith, long, less) in
+    let c = get_or bytes i 0 in
+    let run = run-to laws table pattern classes rights start bytes total i p here in
+    let more = run-to laws table pattern classes rights start bytes total (suc i) p less in
+    let at = start + byte_len (take i bytes) in
+    let us = units table (points_from start (take i bytes)) in
+    let flag = after_units table pattern.variable false us in
+    let may = possible table pattern.variable us in
+    let both = run-items-more laws table pattern start bytes i within run.is_next.ends in
+    let I = run_items table pattern start bytes i in
+    let known = plain-known l.role clean.0 in
+    let said = h.plain clean.0 in
+    let keys = keys_alone table pattern (points_from 0 (c ∷ [])) flag in
+    let counted = bytes-len bytes i (omega (arith, within)) (λ j lower. ascii-at classes bytes total j p (omega (arith, lower, here))) in
+    let same : at ≡ start + i = omega (arith, counted) in
+    let items = letter-items laws.shifted table pattern c l flag at known may h ∙ ap (λ b. begun_items b at keys) (ap begins_cluster clean.0) ∙ ap (λ q. begun_items true q keys) same in
+    let place = rights.place in
+    let state = run.state in
+    record {
+      begins = begins-first laws.ascii start bytes i (omega (arith, within)) (p.ascii (omega (arith, less)));
+      is_next = more.is_next;
+      before = I;
+      keys = keys;
+      items = both.0 ∙ ap (λ (is : List Item). I ++ is) items;
+      flag =
+          both.1 ∙ ap (λ (ps : List Point). after_units table pattern.variable flag (units table ps)) (points_are_shifted laws.shifted at (c ∷ []))
+          ∙ ((h.known known).items flag may).flag_is at ∙ ap (λ r. flag_after r flag) clean.0;
+      quiet = quiet-more pattern.keys (start + i) I (ClusterStart (start + i) ∷ []) run.quiet (omega (arith, state, place)) (front-one (start + i));
+      later = run.later;
+      after_start = omega arith;
+      foreign = subst (AreLastSymbols pattern.keys keys) (ap some_symbol clean.1)
+          (letter-symbols listed table pattern c l flag known (ap is_mark clean.0) said.1.0 said.1.1 may h);
+    }

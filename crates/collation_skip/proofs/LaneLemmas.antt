@@ -1,0 +1,101 @@
+-- What the operations on vectors of sixteen bytes hold at each lane.
+use Rattle.std.proofs.Common.{◌≡◌, ◌∙◌, ℕ, zero, suc, ◌*◌, ◌/◌, ◌%◌, ◌^◌, ◌<◌, min, List, [], ◌∷◌, Bool, false, not, cond, eqb, ltb, length, get_or, map, replicate, refl, sym, ap, arith, w8, bit_and, bit_or, Fits, inl, inr}
+use Rattle.std.specs.Simd.Lanes.{zip2, sel_l, mask_l, Each1}
+use Rattle.std.proofs.lemmas.Simd.{length-zip2, get_or-zip2, get_or-replicate, length-sel_l, get_or-sel_l, length-swz_l, get_or-swz_l_below, swz_l, SwzOk, SwzOk-from_below, Each1-from_get_or, Each1-get_or}
+use Rattle.std.proofs.lemmas.Bool.{cases_Bool, cond-true, cond-false, ltb-true, ltb-false, true≢false, eqb-true}
+use Rattle.std.proofs.lemmas.Nat.{and_mask, le_or_l, le_or_r}
+use Rattle.std.proofs.lemmas.Nat.Bits.{and_pow}
+use Rattle.collation_skip.specs.Lanes.{HasLanes}
+
+pub lanes-zip2 : (f : ℕ → ℕ → ℕ) (a b : List ℕ) → length a ≡ 16 → length b ≡ 16 → HasLanes (zip2 f a b) (λ k. f (get_or a k 0) (get_or b k 0))
+lanes-zip2 f a b p q = record {
+  long = length-zip2 f a b (p ∙ sym q) ∙ p;
+  each = λ k l. get_or-zip2 f a b k 0 0 0 (omega (arith, p, l)) (omega (arith, q, l));
+}
+
+pub lanes-splat : (f : ℕ → ℕ → ℕ) (a : List ℕ) (x : ℕ) → length a ≡ 16 → HasLanes (zip2 f a (replicate 16 x)) (λ k. f (get_or a k 0) x)
+lanes-splat f a x p =
+    let h = lanes-zip2 f a (replicate 16 x) p refl in
+    record { long = h.long; each = λ k l. h.each k l ∙ ap (f (get_or a k 0)) (get_or-replicate 16 k x 0 l) }
+
+-- ---- look-ups
+
+pub look-ok : (js : List ℕ) (f : ℕ → ℕ) → HasLanes js f → ((k : ℕ) → k < 16 → f k < 16) → SwzOk w8 16 16 0 js
+look-ok js f h small =
+    let long = h.long in
+    SwzOk-from_below w8 16 1 16 0 js refl (omega (arith, long)) (Each1-from_get_or (λ j. j < 16) js 0 (λ i l. at i (omega (arith, l, long))))
+  where
+    at : (i : ℕ) → i < 16 → get_or js i 0 < 16
+    at i l = let e = h.each i l in let s = small i l in omega (arith, e, s)
+
+pub look-lanes : (table js : List ℕ) (f : ℕ → ℕ) → HasLanes js f → ((k : ℕ) → k < 16 → f k < 16) → HasLanes (swz_l w8 16 table 0 js) (λ k. get_or table (f k) 0)
+look-lanes table js f h small =
+    let long = h.long in
+    record { long = length-swz_l w8 16 table 0 js ∙ long; each = λ k l. at k l }
+  where
+    at : (k : ℕ) → k < 16 → get_or (swz_l w8 16 table 0 js) k 0 ≡ get_or table (f k) 0
+    at k l =
+        let e = h.each k l in
+        let s = small k l in
+        let long = h.long in
+        get_or-swz_l_below w8 16 table 0 js k (omega (arith, l, long)) (omega (arith, e, s)) ∙ ap (λ j. get_or table j 0) (omega (arith, e, l))
+
+pub low-lanes : (v : List ℕ) → length v ≡ 16 → HasLanes (zip2 bit_and v (replicate 16 15)) (λ k. get_or v k 0 % 16)
+low-lanes v long = let h = lanes-splat bit_and v 15 long in record { long = h.long; each = λ k l. h.each k l ∙ and_mask (get_or v k 0) 4 }
+
+pub high-lanes : (v : List ℕ) → length v ≡ 16 → HasLanes (zip2 (λ (a b : ℕ). a / 2 ^ b) v (replicate 16 4)) (λ k. get_or v k 0 / 16)
+high-lanes v long = lanes-splat (λ (a b : ℕ). a / 2 ^ b) v 4 long
+
+pub high-small : (v : List ℕ) → length v ≡ 16 → Each1 (Fits w8) v → (k : ℕ) → k < 16 → get_or v k 0 / 16 < 16
+high-small v long fits k l = let f = (Each1-get_or (Fits w8) v k 0 (omega (arith, long, l)) fits).fits in omega (arith, f)
+
+pub low-small : (v : List ℕ) (k : ℕ) → k < 16 → get_or v k 0 % 16 < 16
+low-small v k l = omega arith
+
+-- ---- the lesser of two lanes
+
+least-is : (a b : ℕ) → cond (ltb a b) a b ≡ min a b
+least-is a b = elim (cases_Bool (ltb a b)) [
+  | inl less ↦ cond-true (ltb a b) a b less ∙ (let l = ltb-true a b less in omega (arith, l))
+  | inr not_less ↦ cond-false (ltb a b) a b not_less ∙ (let l = ltb-false a b not_less in omega (arith, l))
+]
+
+pub least-lanes : (a b : List ℕ) → length a ≡ 16 → length b ≡ 16 → HasLanes (sel_l (zip2 ltb a b) a b) (λ k. min (get_or a k 0) (get_or b k 0))
+least-lanes a b p q =
+    let long = length-zip2 ltb a b (p ∙ sym q) ∙ p in
+    record {
+      long = length-sel_l (zip2 ltb a b) a b (long ∙ sym p) (long ∙ sym q) ∙ long;
+      each = λ k l.
+          get_or-sel_l (zip2 ltb a b) a b k 0 (omega (arith, long, l)) (omega (arith, p, l)) (omega (arith, q, l))
+          ∙ ap (λ t. cond t (get_or a k 0) (get_or b k 0)) (get_or-zip2 ltb a b k 0 0 false (omega (arith, p, l)) (omega (arith, q, l)))
+          ∙ least-is (get_or a k 0) (get_or b k 0);
+    }
+
+-- ---- tests of all lanes
+
+-- where no bit of a mask is set, no lane passes
+pub mask-none : (p : ℕ → Bool) (xs : List ℕ) → mask_l (map p xs) ≡ 0 → (k : ℕ) → k < length xs → p (get_or xs k 0) ≡ false
+mask-none p [] none k less = absurd (omega (arith, less))
+mask-none p (x ∷ xs) none zero less = elim (cases_Bool (p x)) [
+  | inl yes' ↦ absurd (let e = cond-true {A = ℕ} (p x) 1 0 yes' in omega (arith, e, none))
+  | inr no' ↦ no'
+]
+mask-none p (x ∷ xs) none (suc k) less = mask-none p xs (omega (arith, none)) k (omega (arith, less))
+
+not-zero : (n : ℕ) → not (eqb n 0) ≡ false → n ≡ 0
+not-zero n h = elim (cases_Bool (eqb n 0)) [
+  | inl yes' ↦ eqb-true n 0 yes'
+  | inr no' ↦ absurd (true≢false (sym (ap not no') ∙ h))
+]
+
+pub zero-lanes : (v : List ℕ) → length v ≡ 16 → mask_l (map (λ x. not (eqb x 0)) v) ≡ 0 → (k : ℕ) → k < 16 → get_or v k 0 ≡ 0
+zero-lanes v long none k less = not-zero (get_or v k 0) (mask-none (λ x. not (eqb x 0)) v none k (omega (arith, long, less)))
+
+pub or-left : (a b : ℕ) → bit_or a b ≡ 0 → a ≡ 0
+or-left a b h = let l = le_or_l a b in omega (arith, l, h)
+
+pub or-right : (a b : ℕ) → bit_or a b ≡ 0 → b ≡ 0
+or-right a b h = let l = le_or_r a b in omega (arith, l, h)
+
+pub below-high : (n : ℕ) → n < 256 → bit_and n 128 ≡ 0 → n < 128
+below-high n small h = let e : bit_and n 128 ≡ (n / 128 % 2) * 128 = and_pow n 7 in omega (arith, e, h, small)

@@ -1,0 +1,12 @@
+pub mod ItemLemmas
+pub mod ReachedLemmas
+pub mod PassedLemmas
+pub mod TextLemmas
+pub mod RowLemmas
+pub mod DepthLemmas
+pub mod RunLemmas
+pub mod BorderSteps
+pub mod AsciiLemmas
+pub mod ClassLemmas
+pub mod LaneLemmas
+pub mod BlockLemmas

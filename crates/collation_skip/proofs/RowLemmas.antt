@@ -1,0 +1,124 @@
+-- Rows of states: that they don't overlap, and what stays where a cell is written or a row is added.
+use Rattle.std.proofs.Common.{◌≡◌, ◌∙◌, ℕ, zero, suc, ◌+◌, ◌*◌, ◌<◌, ◌≤◌, Bool, true, false, nat_lt, cond, List, [], ◌∷◌, ◌++◌, length, get_or, Some, slice_get, slice_index, inl, inr, refl, sym, ap, subst, arith, length-append}
+use Rattle.std.specs.Prelude.{slice_set}
+use Rattle.std.proofs.Math.Logic.{∥∥₁_map}
+use Rattle.std.proofs.lemmas.Bool.{cases_eq, cases_lt}
+use Rattle.std.proofs.lemmas.Option.{same_Some}
+use Rattle.std.proofs.lemmas.List.{get_or-set_same, get_or-set_other}
+use Rattle.collation_table.specs.Table.{TableMap}
+use Rattle.collation_pattern.specs.Compiled.{Compiled}
+use Rattle.collation_skip.specs.declared.automaton.Automaton.{Automaton}
+use Rattle.collation_skip.specs.declared.automaton.TheConstants.{ROW, STOP}
+use Rattle.collation_skip.specs.declared.state.State.{State}
+use Rattle.collation_skip.specs.Reached.{IsMove}
+use Rattle.collation_skip.specs.Rows.{AreRight, IsRow, parity}
+
+-- ---- elements of a list
+
+got-within : {A : Type 0} (xs : List A) (n : ℕ) (x : A) → slice_get xs n ≡ Some x → n < length xs
+got-within [] n x h = cc
+got-within (y ∷ xs) zero x h = omega arith
+got-within (y ∷ xs) (suc n) x h = let less = got-within xs n x h in omega (arith, less)
+
+got-more : {A : Type 0} (xs ys : List A) (n : ℕ) (x : A) → slice_get xs n ≡ Some x → slice_get (xs ++ ys) n ≡ Some x
+got-more [] ys n x h = cc
+got-more (z ∷ xs) ys zero x h = h
+got-more (z ∷ xs) ys (suc n) x h = got-more xs ys n x h
+
+pub got-last : {A : Type 0} (xs : List A) (x : A) → slice_get (xs ++ x ∷ []) (length xs) ≡ Some x
+got-last [] x = refl
+got-last (z ∷ xs) x = got-last xs x
+
+got-old : {A : Type 0} (xs : List A) (y : A) (n : ℕ) (x : A) → n < length xs → slice_get (xs ++ y ∷ []) n ≡ Some x → slice_get xs n ≡ Some x
+got-old [] y n x less h = absurd (omega (arith, less))
+got-old (z ∷ xs) y zero x less h = h
+got-old (z ∷ xs) y (suc n) x less h = got-old xs y n x (omega (arith, less)) h
+
+-- ---- rows
+
+parity-small : (s : State) → parity s ≤ 1
+parity-small s = by (nat_lt 0 s.before)
+  where
+    by : (b : Bool) → cond b 1 0 ≤ 1
+    by true = omega arith
+    by false = omega arith
+
+pub row-more : (a b : Automaton) (more : List State) → b.states.items ≡ a.states.items ++ more → (row : ℕ) (s : State) → IsRow a row s → IsRow b row s
+row-more a b more same row s h =
+    (h.0, ap (λ (l : List State). slice_get l h.0) same ∙ got-more a.states.items more h.0 s h.1, h.2)
+
+pub row-same : (a b : Automaton) → b.states.items ≡ a.states.items → (row : ℕ) (s : State) → IsRow a row s → IsRow b row s
+row-same a b same row s h = (h.0, ap (λ (l : List State). slice_get l h.0) same ∙ h.1, h.2)
+
+-- two rows that have a cell in common are one
+pub row-one : (a : Automaton) (row other byte byte' : ℕ) (s t : State) → IsRow a row s → IsRow a other t → byte < 256 → byte' < 256 → row + byte ≡ other + byte' → (row ≡ other) × ((byte ≡ byte') × (s ≡ t))
+row-one a row other byte byte' s t h k less less' same =
+    let p = parity-small s in
+    let q = parity-small t in
+    let one : h.0 ≡ k.0 = omega (arith, h.2, k.2, p, q, less, less', same) in
+    let states : s ≡ t = same_Some s t (sym h.1 ∙ ap (slice_get a.states.items) one ∙ k.1) in
+    let rows : row ≡ other = let r = ap parity states in omega (arith, h.2, k.2, one, r) in (rows, (omega (arith, rows, same), states))
+
+-- the cells of a row are there
+pub row-within : (table : TableMap) (pattern : Compiled) (a : Automaton) (row byte : ℕ) (s : State) → AreRight table pattern a → IsRow a row s → byte < 256 → row + byte < length a.cells.items
+row-within table pattern a row byte s right h less =
+    let p = parity-small s in
+    let n = got-within a.states.items h.0 s h.1 in
+    let long = right.len in
+    omega (arith, p, n, long, less, h.2)
+
+-- the same cells and states
+pub right-same : (table : TableMap) (pattern : Compiled) (a b : Automaton) → b.cells.items ≡ a.cells.items → b.states.items ≡ a.states.items → AreRight table pattern a → AreRight table pattern b
+right-same table pattern a b cells states right =
+    record {
+      len = ap (λ (l : List ℕ). length l) cells ∙ right.len ∙ ap (λ (l : List State). ROW * length l) (sym states);
+      cells = λ row byte from less h below.
+          let is : slice_index b.cells.items (row + byte) ≡ slice_index a.cells.items (row + byte) = ap (λ (l : List ℕ). get_or l (row + byte) 0) cells in
+          ∥∥₁_map (right.cells row byte from less (row-same b a (sym states) row from h) (subst (λ n. n < STOP) is below)) (λ m. (m.0, subst (λ n. IsRow b n m.0) (sym is) (row-same a b states _ m.0 m.1), m.2));
+    }
+
+-- ---- a cell is written
+
+pub right-set : (table : TableMap) (pattern : Compiled) (a b : Automaton) (row byte cell : ℕ) (from : State) → AreRight table pattern a → b.states.items ≡ a.states.items → b.cells.items ≡ slice_set a.cells.items (row + byte) cell →
+    length b.cells.items ≡ length a.cells.items → IsRow a row from → byte < 256 → (cell < STOP → ∥ ((to : State) × IsRow a cell to × IsMove table pattern from byte to) ∥₁) → AreRight table pattern b
+right-set table pattern a b row byte cell from right states cells long h less move =
+    record {
+      len = let old = right.len in let many = ap (λ (l : List State). length l) states in omega (arith, long, old, many);
+      cells = λ other byte' from' less' k below.
+          let k' = row-same b a (sym states) other from' k in
+          elim (cases_eq (other + byte') (row + byte)) [
+            | inl same ↦
+                let one = row-one a other row byte' byte from' from k' h less' less same in
+                let is : slice_index b.cells.items (other + byte') ≡ cell =
+                ap (λ (l : List ℕ). get_or l (other + byte') 0) cells ∙ ap (λ i. get_or (slice_set a.cells.items (row + byte) cell) i 0) same
+                ∙ get_or-set_same a.cells.items (row + byte) cell 0 (row-within table pattern a row byte from right h less) in
+                ∥∥₁_map (move (subst (λ n. n < STOP) is below)) (λ m. (m.0, subst (λ n. IsRow b n m.0) (sym is) (row-same a b states cell m.0 m.1), subst (λ (s : State). IsMove table pattern s byte' m.0) (sym one.1.1) (subst (λ i. IsMove table pattern from i m.0) (sym one.1.0) m.2)))
+            | inr other_cell ↦
+                let is : slice_index b.cells.items (other + byte') ≡ slice_index a.cells.items (other + byte') =
+                ap (λ (l : List ℕ). get_or l (other + byte') 0) cells ∙ get_or-set_other a.cells.items (row + byte) (other + byte') cell 0 other_cell in
+                ∥∥₁_map (right.cells other byte' from' less' k' (subst (λ n. n < STOP) is below)) (λ m. (m.0, subst (λ n. IsRow b n m.0) (sym is) (row-same a b states _ m.0 m.1), m.2))
+          ];
+    }
+
+-- ---- a row is added
+
+pub right-added : (table : TableMap) (pattern : Compiled) (a b : Automaton) (s : State) → AreRight table pattern a → b.states.items ≡ a.states.items ++ s ∷ [] → length b.cells.items ≡ ROW * (length a.states.items + 1) →
+    ((i : ℕ) → i < length a.cells.items → slice_index b.cells.items i ≡ slice_index a.cells.items i) →
+    ((i : ℕ) → length a.cells.items ≤ i → i < length b.cells.items → STOP ≤ slice_index b.cells.items i) → AreRight table pattern b
+right-added table pattern a b s right states long old new =
+    record {
+      len = let many = ap (λ (l : List State). length l) states ∙ length-append a.states.items (s ∷ []) in omega (arith, long, many);
+      cells = λ row byte from less h below.
+          let p = parity-small from in
+          let within = got-within b.states.items h.0 from h.1 in
+          let many = ap (λ (l : List State). length l) states ∙ length-append a.states.items (s ∷ []) in
+          let len = right.len in
+          elim (cases_lt h.0 (length a.states.items)) [
+            | inl less_number ↦
+                let k : IsRow a row from = (h.0, got-old a.states.items s h.0 from less_number (ap (λ (l : List State). slice_get l h.0) (sym states) ∙ h.1), h.2) in
+                let is = old (row + byte) (omega (arith, less_number, len, p, less, h.2)) in
+                ∥∥₁_map (right.cells row byte from less k (subst (λ n. n < STOP) is below)) (λ m. (m.0, subst (λ n. IsRow b n m.0) (sym is) (row-more a b (s ∷ []) states _ m.0 m.1), m.2))
+            | inr past ↦
+                let unknown = new (row + byte) (omega (arith, past, len, h.2)) (omega (arith, past, within, many, long, p, less, h.2)) in absurd (omega (arith, unknown, below))
+          ];
+    }

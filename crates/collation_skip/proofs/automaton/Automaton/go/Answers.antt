@@ -1,0 +1,72 @@
+use Rattle.std.proofs.Common.{◌+◌, inl, inr, sym, subst, arith}
+use Rattle.collation_skip.specs.Rows.{Stands}
+use Rattle.collation_skip.proofs.RunLemmas.{stands-grown, stands-learned}
+use Rattle.collation_skip.proofs.automaton.Automaton.go.Goals as goal
+
+pub moves-init : goal.moves-init
+moves-init g c =
+    let table = g.W.Weights.table c.args.table.now in
+    record {
+      right = c.first_row.ensures.right;
+      letters = c.first_row.ensures.letters;
+      stands = subst (λ n. Stands table c.args.pattern.now c.first_row.new.self c.args.piece.now n c.in_ok-row.row) (sym c.len_utf8.ensures.value) (c.in_ok-row.ensures.stands c.args.piece.now c.in_ok-first.ensures.some.1);
+      passed = λ some. absurd (omega (arith, some));
+    }
+
+pub run-cursor-requires-clause-right : goal.run-cursor-requires-clause-right
+run-cursor-requires-clause-right g c = c.moves.invariant.right
+
+pub run-cursor-requires-clause-stands : goal.run-cursor-requires-clause-stands
+run-cursor-requires-clause-stands g c = c.moves.invariant.stands
+
+pub run-cursor-requires-clause-passed : goal.run-cursor-requires-clause-passed
+run-cursor-requires-clause-passed g c = c.moves.invariant.passed
+
+pub returns-then-cursor-piece-clause-right : goal.returns-then-cursor-piece-clause-right
+returns-then-cursor-piece-clause-right g c = c.moves.invariant.right
+
+pub returns-then-cursor-piece-clause-letters : goal.returns-then-cursor-piece-clause-letters
+returns-then-cursor-piece-clause-letters g c = c.moves.invariant.letters
+
+pub learn-requires-clause-right : goal.learn-requires-clause-right
+learn-requires-clause-right g c = c.moves.invariant.right
+
+pub learn-requires-clause-letters : goal.learn-requires-clause-letters
+learn-requires-clause-letters g c = c.moves.invariant.letters
+
+pub returns-in_default-clause-passed : goal.returns-in_default-clause-passed
+returns-in_default-clause-passed g c = λ some.
+    let table = g.W.Weights.table c.args.table.now in
+    let at = c.run-cursor.result in
+    let passed = c.run-cursor.ensures.passed some in
+    (passed.0, stands-grown table c.args.pattern.now c.moves.self c.learn.new.self c.args.piece.now at.passed_at at.passed_row c.learn.ensures.grows passed.1)
+
+pub moves-smaller : goal.moves-smaller
+moves-smaller g c = omega (arith, c.moved-cursor.ensures.at, c.run-cursor.ensures.on, c.if-cursor-piece.false)
+
+pub moves-preserved : goal.moves-preserved
+moves-preserved g c =
+    let table = g.W.Weights.table c.args.table.now in
+    let pattern = c.args.pattern.now in
+    let piece = c.args.piece.now in
+    let at = c.run-cursor.result in
+    let now = c.moved-cursor.result in
+    let here : Stands table pattern c.learn.new.self piece (at.at + 1) c.in-Some.row =
+    stands-learned table pattern c.moves.self c.learn.new.self piece at.at at.row c.in-Some.row (omega (arith, c.if-cursor-piece.false)) c.in-Some.ensures.moves c.run-cursor.ensures.stands in
+    record {
+      right = c.learn.ensures.right;
+      letters = c.learn.ensures.letters;
+      stands = subst (λ n. Stands table pattern c.learn.new.self piece n now.row) (sym c.moved-cursor.ensures.at) (subst (Stands table pattern c.learn.new.self piece (at.at + 1)) (sym c.moved-cursor.ensures.row) here);
+      passed = λ some. elim c.moved-cursor.ensures.passed [
+        | inl old ↦
+            let passed = c.run-cursor.ensures.passed (omega (arith, some, old.0)) in (
+              omega (arith, old.0, passed.0),
+              subst (λ n. Stands table pattern c.learn.new.self piece n now.passed_row) (sym old.0)
+                  (subst (Stands table pattern c.learn.new.self piece at.passed_at) (sym old.1) (stands-grown table pattern c.moves.self c.learn.new.self piece at.passed_at at.passed_row c.learn.ensures.grows passed.1)),
+            )
+        | inr new ↦ (
+          omega (arith, new.0, c.if-cursor-piece.false),
+          subst (λ n. Stands table pattern c.learn.new.self piece n now.passed_row) (sym new.0) (subst (Stands table pattern c.learn.new.self piece (at.at + 1)) (sym new.1) here),
+        )
+      ];
+    }

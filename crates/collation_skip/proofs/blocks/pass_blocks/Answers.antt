@@ -1,0 +1,75 @@
+use Rattle.std.specs.Char.{IsScalar, len_utf8}
+use Rattle.std.proofs.Common.{◌≡◌, ◌∙◌, ℕ, zero, suc, ◌+◌, ◌<◌, nat_lt, true, List, [], ◌∷◌, length, take, drop, get_or, refl, sym, ap, subst, arith}
+use Rattle.std.proofs.lemmas.Bool.{cond-true, lt-ltb}
+use Rattle.std.proofs.lemmas.Str.{encode_ascii, len_utf8_ascii, IsUtf8-from_ascii, chars-IsAscii}
+use Rattle.utf8_cut.specs.Sequences.{SpellsCharacter}
+use Rattle.collation_letters.proofs.ApartLaws.{Laws}
+use Rattle.collation_skip.specs.Passed.{IsPassed}
+use Rattle.collation_skip.proofs.BlockLemmas.{ascii-take, passed-of}
+use Rattle.collation_skip.proofs.AsciiLemmas.{RunLaws, ascii-at}
+use Rattle.collation_skip.proofs.blocks.pass_blocks.Goals as goal
+
+-- the byte at a place by itself
+one-byte : (bytes : List ℕ) (i : ℕ) → i < length bytes → take 1 (drop i bytes) ≡ get_or bytes i 0 ∷ []
+one-byte [] i less = absurd (omega (arith, less))
+one-byte (b ∷ bytes) zero less = refl
+one-byte (b ∷ bytes) (suc i) less = one-byte bytes i (omega (arith, less))
+
+ascii_scalar : (c : ℕ) → c < 128 → IsScalar c
+ascii_scalar c less = cond-true (nat_lt c 0xD800) true _ (lt-ltb c 0xD800 (omega (arith, less)))
+
+spells-ascii : (bytes : List ℕ) (i : ℕ) → i < length bytes → get_or bytes i 0 < 128 → SpellsCharacter (take (len_utf8 (get_or bytes i 0)) (drop i bytes)) (get_or bytes i 0)
+spells-ascii bytes i less ascii =
+    let c = get_or bytes i 0 in (ascii_scalar c ascii, ap (λ n. take n (drop i bytes)) (len_utf8_ascii c ascii) ∙ one-byte bytes i less ∙ sym (encode_ascii c ascii))
+
+pub returns-clause-next : goal.returns-clause-next
+returns-clause-next g c =
+    let p = c.passed_len-len.ensures.passes in
+    let within = c.in_ok-start.ensures.within in
+    let long = p.within in
+    let start = c.in_ok-start.start in
+    let next : start + 1 ≡ suc start = omega arith in
+    subst (λ i. SpellsCharacter (take (len_utf8 (get_or c.args.piece.now i 0)) (drop i c.args.piece.now)) (get_or c.args.piece.now i 0)) (sym next)
+    (spells-ascii c.args.piece.now (suc start) (omega (arith, within, long)) (ascii-at c.args.classes.now c.args.piece.now c.passed_len-len.result (suc start) p within))
+
+-- what was passed is ASCII
+pub returns-clause-text : goal.returns-clause-text
+returns-clause-text g c =
+    let p = c.passed_len-len.ensures.passes in
+    let within = c.in_ok-start.ensures.within in
+    let long = p.within in
+    let start = c.in_ok-start.start in
+    IsUtf8-from_ascii (take (start + 1) c.args.piece.now) (ascii-take c.args.piece.now (start + 1) (omega (arith, within, long)) (λ i less. ascii-at c.args.classes.now c.args.piece.now c.passed_len-len.result i p (omega (arith, less, within))))
+
+pub returns-clause-passed : goal.returns-clause-passed
+returns-clause-passed g c = λ at.
+    let p = c.passed_len-len.ensures.passes in
+    let ok = c.in_ok-start.ensures in
+    let within = ok.within in
+    let long = p.within in
+    let start = c.in_ok-start.start in
+    let piece = c.args.piece.now in
+    let table = g.W.Weights.table c.args.table.now in
+    let pattern = c.args.pattern.now in
+    let next : suc start ≡ start + 1 = omega arith in
+    let points : Laws = record {
+      short = c.laws_of_decompositions.ensures.short;
+      in_order = c.laws_of_decompositions.ensures.in_order;
+      few = c.laws_of_faults.ensures.few;
+      anew = c.laws_of_faults.ensures.anew;
+      bytes = c.laws_of_points.ensures.bytes_of_parts;
+      parts = c.laws_of_points.ensures.parts;
+      at_starters = c.laws_of_ordering.ensures.at_starters;
+      stays = c.laws_of_ordering.ensures.stays;
+    } in
+    let laws : RunLaws = record {
+      points = points;
+      shifted = c.laws_of_points.ensures.shifted;
+      ascii = c.laws_of_decompositions.ensures.ascii;
+      before = c.units_stay_apart.ensures.before;
+      goes_on = c.weighers_go_on.ensures;
+    } in
+    let passed = passed-of laws c.laws_of_symbols.ensures.listed table pattern c.args.classes.now c.requires.classes piece c.passed_len-len.result start p within c.in_ok-start.field-0-1 ok.letter ok.clean at in
+    let ascii = ascii-take piece (start + 1) (omega (arith, within, long)) (λ i less. ascii-at c.args.classes.now piece c.passed_len-len.result i p (omega (arith, less, within))) in
+    subst (λ (cs : List ℕ). IsPassed table pattern at (at + start) cs (get_or piece (start + 1) 0)) (sym (chars-IsAscii (take (start + 1) piece) ascii))
+    (subst (λ n. IsPassed table pattern at (at + start) (take n piece) (get_or piece n 0)) next passed)

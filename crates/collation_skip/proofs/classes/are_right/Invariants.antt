@@ -1,0 +1,10 @@
+use Rattle.std.specs.Prelude.{◌<◌, ℕ}
+use Rattle.collation_letters.specs.Store.{AreLetters}
+use Rattle.collation_skip.specs.Blocks.{IsClassRight}
+use Rattle.collation_skip.proofs.classes.are_right.Given as goal
+
+abbrev pub invariant-loop-byte : goal.invariant-loop-byte
+invariant-loop-byte g l = record {
+  right : AreLetters (g.W.Weights.table l.table) l.pattern l.letters;
+  each : (c : ℕ) → c < l.byte → IsClassRight (g.W.Weights.table l.table) l.pattern l.classes c;
+}

@@ -1,0 +1,120 @@
+-- Text of ASCII that a search passes in blocks of bytes: the classes of bytes, and what they say of their characters.
+use Rattle.std.specs.Prelude.{◌≡◌, ◌≢◌, ℕ, suc, ◌-◌, ◌/◌, ◌%◌, ◌<◌, ◌≤◌, min, Bool, false, List, [], ◌∷◌, ◌++◌, length, slice_get, slice_index, Some, bit_and}
+use Rattle.std.specs.Option.{ForSome}
+use Rattle.nfd_points.specs.Points.{points_from}
+use Rattle.collation_table.specs.Table.{TableMap}
+use Rattle.collation_elements.specs.declared.keys.Key.{Key}
+use Rattle.collation_elements.specs.declared.keys.Item.{Item}
+use Rattle.collation_elements.specs.declared.keys.Item.TheVariants.{ClusterStart}
+use Rattle.collation_elements.specs.Items.{items as items_of}
+use Rattle.collation_elements.specs.ItemParts.{item_keys}
+use Rattle.collation_elements.specs.Units.{units}
+use Rattle.collation_pattern.specs.Border.{border}
+use Rattle.collation_pattern.specs.Compiled.{Compiled}
+use Rattle.collation_letters.specs.declared.letter.Letter.{Letter}
+use Rattle.collation_letters.specs.declared.letter.Role.TheVariants.{Plain, Steps}
+use Rattle.collation_letters.specs.declared.symbols.TheConstants.{NO_SYMBOL}
+use Rattle.collation_letters.specs.Letters.{AreApart, AreClosed, IsPossible, is_mark}
+use Rattle.collation_letters.specs.Symbols.{IsSymbol}
+use Rattle.collation_skip.specs.declared.ascii.AsciiBlocks.{AsciiBlocks}
+use Rattle.collation_skip.specs.declared.classes.Classes.{Classes}
+use Rattle.collation_skip.specs.declared.kinds.Kind.{Kind}
+use Rattle.collation_skip.specs.declared.classes.TheConstants.{COLUMNS}
+
+-- ---- sets of bytes
+
+-- Not 0 where the byte is in a set of ASCII: bit h of the set's number l says so of the byte 16 h + l.
+abbrev pub in_set : List ℕ → ℕ → ℕ
+in_set set byte = bit_and (slice_index set (byte % 16)) (slice_index COLUMNS (byte / 16))
+
+-- ---- what keys do to the number of the pattern's keys that have matched
+
+-- where at most `from` of them have matched before these keys, at most `to` have matched after them
+abbrev pub Carry : List Key → ℕ → ℕ → List Key → Type 0
+Carry pattern from to keys = (before : List Key) → border pattern before ≤ from → border pattern (before ++ keys) ≤ to
+
+-- the items of a character that stands at an offset
+abbrev pub items_at : TableMap → Compiled → Bool → ℕ → ℕ → List Item
+items_at table pattern after start c = items_of table pattern.strength pattern.variable after (units table (points_from start (c ∷ [])))
+
+-- the same of the keys of a character, wherever it stands
+abbrev pub Carries : TableMap → Compiled → ℕ → ℕ → ℕ → Type 0
+Carries table pattern c from to =
+    (after : Bool) → IsPossible pattern.variable after → (start : ℕ) → Carry pattern.keys from to (item_keys (items_at table pattern after start c))
+
+-- a cluster starts before the first of these items, if one starts there, at this offset
+abbrev pub StartsInFront : ℕ → List Item → Type 0
+StartsInFront start items = (before more : List Item) (at : ℕ) → items ≡ before ++ ClusterStart at ∷ more → (before ≡ []) × (at ≡ start)
+
+-- no cluster starts inside the character
+abbrev pub IsWhole : TableMap → Compiled → ℕ → Type 0
+IsWhole table pattern c = (after : Bool) → IsPossible pattern.variable after → (start : ℕ) → StartsInFront start (items_at table pattern after start c)
+
+-- ---- classes
+
+-- how many of the pattern's keys may have matched after a character of a text that is passed: one more than the place, or fewer
+-- where these are all
+abbrev pub most : List Key → ℕ → ℕ
+most pattern place = min (suc place) (length pattern - 1)
+
+-- the letter is not left to the steps, begins with a starter, and has one symbol at most
+pub record IsLone (l : Letter) : Type 0 where
+  pub known : l.role ≢ Steps
+  pub starter : is_mark l.role ≡ false
+  pub first : l.symbols.first ≡ NO_SYMBOL
+  pub second : l.symbols.second ≡ NO_SYMBOL
+
+-- no key with this symbol, if it is one, stands at the place of the pattern
+abbrev pub IsNotAt : List Key → ℕ → ℕ → Type 0
+IsNotAt pattern symbol place = symbol < NO_SYMBOL → (key : Key) → IsSymbol pattern key symbol → slice_get pattern place ≢ Some key
+
+-- What is known of a character where some things hold of it: that it may be passed; that its last key is not the pattern's at the
+-- place; that it has a key, and its last one is not the pattern's behind the place; that no unit reaches out of it, or into it.
+pub record Says (table : TableMap) (pattern : Compiled) (place c : ℕ) (Passable Other NotLater Closed Apart : Type 0) : Type 0 where
+  pub whole : Passable → IsWhole table pattern c
+  pub any : Passable → Carries table pattern c place (most pattern.keys place)
+  pub other : Passable → Other → Carries table pattern c place place
+  pub behind : Passable → NotLater → Carries table pattern c (most pattern.keys place) (most pattern.keys place)
+  pub back : Passable → Other → NotLater → Carries table pattern c (most pattern.keys place) place
+  pub closed : Closed → AreClosed table (points_from 0 (c ∷ []))
+  pub apart : Apart → AreApart table (points_from 0 (c ∷ []))
+
+-- the classes say what is so of a character of ASCII, by the sets where its byte is not
+abbrev pub IsClassRight : TableMap → Compiled → Classes → ℕ → Type 0
+IsClassRight table pattern classes c =
+    Says table pattern classes.place c (in_set classes.halt c ≡ 0) (in_set classes.key c ≡ 0) (in_set classes.later c ≡ 0) (in_set classes.joins c ≡ 0) (in_set classes.inner c ≡ 0)
+
+-- and so does a kind, by what it is not
+abbrev pub IsOfKind : TableMap → Compiled → ℕ → ℕ → Kind → Type 0
+IsOfKind table pattern place c kind =
+    Says table pattern place c (kind.halt ≡ false) (kind.key ≡ false) (kind.later ≡ false) (kind.joins ≡ false) (kind.inner ≡ false)
+
+-- the classes of all characters of ASCII are right, for a place of the pattern
+pub record AreClassesRight (table : TableMap) (pattern : Compiled) (classes : Classes) : Type 0 where
+  pub place : classes.place < length pattern.keys
+  pub each : (c : ℕ) → c < 128 → IsClassRight table pattern classes c
+
+-- so are those that were chosen, if any were
+abbrev pub AreBlocksRight : TableMap → Compiled → AsciiBlocks → Type 0
+AreBlocksRight table pattern blocks = ForSome blocks.classes (AreClassesRight table pattern)
+
+-- ---- text that passes
+
+-- A byte passes behind another: it is ASCII and does not halt, the two are not a key and a later one, and no unit reaches from one to
+-- the other.
+pub record PassesBehind (classes : Classes) (before byte : ℕ) : Type 0 where
+  pub ascii : byte < 128
+  pub going : in_set classes.halt byte ≡ 0
+  pub keys : min (in_set classes.key before) (in_set classes.later byte) ≡ 0
+  pub units : min (in_set classes.joins before) (in_set classes.inner byte) ≡ 0
+
+-- the first n bytes pass: the first of them does not halt, and each other one passes behind the one before
+pub record Passes (classes : Classes) (bytes : List ℕ) (n : ℕ) : Type 0 where
+  pub within : n ≤ length bytes
+  pub ascii : 0 < n → slice_index bytes 0 < 128
+  pub going : 0 < n → in_set classes.halt (slice_index bytes 0) ≡ 0
+  pub each : (i : ℕ) → suc i < n → PassesBehind classes (slice_index bytes i) (slice_index bytes (suc i))
+
+-- the letter is a cluster out of which no unit reaches, with a last key that the pattern does not have
+abbrev pub IsClean : Letter → Type 0
+IsClean l = (l.role ≡ Plain) × (l.symbols.third ≡ 0)

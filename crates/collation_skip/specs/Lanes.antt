@@ -1,0 +1,7 @@
+-- What a vector of sixteen bytes holds.
+use Rattle.std.specs.Prelude.{◌≡◌, ◌<◌, ℕ, List, length, slice_index}
+
+-- lane k holds f k
+pub record HasLanes (v : List ℕ) (f : ℕ → ℕ) : Type 0 where
+  pub long : length v ≡ 16
+  pub each : (k : ℕ) → k < 16 → slice_index v k ≡ f k

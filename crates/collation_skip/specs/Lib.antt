@@ -1,0 +1,7 @@
+pub mod Passed
+pub mod BegunBytes
+pub mod Reached
+pub mod Rows
+pub mod Blocks
+pub mod Lanes
+pub mod Skips

@@ -1,0 +1,10 @@
+-- What passes by text holds of a table and a pattern.
+use Rattle.collation_table.specs.Table.{TableMap}
+use Rattle.collation_pattern.specs.Compiled.{Compiled}
+use Rattle.collation_skip.specs.declared.skip.Skip.{Skip}
+use Rattle.collation_skip.specs.Blocks.{AreBlocksRight}
+use Rattle.collation_skip.specs.Rows.{AreRight}
+
+-- the moves of the automaton and the classes of ASCII are right
+abbrev pub IsSkipRight : TableMap → Compiled → Skip → Type 0
+IsSkipRight table pattern skip = AreRight table pattern skip.automaton × AreBlocksRight table pattern skip.blocks

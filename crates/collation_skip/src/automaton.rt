@@ -1,0 +1,254 @@
+//! The automaton over bytes: its table of moves, which it makes when they are first met, and the run over a piece.
+//!
+//! A state has a row of cells, one for each byte: the row of the state to which the byte leads, or one of the two numbers above all
+//! rows. A row is named by the index of its first cell, so that a move is one addition and one look-up. Whether the text may be passed
+//! by up to the last character is seen by the row alone: it is odd then.
+ghost use Rattle.std.specs.Prelude.{◌≡◌, ◌⊎◌, ◌+◌, ◌-◌, ◌^◌, ◌<◌};
+
+use crate::passed::Passed;
+use crate::state::State;
+use collation_letters::Letters;
+use collation_pattern::Pattern;
+use collation_table::Weights;
+use nfd_points::laws::laws_of_points;
+use std::alloc::Global;
+use utf8_cut::first_character;
+
+/// How far apart the rows of even and of odd states are.
+pub(crate) const ROW: usize = 258;
+
+/// A cell where the automaton stops. Greater than each row.
+pub(crate) const STOP: u32 = 0xFFFF_FFFE;
+
+/// A cell whose move was not met.
+pub(crate) const UNKNOWN: u32 = 0xFFFF_FFFF;
+
+/// An automaton of a pattern's letters.
+#[derive(Drop)]
+pub struct Automaton {
+    pub(crate) cells: Vec<u32>,
+    pub(crate) states: Vec<State>,
+    /// Numbers of states at the places of their hashes, or after them. A state is compared before its number is used.
+    pub(crate) places: Vec<u32>,
+    pub(crate) alloc: Global,
+}
+
+/// Where a run over a piece stands.
+#[derive(Clone, Copy)]
+struct Cursor {
+    /// How many bytes of the piece were taken, and the row then.
+    at: usize,
+    row: usize,
+    /// The same where the text may be passed by up to the last character; 0 before it could.
+    passed_at: usize,
+    passed_row: usize,
+}
+
+impl Automaton {
+    ghost use Rattle.std.specs.Prelude.{◌≡◌, ◌+◌, ◌<◌, ◌≤◌, ◌∷◌, [], ℕ, List, length, take, drop, IfSome};
+    ghost use Rattle.std.specs.Char.{len_utf8};
+    ghost use Rattle.std.specs.Str.{chars, IsUtf8};
+    ghost use Rattle.utf8_cut.specs.Sequences.{SpellsCharacter};
+    ghost use Rattle.collation_table.specs.Table.{TableMap};
+    ghost use Rattle.collation_pattern.specs.Compiled.{Compiled};
+    ghost use Rattle.collation_letters.specs.Letters.{IsLetter};
+    ghost use Rattle.collation_letters.specs.Store.{AreLetters};
+    ghost use Rattle.collation_skip.specs.Passed.{IsPassed};
+    ghost use Rattle.collation_skip.specs.Reached.{HasReached, IsMove};
+    ghost use Rattle.collation_skip.specs.Rows.{AreRight, IsRow, Stands};
+
+    /// No state is known yet. Takes no memory.
+    pub fn new(alloc: Global) -> Automaton
+        ensures { (table : TableMap) (pattern : Compiled) → AreRight table pattern result }
+    {
+        Automaton {
+            cells: Vec::new(alloc),
+            states: Vec::new(alloc),
+            places: Vec::new(alloc),
+            alloc,
+        }
+    }
+
+    /// What of a piece may be passed by, up to a character that begins not after `reach`; `None` where that is nothing. The first
+    /// character has to be known to begin with a starter. Where memory is refused less may be passed by.
+    pub fn pass<W: Weights>(
+        &mut self,
+        table: &W,
+        pattern: &Pattern,
+        letters: &mut Letters,
+        piece: &[u8],
+        reach: usize,
+    ) -> Option<Passed>
+        requires right { AreRight (W.table table.now) pattern.now self.old }
+        requires letters { AreLetters (W.table table.now) pattern.now letters.old }
+        ensures within { IfSome result (λ it. it.end + len_utf8 it.next ≤ length piece.now) }
+        ensures order { IfSome result (λ it. it.start ≤ it.end) }
+        ensures reach { IfSome result (λ it. it.end ≤ reach) }
+        ensures next { IfSome result (λ it. SpellsCharacter (take (len_utf8 it.next) (drop it.end piece.now)) it.next) }
+        ensures letter { IfSome result (λ it. IsLetter (W.table table.now) pattern.now (it.next ∷ []) it.letter) }
+        ensures text { IfSome result (λ it. IsUtf8 (take it.end piece.now)) }
+        ensures passed { IfSome result (λ it. (at : ℕ)
+            → IsPassed (W.table table.now) pattern.now at (at + it.start) (chars (take it.end piece.now)) it.next) }
+        ensures right { AreRight (W.table table.now) pattern.now self.new }
+        ensures letters { AreLetters (W.table table.now) pattern.now letters.new }
+    {
+        let cursor = self.go(table, pattern, letters, &piece[..piece.len().min(reach)])?;
+        self.answer(table, pattern, letters, piece, cursor)
+    }
+
+    /// What may be passed by, as the cursor says where that ends.
+    fn answer<W: Weights>(
+        &self,
+        table: &W,
+        pattern: &Pattern,
+        letters: &mut Letters,
+        piece: &[u8],
+        cursor: Cursor,
+    ) -> Option<Passed>
+        requires passed { 0 < cursor.passed_at
+            → (cursor.passed_at ≤ length piece.now) × Stands (W.table table.now) pattern.now self.now piece.now cursor.passed_at cursor.passed_row }
+        requires letters { AreLetters (W.table table.now) pattern.now letters.old }
+        ensures within { IfSome result (λ it. it.end + len_utf8 it.next ≤ length piece.now) }
+        ensures order { IfSome result (λ it. it.start ≤ it.end) }
+        ensures reach { IfSome result (λ it. it.end ≤ cursor.passed_at) }
+        ensures next { IfSome result (λ it. SpellsCharacter (take (len_utf8 it.next) (drop it.end piece.now)) it.next) }
+        ensures letter { IfSome result (λ it. IsLetter (W.table table.now) pattern.now (it.next ∷ []) it.letter) }
+        ensures text { IfSome result (λ it. IsUtf8 (take it.end piece.now)) }
+        ensures passed { IfSome result (λ it. (at : ℕ)
+            → IsPassed (W.table table.now) pattern.now at (at + it.start) (chars (take it.end piece.now)) it.next) }
+        ensures letters { AreLetters (W.table table.now) pattern.now letters.new }
+    {
+        laws_of_points();
+        if cursor.passed_at == 0 {
+            return None;
+        }
+        let state = self.state_at(cursor.passed_row)?;
+        if state.before == 0 {
+            return None;
+        }
+        let end = cursor.passed_at.checked_sub(state.len as usize)?;
+        let start = end.checked_sub(state.before as usize)?;
+        let next = first_character(&piece[end..])?;
+        let letter = letters.letter(table, pattern, next);
+        Some(Passed {
+            start,
+            end,
+            next,
+            letter,
+        })
+    }
+
+    /// Goes over a piece as far as the moves lead.
+    fn go<W: Weights>(
+        &mut self,
+        table: &W,
+        pattern: &Pattern,
+        letters: &mut Letters,
+        piece: &[u8],
+    ) -> Option<Cursor>
+        requires right { AreRight (W.table table.now) pattern.now self.old }
+        requires letters { AreLetters (W.table table.now) pattern.now letters.old }
+        ensures passed { IfSome result (λ it. 0 < it.passed_at
+            → (it.passed_at ≤ length piece.now) × Stands (W.table table.now) pattern.now self.new piece.now it.passed_at it.passed_row) }
+        ensures right { AreRight (W.table table.now) pattern.now self.new }
+        ensures letters { AreLetters (W.table table.now) pattern.now letters.new }
+    {
+        let first = first_character(piece)?;
+        let row = self.first_row(table, pattern, letters, first)?;
+        let mut cursor = Cursor {
+            at: first.len_utf8(),
+            row,
+            passed_at: 0,
+            passed_row: 0,
+        };
+        'moves: loop {
+            cursor = self.run(table, pattern, piece, cursor);
+            if cursor.at >= piece.len() {
+                return Some(cursor);
+            }
+            let Some(row) = self.learn(table, pattern, letters, cursor.row, piece[cursor.at]) else {
+                return Some(cursor);
+            };
+            cursor = moved(cursor, row);
+        }
+    }
+
+    /// The row of the state behind a first character, if it begins with a starter.
+    fn first_row<W: Weights>(
+        &mut self,
+        table: &W,
+        pattern: &Pattern,
+        letters: &mut Letters,
+        first: char,
+    ) -> Option<usize>
+        requires right { AreRight (W.table table.now) pattern.now self.old }
+        requires letters { AreLetters (W.table table.now) pattern.now letters.old }
+        ensures stands { IfSome result (λ row. (piece : List ℕ) → SpellsCharacter (take (len_utf8 first) piece) first
+            → Stands (W.table table.now) pattern.now self.new piece (len_utf8 first) row) }
+        ensures right { AreRight (W.table table.now) pattern.now self.new }
+        ensures letters { AreLetters (W.table table.now) pattern.now letters.new }
+    {
+        let letter = letters.letter(table, pattern, first);
+        if !letter.is_starter() || pattern.keys().is_empty() {
+            return None;
+        }
+        self.row_of(State::behind(0, letter, first, 0))
+    }
+
+    /// Follows the known moves.
+    #[inline(never)]
+    fn run<W: Weights>(&self, table: &W, pattern: &Pattern, piece: &[u8], from: Cursor) -> Cursor
+        requires right { AreRight (W.table table.now) pattern.now self.now }
+        requires stands { Stands (W.table table.now) pattern.now self.now piece.now from.at from.row }
+        requires passed { 0 < from.passed_at → (from.passed_at ≤ length piece.now) × Stands (W.table table.now) pattern.now self.now piece.now from.passed_at from.passed_row }
+        ensures stands { Stands (W.table table.now) pattern.now self.now piece.now result.at result.row }
+        ensures passed { 0 < result.passed_at
+            → (result.passed_at ≤ length piece.now) × Stands (W.table table.now) pattern.now self.now piece.now result.passed_at result.passed_row }
+        ensures on { from.at ≤ result.at }
+    {
+        let cells: &[u32] = &self.cells;
+        let mut at = from.at;
+        let mut row = from.row;
+        let mut passed_at = from.passed_at;
+        let mut passed_row = from.passed_row;
+        'bytes: while at < piece.len() {
+            let cell = cells[row + piece[at] as usize];
+            if cell >= STOP {
+                break;
+            }
+            row = cell as usize;
+            at += 1;
+            if row % 2 == 1 {
+                passed_at = at;
+                passed_row = row;
+            }
+        }
+        Cursor {
+            at,
+            row,
+            passed_at,
+            passed_row,
+        }
+    }
+}
+
+/// The cursor after a move to a row.
+fn moved(cursor: Cursor, row: usize) -> Cursor
+    requires { cursor.at < 2 ^ 64 - 1 }
+    ensures at { result.at ≡ cursor.at + 1 }
+    ensures row { result.row ≡ row }
+    ensures passed { (result.passed_at ≡ cursor.passed_at) × (result.passed_row ≡ cursor.passed_row) ⊎ (result.passed_at ≡ cursor.at + 1) × (result.passed_row ≡ row) }
+{
+    let at = cursor.at + 1;
+    let (passed_at, passed_row) = if row % 2 == 1 {
+        (at, row)
+    } else {
+        (cursor.passed_at, cursor.passed_row)
+    };
+    Cursor {
+        at,
+        row,
+        passed_at,
+        passed_row,
+    }
+}

@@ -1,0 +1,154 @@
+//! Passes by text of ASCII sixteen bytes at a time, as long as no two neighbours may be part of a match.
+ghost use Rattle.std.specs.Prelude.{◌≡◌, ℕ, ◌+◌, ◌-◌, ◌<◌, ◌≤◌, ◌∷◌, [], length, suc, take, drop, true, IfSome, slice_index};
+ghost use Rattle.std.specs.Char.{len_utf8};
+ghost use Rattle.std.specs.Str.{chars, IsUtf8};
+ghost use Rattle.utf8_cut.specs.Sequences.{SpellsCharacter};
+ghost use Rattle.collation_letters.specs.Letters.{IsLetter};
+ghost use Rattle.collation_letters.specs.Store.{AreLetters};
+ghost use Rattle.collation_skip.specs.Blocks.{AreClassesRight, IsClean, Passes, PassesBehind};
+ghost use Rattle.collation_skip.specs.Passed.{IsPassed};
+
+use crate::classes::{Classes, in_set};
+use crate::lanes::{is_zero, load, stops};
+use crate::passed::Passed;
+use collation_elements::{units_stay_apart, weighers_go_on};
+use collation_letters::{FOREIGN, Letter, Letters, Role, laws_of_symbols};
+use collation_pattern::Pattern;
+use collation_table::Weights;
+use nfd_points::laws::{laws_of_decompositions, laws_of_faults, laws_of_ordering, laws_of_points};
+
+/// Passes by text of ASCII at the front of a piece, where no key waits, by right classes: at most `reach` bytes, and to the end of a
+/// character with a key that the pattern does not have. `None` where it finds no such character behind which it may stop.
+pub(crate) fn pass_blocks<W: Weights>(
+    table: &W,
+    pattern: &Pattern,
+    letters: &mut Letters,
+    classes: &Classes,
+    piece: &[u8],
+    reach: usize,
+) -> Option<Passed>
+    requires right { AreLetters (W.table table.now) pattern.now letters.old }
+    requires classes { AreClassesRight (W.table table.now) pattern.now classes.now }
+    ensures right { AreLetters (W.table table.now) pattern.now letters.new }
+    ensures within { IfSome result (λ r. r.end + len_utf8 r.next ≤ length piece.now) }
+    ensures order { IfSome result (λ r. r.start ≤ r.end) }
+    ensures reach { IfSome result (λ r. r.end ≤ reach) }
+    ensures next { IfSome result (λ r.
+        SpellsCharacter (take (len_utf8 r.next) (drop r.end piece.now)) r.next) }
+    ensures letter { IfSome result (λ r. IsLetter (W.table table.now) pattern.now (r.next ∷ []) r.letter) }
+    ensures text { IfSome result (λ r. IsUtf8 (take r.end piece.now)) }
+    ensures passed { IfSome result (λ r. (at : ℕ)
+        → IsPassed (W.table table.now) pattern.now at (at + r.start)
+        (chars (take r.end piece.now)) r.next) }
+{
+    laws_of_points();
+    laws_of_ordering();
+    laws_of_faults();
+    laws_of_decompositions();
+    laws_of_symbols();
+    units_stay_apart();
+    weighers_go_on();
+    let len = passed_len(classes, piece, piece.len().min(reach));
+    let (start, _) = last_clean(table, pattern, letters, piece, len)?;
+    let next = piece[start + 1] as char;
+    let letter = letters.letter(table, pattern, next);
+    Some(Passed {
+        start,
+        end: start + 1,
+        next,
+        letter,
+    })
+}
+
+/// How many bytes at the front of a piece pass, up to `limit`: the first one, blocks of sixteen behind it, and then bytes one by one.
+#[inline(never)]
+fn passed_len(classes: &Classes, piece: &[u8], limit: usize) -> usize
+    requires { limit ≤ length piece.now }
+    ensures passes { Passes classes.now piece.now result }
+    ensures within { result ≤ limit }
+{
+    if limit == 0 || piece[0] >= 128 || in_set(&classes.halt, piece[0]) != 0 {
+        return 0;
+    }
+    let mut len = 1;
+    while limit - len >= 16 && block_passes(classes, piece, len) {
+        len += 16;
+    }
+    pass_bytes(classes, piece, len, limit)
+}
+
+/// How many bytes at the front of a piece pass, up to `limit`, of which the first `from` do.
+#[inline(always)]
+fn pass_bytes(classes: &Classes, piece: &[u8], from: usize, limit: usize) -> usize
+    requires limit { limit ≤ length piece.now }
+    requires from { (1 ≤ from) × (from ≤ limit) }
+    requires passes { Passes classes.now piece.now from }
+    ensures passes { Passes classes.now piece.now result }
+    ensures within { result ≤ limit }
+{
+    let mut len = from;
+    while len < limit && byte_passes(classes, piece[len - 1], piece[len]) {
+        len += 1;
+    }
+    len
+}
+
+/// Whether a byte passes behind another.
+#[inline(always)]
+fn byte_passes(classes: &Classes, before: u8, here: u8) -> bool
+    ensures { result ≡ true → PassesBehind classes.now before here }
+{
+    here < 128
+        && in_set(&classes.halt, here) == 0
+        && in_set(&classes.key, before).min(in_set(&classes.later, here)) == 0
+        && in_set(&classes.joins, before).min(in_set(&classes.inner, here)) == 0
+}
+
+/// Whether the sixteen bytes from `at` on pass, behind the byte before them.
+#[inline(always)]
+pub(crate) fn block_passes(classes: &Classes, bytes: &[u8], at: usize) -> bool
+    requires behind { 1 ≤ at }
+    requires within { at + 16 ≤ length bytes.now }
+    ensures { result ≡ true → (k : ℕ) → k < 16
+        → PassesBehind classes.now (slice_index bytes.now (at + k - 1)) (slice_index bytes.now (at + k)) }
+{
+    is_zero(stops(classes, load(bytes, at - 1), load(bytes, at)))
+}
+
+/// The last of some bytes at the front of a piece, but for the very last, whose character is a cluster with a key that the pattern
+/// does not have; and its letter.
+fn last_clean<W: Weights>(
+    table: &W,
+    pattern: &Pattern,
+    letters: &mut Letters,
+    piece: &[u8],
+    len: usize,
+) -> Option<(usize, Letter)>
+    requires right { AreLetters (W.table table.now) pattern.now letters.old }
+    requires len { len ≤ length piece.now }
+    ensures right { AreLetters (W.table table.now) pattern.now letters.new }
+    ensures within { IfSome result (λ r. suc r.0 < len) }
+    ensures letter { IfSome result (λ r.
+        IsLetter (W.table table.now) pattern.now (slice_index piece.now r.0 ∷ []) r.1) }
+    ensures clean { IfSome result (λ r. IsClean r.1) }
+{
+    let mut end = len;
+    while end > 1 {
+        end -= 1;
+        let letter = letters.letter(table, pattern, piece[end - 1] as char);
+        if is_clean(&letter) {
+            return Some((end - 1, letter));
+        }
+    }
+    None
+}
+
+/// Whether a letter is a cluster out of which no unit reaches, with a last key that the pattern does not have.
+fn is_clean(letter: &Letter) -> bool
+    ensures { result ≡ true → IsClean letter.now }
+{
+    match letter.role {
+        Role::Plain => letter.symbols.third == FOREIGN,
+        _ => false,
+    }
+}

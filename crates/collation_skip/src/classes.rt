@@ -1,0 +1,195 @@
+//! The classes of the bytes of ASCII: what a search has to know of their characters to pass them in blocks.
+ghost use Rattle.std.specs.Prelude.{◌≡◌, ◌<◌, ◌≤◌, ◌∷◌, [], length, false, true, IfSome};
+ghost use Rattle.collation_table.specs.Table.{TableMap};
+ghost use Rattle.collation_letters.specs.Letters.{IsLetter};
+ghost use Rattle.collation_letters.specs.Store.{AreLetters};
+ghost use Rattle.collation_skip.specs.Blocks.{AreClassesRight, IsClassRight, in_set};
+
+use crate::blocks::block_passes;
+use crate::kinds::{Kind, kind_of};
+use collation_letters::{Letter, Letters};
+use collation_pattern::Pattern;
+use collation_table::Weights;
+
+/// The bit that each high half of a byte has in a set.
+pub(crate) const COLUMNS: [u8; 16] = [1, 2, 4, 8, 16, 32, 64, 128, 0, 0, 0, 0, 0, 0, 0, 0];
+
+/// How many places of a pattern are tried.
+const MOST_PLACES: usize = 16;
+
+/// How many bytes of a text a place is tried on.
+pub(crate) const SAMPLE: usize = 1_024;
+
+/// Sets of bytes of ASCII, for a place of a pattern: number l of a set has bit h where the byte 16 h + l is in it.
+#[derive(Clone, Copy, Debug)]
+pub(crate) struct Classes {
+    pub(crate) place: usize,
+    /// Of those that can't be passed.
+    pub(crate) halt: [u8; 16],
+    /// Of those whose last key may be the pattern's at the place.
+    pub(crate) key: [u8; 16],
+    /// Of those that have no key, or whose last one may be the pattern's behind the place.
+    pub(crate) later: [u8; 16],
+    /// Of those out of which a unit may reach.
+    pub(crate) joins: [u8; 16],
+    /// Of those into which a unit may reach.
+    pub(crate) inner: [u8; 16],
+}
+
+/// Not 0 where a byte is in a set.
+#[inline(always)]
+pub(crate) fn in_set(set: &[u8; 16], byte: u8) -> u8
+    ensures { result ≡ in_set set.now byte }
+{
+    set[(byte % 16) as usize] & COLUMNS[(byte / 16) as usize]
+}
+
+/// Puts a byte into a set.
+fn put(set: &mut [u8; 16], byte: u8) {
+    set[(byte % 16) as usize] |= COLUMNS[(byte / 16) as usize];
+}
+
+/// The classes for the place of the pattern at which the fewest blocks of a text halt; `None` where they are not known to be right.
+pub(crate) fn classes_for<W: Weights>(
+    table: &W,
+    pattern: &Pattern,
+    letters: &mut Letters,
+    text: &[u8],
+) -> Option<Classes>
+    requires { AreLetters (W.table table.now) pattern.now letters.old }
+    ensures right { AreLetters (W.table table.now) pattern.now letters.new }
+    ensures classes { IfSome result (λ classes. AreClassesRight (W.table table.now) pattern.now classes) }
+{
+    let count = pattern.keys().len();
+    if count == 0 {
+        return None;
+    }
+    let places = (count - 1).min(MOST_PLACES);
+    let mut best = classes_at(table, pattern, letters, 0);
+    let mut fewest = halts(&best, text);
+    for place in 1..places {
+        let classes = classes_at(table, pattern, letters, place);
+        let blocks = halts(&classes, text);
+        if blocks < fewest {
+            best = classes;
+            fewest = blocks;
+        }
+    }
+    if are_right(table, pattern, letters, &best) {
+        return Some(best);
+    }
+    None
+}
+
+/// The classes for a place of the pattern.
+fn classes_at<W: Weights>(
+    table: &W,
+    pattern: &Pattern,
+    letters: &mut Letters,
+    place: usize,
+) -> Classes
+    requires right { AreLetters (W.table table.now) pattern.now letters.old }
+    requires place { place < length pattern.now.keys }
+    ensures right { AreLetters (W.table table.now) pattern.now letters.new }
+    ensures place { result.place ≡ place }
+{
+    let mut classes = Classes {
+        place,
+        halt: [0; 16],
+        key: [0; 16],
+        later: [0; 16],
+        joins: [0; 16],
+        inner: [0; 16],
+    };
+    for byte in 0..128u8 {
+        let letter = letters.letter(table, pattern, byte as char);
+        add(&mut classes, byte, kind_of(pattern, &letter, place));
+    }
+    classes
+}
+
+/// Adds a byte of some kind.
+fn add(classes: &mut Classes, byte: u8, kind: Kind)
+    ensures { classes.new.place ≡ classes.old.place }
+{
+    if kind.halt {
+        put(&mut classes.halt, byte);
+    }
+    if kind.key {
+        put(&mut classes.key, byte);
+    }
+    if kind.later {
+        put(&mut classes.later, byte);
+    }
+    if kind.joins {
+        put(&mut classes.joins, byte);
+    }
+    if kind.inner {
+        put(&mut classes.inner, byte);
+    }
+}
+
+/// How many blocks near the front of a text halt.
+fn halts(classes: &Classes, text: &[u8]) -> usize
+    ensures { result ≤ 1024 }
+{
+    let mut count = 0;
+    for block in 0..SAMPLE / 16 {
+        let at = 16 * block + 1;
+        if at + 16 <= text.len() && !block_passes(classes, text, at) {
+            count += 1;
+        }
+    }
+    count
+}
+
+/// Whether the classes are right.
+fn are_right<W: Weights>(
+    table: &W,
+    pattern: &Pattern,
+    letters: &mut Letters,
+    classes: &Classes,
+) -> bool
+    requires right { AreLetters (W.table table.now) pattern.now letters.old }
+    requires place { classes.now.place < length pattern.now.keys }
+    ensures right { AreLetters (W.table table.now) pattern.now letters.new }
+    ensures classes { result ≡ true → AreClassesRight (W.table table.now) pattern.now classes.now }
+{
+    for byte in 0..128u8 {
+        let letter = letters.letter(table, pattern, byte as char);
+        if !is_right(pattern, classes, byte, &letter) {
+            return false;
+        }
+    }
+    true
+}
+
+/// Whether the classes are right for a byte whose character has this letter.
+fn is_right(pattern: &Pattern, classes: &Classes, byte: u8, letter: &Letter) -> bool
+    requires { classes.now.place < length pattern.now.keys }
+    ensures { result ≡ true → (table : TableMap)
+        → IsLetter table pattern.now (byte ∷ []) letter.now
+        → IsClassRight table pattern.now classes.now byte }
+{
+    let kind = kind_of(pattern, letter, classes.place);
+    if !has(&classes.halt, byte, kind.halt) {
+        return false;
+    }
+    if !has(&classes.key, byte, kind.key) {
+        return false;
+    }
+    if !has(&classes.later, byte, kind.later) {
+        return false;
+    }
+    if !has(&classes.joins, byte, kind.joins) {
+        return false;
+    }
+    has(&classes.inner, byte, kind.inner)
+}
+
+/// Whether a byte is in a set if it must be.
+fn has(set: &[u8; 16], byte: u8, must: bool) -> bool
+    ensures { result ≡ true → in_set set.now byte ≡ 0 → must ≡ false }
+{
+    !must || in_set(set, byte) != 0
+}

@@ -1,0 +1,82 @@
+//! Vectors of sixteen bytes, lane by lane.
+ghost use Rattle.std.specs.Prelude.{◌≡◌, ℕ, ◌+◌, ◌%◌, ◌/◌, ◌<◌, ◌≤◌, min, true, length, slice_index, bit_and, bit_or};
+ghost use Rattle.collation_skip.specs.Blocks.{PassesBehind, in_set};
+ghost use Rattle.collation_skip.specs.Lanes.{HasLanes};
+
+use crate::classes::{COLUMNS, Classes};
+use std::simd::prelude::*;
+
+/// Sixteen bytes from `at` on.
+#[inline(always)]
+pub(crate) fn load(bytes: &[u8], at: usize) -> u8x16
+    requires { at + 16 ≤ length bytes.now }
+    ensures { HasLanes result (λ k. slice_index bytes.now (at + k)) }
+{
+    u8x16::from_slice(&bytes[at..])
+}
+
+/// Not 0 in the lanes where a byte does not pass behind another.
+#[inline(always)]
+pub(crate) fn stops(classes: &Classes, before: u8x16, here: u8x16) -> u8x16
+    ensures { (k : ℕ) → k < 16 → slice_index result k ≡ 0
+        → PassesBehind classes.now (slice_index before k) (slice_index here k) }
+{
+    let columns_before = columns(before);
+    let columns_here = columns(here);
+    let key = members(&classes.key, before, columns_before);
+    let later = members(&classes.later, here, columns_here);
+    let joins = members(&classes.joins, before, columns_before);
+    let inner = members(&classes.inner, here, columns_here);
+    let halt = members(&classes.halt, here, columns_here);
+    either(
+        either(halt, least(key, later)),
+        either(least(joins, inner), high_bits(here)),
+    )
+}
+
+#[inline(always)]
+fn either(a: u8x16, b: u8x16) -> u8x16
+    ensures { HasLanes result (λ k. bit_or (slice_index a k) (slice_index b k)) }
+{
+    a | b
+}
+
+#[inline(always)]
+fn least(a: u8x16, b: u8x16) -> u8x16
+    ensures { HasLanes result (λ k. min (slice_index a k) (slice_index b k)) }
+{
+    a.simd_min(b)
+}
+
+/// The bit of each lane that ASCII does not have.
+#[inline(always)]
+fn high_bits(v: u8x16) -> u8x16
+    ensures { HasLanes result (λ k. bit_and (slice_index v k) 128) }
+{
+    v & u8x16::splat(128)
+}
+
+/// Whether all lanes are 0.
+#[inline(always)]
+pub(crate) fn is_zero(v: u8x16) -> bool
+    ensures { result ≡ true → (k : ℕ) → k < 16 → slice_index v k ≡ 0 }
+{
+    v.simd_ne(u8x16::splat(0)).to_bitmask() == 0
+}
+
+/// The bit of each lane's high half.
+#[inline(always)]
+fn columns(v: u8x16) -> u8x16
+    ensures { HasLanes result (λ k. slice_index COLUMNS (slice_index v k / 16)) }
+{
+    u8x16::from_array(COLUMNS).swizzle_dyn_within::<16>(v >> u8x16::splat(4))
+}
+
+/// Not 0 in the lanes whose bytes are in a set.
+#[inline(always)]
+fn members(set: &[u8; 16], v: u8x16, columns: u8x16) -> u8x16
+    ensures { HasLanes result (λ k.
+        bit_and (slice_index set.now (slice_index v k % 16)) (slice_index columns k)) }
+{
+    u8x16::from_array(*set).swizzle_dyn_within::<16>(v & u8x16::splat(15)) & columns
+}

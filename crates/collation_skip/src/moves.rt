@@ -1,0 +1,108 @@
+//! The moves of the automaton: the state behind one byte more.
+ghost use Rattle.std.specs.Prelude.{◌≡◌, ◌≢◌, ◌∷◌, ◌++◌, ℕ, List, [], false, IfSome};
+ghost use Rattle.utf8_cut.specs.Sequences.{SpellsCharacter};
+ghost use Rattle.collation_letters.specs.Apart.{IsNext};
+ghost use Rattle.collation_letters.specs.Letters.{IsLetter, is_mark};
+ghost use Rattle.collation_letters.specs.Store.{AreLetters};
+ghost use Rattle.collation_letters.specs.declared.letter.Role.TheVariants.{Steps};
+ghost use Rattle.collation_skip.specs.BegunBytes.{begun_bytes};
+ghost use Rattle.collation_skip.specs.Reached.{IsMove};
+
+use crate::begun::Decoded;
+use crate::depth::depth_after;
+use crate::state::{State, is_foreign};
+use collation_letters::{Letter, Letters, is_next};
+use collation_pattern::Pattern;
+use collation_table::Weights;
+use nfd_points::laws::{laws_of_decompositions, laws_of_faults, laws_of_ordering, laws_of_points};
+
+/// How many of a pattern's first keys the automaton follows at most.
+const MOST_DEPTH: usize = 8;
+
+/// The state behind one byte more; `None` where the automaton stops: the byte makes an ill-formed sequence, a letter is left to the
+/// steps, or as many of the pattern's first keys have matched as it follows.
+pub(crate) fn state_after<W: Weights>(
+    table: &W,
+    pattern: &Pattern,
+    letters: &mut Letters,
+    state: &State,
+    byte: u8,
+) -> Option<State>
+    requires right { AreLetters (W.table table.now) pattern.now letters.old }
+    ensures right { AreLetters (W.table table.now) pattern.now letters.new }
+    ensures moves { IfSome result (IsMove (W.table table.now) pattern.now state.now byte) }
+{
+    match state.begun.with(byte) {
+        Decoded::IllFormed => None,
+        Decoded::More(begun) => Some(state.with_begun(begun)),
+        Decoded::Character(c) => {
+            let following = letters.letter(table, pattern, c);
+            behind_character(table, pattern, letters, state, c, following)
+        }
+    }
+}
+
+/// The state behind a character more, which has this letter.
+fn behind_character<W: Weights>(
+    table: &W,
+    pattern: &Pattern,
+    letters: &mut Letters,
+    state: &State,
+    c: char,
+    following: Letter,
+) -> Option<State>
+    requires right { AreLetters (W.table table.now) pattern.now letters.old }
+    requires letter { IsLetter (W.table table.now) pattern.now (c ∷ []) following }
+    ensures right { AreLetters (W.table table.now) pattern.now letters.new }
+    ensures moves { IfSome result (λ to. (byte : ℕ) → SpellsCharacter (begun_bytes state.now.begun ++ byte ∷ []) c
+        → IsMove (W.table table.now) pattern.now state.now byte to) }
+{
+    if following.role.is_mark() {
+        return Some(state.with_letter(state.letter.with_mark(following)?));
+    }
+    if is_next(&state.letter, &following) {
+        return behind_letter(table, pattern, state, c, following);
+    }
+    if state.len == 0 || state.letter.is_closed {
+        return None;
+    }
+    let both = letters.pair(table, pattern, state.character, c);
+    if both.role.is_steps() {
+        return None;
+    }
+    Some(state.with_letter(both))
+}
+
+/// The state behind a character with this letter, to which no unit reaches from the letter before.
+fn behind_letter<W: Weights>(
+    table: &W,
+    pattern: &Pattern,
+    state: &State,
+    c: char,
+    following: Letter,
+) -> Option<State>
+    requires letter { IsLetter (W.table table.now) pattern.now (c ∷ []) following }
+    requires next { (at : ℕ) (cs : List ℕ) → IsLetter (W.table table.now) pattern.now cs state.now.letter → IsNext (W.table table.now) at cs c }
+    requires known { (state.now.letter.role ≢ Steps) × (is_mark state.now.letter.role ≡ false) }
+    ensures moves { IfSome result (λ to. (byte : ℕ) → SpellsCharacter (begun_bytes state.now.begun ++ byte ∷ []) c
+        → IsMove (W.table table.now) pattern.now state.now byte to) }
+{
+    laws_of_points();
+    laws_of_ordering();
+    laws_of_faults();
+    laws_of_decompositions();
+    let most = pattern.keys().len().min(MOST_DEPTH);
+    if state.depth >= most {
+        return None;
+    }
+    let depth = depth_after(pattern, state.depth, state.letter.symbols);
+    if depth >= most {
+        return None;
+    }
+    let before = if is_foreign(&state.letter) {
+        state.len
+    } else {
+        0
+    };
+    Some(State::behind(depth, following, c, before))
+}
