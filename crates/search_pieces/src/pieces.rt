@@ -1,5 +1,5 @@
 //! A search that is saved, dropped and resumed after each piece of its text.
-ghost use Rattle.std.specs.Prelude.{◌≡◌, ◌++◌, ◌∷◌, [], IfOk, false};
+ghost use Rattle.std.specs.Prelude.{◌≡◌, ℕ, List, ◌++◌, ◌∷◌, [], IfOk, false};
 ghost use Rattle.collation_search.specs.Feeding.{Feeds};
 ghost use Rattle.collation_search.specs.State.{words_of};
 
@@ -87,7 +87,13 @@ fn feed<W: Weights>(
     ensures fed { IfOk result (λ ranges. (answer : _) × Feeds search.old piece.now answer ranges.items search.new) }
 {
     let mut ranges = Ranges::new(alloc);
-    let _fault = search.feed(piece, &mut |start, end| ranges.put(start, end));
+    let _fault = search.feed(
+        piece,
+        &mut |start, end|
+            ensures put { (items : List (ℕ × ℕ)) → (ranges.entry.is_refused ≡ false → ranges.entry.items.items ≡ items)
+                → ranges.exit.is_refused ≡ false → ranges.exit.items.items ≡ items ++ (start, end) ∷ [] }
+        { ranges.put(start, end) },
+    );
     if ranges.is_refused {
         return Err(AllocError);
     }
