@@ -87,7 +87,7 @@ impl Lines {
         self.make_room(out);
         // There are fewer ranges than the greatest number.
         self.count = self.count.saturating_add(1);
-        self.waiting.push_str(self.form.line(start, end).as_str());
+        self.form.print(&mut self.waiting, start, end);
     }
 
     /// Appends the lines of each of the ranges.

@@ -26,28 +26,28 @@ pub enum Output {
 impl Output {
     ghost use Rattle.colfind.specs.Printing.{printed_range, printed_end};
 
-    /// What is printed of the range from the byte at `start` to before the byte at `end`.
-    pub fn line(self, start: u64, end: u64) -> Line
-        ensures { result.bytes ≡ printed_range self (start, end) }
+    /// Appends what is printed of the range from the byte at `start` to before the byte at `end`.
+    #[inline(always)]
+    pub fn print<const ROOM: usize>(self, lines: &mut ArrayString<ROOM>, start: u64, end: u64)
+        requires { length lines.old.bytes + MOST_LINE_BYTES ≤ ROOM }
+        ensures { lines.new.bytes ≡ lines.old.bytes ++ printed_range self (start, end) }
     {
-        let mut line = Line::new();
         match self {
             Output::Ranges => {
-                push_number(&mut line, start);
-                line.push_str(":");
-                push_number(&mut line, end);
-                line.push_str("\n");
+                push_number(lines, start);
+                lines.push_str(":");
+                push_number(lines, end);
+                lines.push_str("\n");
             }
             Output::Marks => {
-                line.push_str("[");
-                push_number(&mut line, start);
-                line.push_str("\n]");
-                push_number(&mut line, end);
-                line.push_str("\n");
+                lines.push_str("[");
+                push_number(lines, start);
+                lines.push_str("\n]");
+                push_number(lines, end);
+                lines.push_str("\n");
             }
             Output::Count => {}
         }
-        line
     }
 
     /// What is printed after all ranges, of which there are `count`.
@@ -64,8 +64,8 @@ impl Output {
 }
 
 /// Appends the number in decimal digits, of which there are twenty at most.
-pub fn push_number(line: &mut Line, number: u64)
-    requires { length line.old.bytes + 20 ≤ MOST_LINE_BYTES }
+pub fn push_number<const ROOM: usize>(line: &mut ArrayString<ROOM>, number: u64)
+    requires { length line.old.bytes + 20 ≤ ROOM }
     ensures digits { line.new.bytes ≡ line.old.bytes ++ decimal number }
     ensures most { length line.new.bytes ≤ length line.old.bytes + 20 }
 {

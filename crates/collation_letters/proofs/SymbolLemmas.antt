@@ -1,12 +1,13 @@
 -- Symbols of keys, added one by one.
-use Rattle.std.proofs.Common.{◌≡◌, ◌∙◌, ◌≢◌, ℕ, zero, suc, ◌≤◌, ◌<◌, List, [], ◌∷◌, ◌++◌, length, slice_get, take, drop, Option, Some, None, ◌-◌, refl, sym, ap, ap₂, subst, arith, inl, inr, append_assoc, length-append, length-drop}
+use Rattle.std.proofs.Common.{◌≡◌, ◌∙◌, ◌≢◌, ℕ, zero, suc, ◌≤◌, ◌<◌, min, true, List, [], ◌∷◌, ◌++◌, length, slice_get, take, drop, Option, Some, None, ◌-◌, refl, sym, ap, ap₂, subst, arith, inl, inr, append_assoc, length-append, length-drop}
 use Rattle.std.specs.List.{filter}
 use Rattle.std.specs.Option.{IfSome}
 use Rattle.std.proofs.lemmas.Bool.{cond-true, cond-false, cases_Bool, lt-ltb}
 use Rattle.std.proofs.lemmas.List.{drop_at, length-take-le, take-append-drop}
 use Rattle.std.proofs.lemmas.Option.{none-some, same_Some, slice_get_within}
 use Rattle.collation_elements.specs.declared.keys.Key.{Key}
-use Rattle.collation_pattern.specs.Border.{border, PrefixesEndWithTheLastKey, BordersGrowByOne}
+use Rattle.collation_pattern.specs.Border.{border, border_up_to, ends_with_prefix, PrefixesEndWithTheLastKey, BordersGrowByOne, BordersGoOn}
+use Rattle.collation_pattern.proofs.KeyEquality.{same_keys-same}
 use Rattle.collation_letters.specs.declared.symbols.Symbols.{Symbols}
 use Rattle.collation_letters.specs.Symbols.{IsSymbol, AreLastSymbols, IsLastSymbol, AreInTurn, is_symbol, some_symbol, listed}
 
@@ -68,6 +69,18 @@ first-border law grow pattern ks key symbol is other none = at (border pattern (
     at zero e = refl
     at (suc zero) e = absurd (other_place symbol refl (law pattern ks key 0 e))
     at (suc (suc n)) e = absurd (omega (arith, e, none, grow pattern ks key))
+
+-- where no prefix has matched, the pattern's first key is one that matches
+pub first-matches : BordersGoOn → (pattern ks : List Key) (key : Key) → slice_get pattern 0 ≡ Some key → border pattern ks ≡ 0 → 1 ≡ border pattern (ks ++ key ∷ [])
+first-matches law [] ks key at none = cc
+first-matches law (k ∷ rest) ks key at none =
+    let pattern = k ∷ rest in
+    let one : min (length pattern) 1 ≡ 1 = omega arith in
+    let nothing : min (length pattern) 0 ≡ 0 = omega arith in
+    let ends : ends_with_prefix pattern (k ∷ []) 1 ≡ true = same_keys-same (k ∷ []) in
+    let alone : border pattern (k ∷ []) ≡ 1 = ap (border_up_to pattern (k ∷ [])) one ∙ cond-true (ends_with_prefix pattern (k ∷ []) 1) 1 0 ends in
+    let before : border pattern ks ≡ border pattern [] = none ∙ sym (ap (border_up_to pattern []) nothing) in
+    sym (law pattern ks [] key before ∙ ap (λ l. border pattern (l ∷ [])) (same_Some key k (sym at)) ∙ alone)
 
 pub symbol-place : (pattern : List Key) (key : Key) (n : ℕ) → n ≢ 0 → IsSymbol pattern key n → slice_get pattern (n - 1) ≡ Some key
 symbol-place pattern key zero some is = absurd (some refl)

@@ -14,8 +14,10 @@ use nfd_points::laws::{laws_of_decompositions, laws_of_faults, laws_of_ordering,
 /// begins with a starter, as far as is known.
 #[inline(always)]
 pub fn is_next(letter: &Letter, following: &Letter) -> bool
-    ensures apart { result ≡ true → (table : TableMap) (pattern : Compiled) (at : ℕ) (cs : List ℕ) (next : ℕ)
-        → IsLetter table pattern cs letter.now → IsLetter table pattern (next ∷ []) following.now → IsNext table at cs next }
+    ensures apart { result ≡ true
+        → (table : TableMap) (pattern : Compiled) (at : ℕ) (cs : List ℕ) (next : ℕ)
+        → IsLetter table pattern cs letter.now → IsLetter table pattern (next ∷ []) following.now
+        → IsNext table at cs next }
     ensures known { result ≡ true → (letter.now.role ≢ Steps) × (is_mark letter.now.role ≡ false) }
 {
     units_stay_apart();

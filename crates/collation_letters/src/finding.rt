@@ -106,9 +106,11 @@ pub(crate) fn items_of<W: Weights>(
     requires sound { All IsSoundPoint points.now }
     ensures window { window.new ≡ window.old }
     ensures plain { IfSome result (λ r.
-        AreItemsOfPoints (W.table table.now) (weigher pattern.now.strength pattern.now.variable false) points.now r.0) }
+        AreItemsOfPoints (W.table table.now)
+        (weigher pattern.now.strength pattern.now.variable false) points.now r.0) }
     ensures after { IfSome result (λ r. IsPossible pattern.now.variable true → IfSome r.1
-        (AreItemsOfPoints (W.table table.now) (weigher pattern.now.strength pattern.now.variable true) points.now)) }
+        (AreItemsOfPoints (W.table table.now)
+        (weigher pattern.now.strength pattern.now.variable true) points.now)) }
     ensures some { IfSome result (λ r. IsPossible pattern.now.variable true → r.1 ≢ None) }
 {
     let (strength, variable) = (pattern.strength(), pattern.variable());
@@ -130,9 +132,11 @@ pub(crate) fn role_and_symbols(
     plain: &CharacterItems,
     after: &Option<CharacterItems>,
 ) -> (Role, Symbols)
-    ensures role { let role = result.0 in role ≢ LeftToSteps → HasRole points.now plain.now after.now role }
+    ensures role { let role = result.0 in role ≢ LeftToSteps
+        → HasRole points.now plain.now after.now role }
     ensures other { let role = result.0 in role ≢ Plain }
-    ensures symbols { let role = result.0 in role ≢ LeftToSteps → AreLastSymbols pattern.now.keys (character_keys plain.now) (listed result.1) }
+    ensures symbols { let role = result.0 in role ≢ LeftToSteps
+        → AreLastSymbols pattern.now.keys (character_keys plain.now) (listed result.1) }
 {
     let role = if begins_with_starter(points) {
         role_of_starter(plain, after)
@@ -150,7 +154,8 @@ pub(crate) fn role_and_symbols(
 /// What a search does with points that begin with a starter.
 fn role_of_starter(plain: &CharacterItems, after: &Option<CharacterItems>) -> Role
     ensures other { result ≢ Plain }
-    ensures role { result ≢ LeftToSteps → (is_mark result ≡ false) × Follows plain.now after.now result }
+    ensures role { result ≢ LeftToSteps → (is_mark result ≡ false)
+        × Follows plain.now after.now result }
 {
     if plain.begins_cluster {
         return match (is_as(plain, after), plain.after_variable) {
@@ -168,7 +173,8 @@ fn role_of_starter(plain: &CharacterItems, after: &Option<CharacterItems>) -> Ro
 /// What a search does with one point that is no starter.
 fn role_of_mark(plain: &CharacterItems, after: &Option<CharacterItems>) -> Role
     ensures other { result ≢ Plain }
-    ensures role { result ≢ LeftToSteps → (is_mark result ≡ true) × Follows plain.now after.now result }
+    ensures role { result ≢ LeftToSteps → (is_mark result ≡ true)
+        × Follows plain.now after.now result }
 {
     if plain.begins_cluster || plain.after_variable {
         return Role::Steps;
@@ -237,7 +243,8 @@ fn says_nothing(items: &CharacterItems, flag: bool) -> bool
 
 /// The symbols of the keys among these items; `None` where one of them has none.
 fn symbols_of(pattern: &Pattern, items: &CharacterItems) -> Option<Symbols>
-    ensures { IfSome result (λ symbols. AreLastSymbols pattern.now.keys (character_keys items.now) (listed symbols)) }
+    ensures { IfSome result (λ symbols.
+        AreLastSymbols pattern.now.keys (character_keys items.now) (listed symbols)) }
 {
     let symbols = with_key(pattern, NO_SYMBOLS, items.first)?;
     let symbols = with_key(pattern, symbols, items.second)?;
@@ -246,7 +253,8 @@ fn symbols_of(pattern: &Pattern, items: &CharacterItems) -> Option<Symbols>
 
 /// These symbols and that of a key, if there is one; `None` where it has none.
 fn with_key(pattern: &Pattern, symbols: Symbols, key: Option<Key>) -> Option<Symbols>
-    ensures { IfSome result (λ all. (keys : List KeyValue) → AreLastSymbols pattern.now.keys keys (listed symbols)
+    ensures { IfSome result (λ all. (keys : List KeyValue)
+        → AreLastSymbols pattern.now.keys keys (listed symbols)
         → AreLastSymbols pattern.now.keys (keys ++ option_to_list key) (listed all)) }
 {
     match key {

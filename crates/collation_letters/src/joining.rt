@@ -20,7 +20,8 @@ impl Letter {
     /// from one to the other, the mark's class is below that of the last point, so that it goes before it, or there is no room.
     #[inline(always)]
     pub fn with_mark(self, mark: Letter) -> Option<Letter>
-        ensures { IfSome result (λ both. (table : TableMap) (pattern : Compiled) (cs : List ℕ) (c : ℕ)
+        ensures { IfSome result (λ both.
+            (table : TableMap) (pattern : Compiled) (cs : List ℕ) (c : ℕ)
             → IsLetter table pattern cs self → IsLetter table pattern (c ∷ []) mark
             → IsLetter table pattern (cs ++ c ∷ []) both) }
     {

@@ -114,7 +114,8 @@ impl Letter {
     /// Whether its role says that its characters begin with a starter.
     #[inline(always)]
     pub fn has_starter(&self) -> bool
-        ensures { result ≡ true → (table : TableMap) (pattern : Compiled) (cs : List ℕ) → IsLetter table pattern cs self.now
+        ensures { result ≡ true → (table : TableMap) (pattern : Compiled) (cs : List ℕ)
+            → IsLetter table pattern cs self.now
             → begins_with_starter (points_from 0 cs) ≡ true }
     {
         match self.role {
@@ -126,7 +127,8 @@ impl Letter {
     /// Whether its characters are known to begin with a starter.
     #[inline(always)]
     pub fn is_starter(&self) -> bool
-        ensures { result ≡ true → (table : TableMap) (pattern : Compiled) (cs : List ℕ) → IsLetter table pattern cs self.now
+        ensures { result ≡ true → (table : TableMap) (pattern : Compiled) (cs : List ℕ)
+            → IsLetter table pattern cs self.now
             → begins_with_starter (points_from 0 cs) ≡ true }
     {
         match self.role {
@@ -137,7 +139,8 @@ impl Letter {
 
     /// The same letter, without what is known of units that reach into it: fewer letters differ so.
     pub fn without_apart(self) -> Letter
-        ensures letter { (table : TableMap) (pattern : Compiled) (cs : List ℕ) → IsLetter table pattern cs self → IsLetter table pattern cs result }
+        ensures letter { (table : TableMap) (pattern : Compiled) (cs : List ℕ)
+            → IsLetter table pattern cs self → IsLetter table pattern cs result }
         ensures same { result ≡ record self { is_apart = false } }
     {
         Letter {
@@ -153,7 +156,8 @@ impl Letter {
     /// The same letter, plain if it can be.
     #[inline(always)]
     pub(crate) fn settled(self) -> Letter
-        ensures { (table : TableMap) (pattern : Compiled) (cs : List ℕ) → IsLetter table pattern cs self → IsLetter table pattern cs result }
+        ensures { (table : TableMap) (pattern : Compiled) (cs : List ℕ)
+            → IsLetter table pattern cs self → IsLetter table pattern cs result }
     {
         match self.role {
             Role::Base => self.plain(),
@@ -165,7 +169,8 @@ impl Letter {
     #[inline(always)]
     fn plain(self) -> Letter
         requires { self.role ≡ Base }
-        ensures { (table : TableMap) (pattern : Compiled) (cs : List ℕ) → IsLetter table pattern cs self → IsLetter table pattern cs result }
+        ensures { (table : TableMap) (pattern : Compiled) (cs : List ℕ)
+            → IsLetter table pattern cs self → IsLetter table pattern cs result }
     {
         if !self.is_closed || self.symbols.first != NO_SYMBOL || self.symbols.second != NO_SYMBOL {
             return self;

@@ -50,7 +50,8 @@ impl PairPlaces {
     /// The letter of these two characters, if it is kept.
     #[inline(always)]
     pub(crate) fn letter(&self, first: char, second: char) -> Option<Letter>
-        ensures right { (table : TableMap) (pattern : Compiled) → ArePairsKept table pattern self.now
+        ensures right { (table : TableMap) (pattern : Compiled)
+            → ArePairsKept table pattern self.now
             → IfSome result (IsLetter table pattern (first ∷ second ∷ [])) }
         ensures none { All IsOfNoPair self.now.kept.items → result ≡ None }
     {
@@ -64,7 +65,8 @@ impl PairPlaces {
     /// Keeps the letter of two characters, where there is memory for places.
     pub(crate) fn keep(&mut self, alloc: Global, first: char, second: char, letter: Letter)
         ensures { (table : TableMap) (pattern : Compiled) → ArePairsKept table pattern self.old
-            → IsLetter table pattern (first ∷ second ∷ []) letter → ArePairsKept table pattern self.new }
+            → IsLetter table pattern (first ∷ second ∷ []) letter
+            → ArePairsKept table pattern self.new }
     {
         self.make_places(alloc);
         let place = place_of(first, second);
@@ -79,7 +81,8 @@ impl PairPlaces {
 
     /// Makes places where there are none, if there is memory.
     fn make_places(&mut self, alloc: Global)
-        ensures { (table : TableMap) (pattern : Compiled) → ArePairsKept table pattern self.old → ArePairsKept table pattern self.new }
+        ensures { (table : TableMap) (pattern : Compiled) → ArePairsKept table pattern self.old
+            → ArePairsKept table pattern self.new }
     {
         if !self.kept.is_empty() {
             return;
@@ -92,7 +95,8 @@ impl PairPlaces {
 
 /// Places to which no pair came.
 fn empty_places(alloc: Global) -> Result<Vec<KeptPair>, AllocError>
-    ensures right { IfOk result (λ kept. (table : TableMap) (pattern : Compiled) → ArePairsKept table pattern (record { kept = kept })) }
+    ensures right { IfOk result (λ kept. (table : TableMap) (pattern : Compiled)
+        → ArePairsKept table pattern (record { kept = kept })) }
     ensures none { IfOk result (λ kept. All IsOfNoPair kept.items) }
 {
     vec![in alloc; NO_PAIR; LAST_PLACE + 1]

@@ -55,8 +55,10 @@ fn points_of_pair<W: Weights>(table: &W, first: char, second: char) -> Option<(P
     ensures points { IfSome result (λ r. points_from 0 (first ∷ second ∷ []) ≡ r.0 ∷ r.1 ∷ []) }
     ensures sound { IfSome result (λ r. All IsSoundPoint (r.0 ∷ r.1 ∷ [])) }
     ensures starters { IfSome result (λ r. (is_starter r.0 ≡ true) × (is_starter r.1 ≡ true)) }
-    ensures mapped { IfSome result (λ r. is_mapped (W.table table.now) (r.0.cp ∷ r.1.cp ∷ []) ≡ true) }
-    ensures longest { IfSome result (λ r. GoesOnInNoString (W.table table.now) (r.0.cp ∷ r.1.cp ∷ [])) }
+    ensures mapped { IfSome result (λ r. is_mapped (W.table table.now) (r.0.cp ∷ r.1.cp ∷ [])
+        ≡ true) }
+    ensures longest { IfSome result (λ r.
+        GoesOnInNoString (W.table table.now) (r.0.cp ∷ r.1.cp ∷ [])) }
 {
     let one = lone_starter(first, 0)?;
     let other = lone_starter(second, first.len_utf8() as u64)?;

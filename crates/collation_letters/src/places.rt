@@ -36,7 +36,8 @@ impl Places {
     /// Places with the numbers up to `last`, to which no character came.
     pub(crate) fn new(alloc: Global, last: usize) -> Result<Places, AllocError>
         requires { last < 65536 }
-        ensures { IfOk result (λ places. (table : TableMap) (pattern : Compiled) → AreKept table pattern places) }
+        ensures { IfOk result (λ places. (table : TableMap) (pattern : Compiled)
+            → AreKept table pattern places) }
     {
         Ok(Places {
             kept: vec![in alloc; EMPTY; last + 1]?,
@@ -47,14 +48,16 @@ impl Places {
     /// What is kept at the place of a character.
     #[inline(always)]
     pub(crate) fn at(&self, c: char) -> Kept
-        ensures { (table : TableMap) (pattern : Compiled) → AreKept table pattern self.now → IsKept table pattern result }
+        ensures { (table : TableMap) (pattern : Compiled) → AreKept table pattern self.now
+            → IsKept table pattern result }
     {
         self.kept[c as usize & self.last]
     }
 
     /// Keeps a letter at the place of its character.
     pub(crate) fn keep(&mut self, c: char, letter: Letter)
-        ensures { (table : TableMap) (pattern : Compiled) → AreKept table pattern self.old → IsLetter table pattern (c ∷ []) letter → AreKept table pattern self.new }
+        ensures { (table : TableMap) (pattern : Compiled) → AreKept table pattern self.old
+            → IsLetter table pattern (c ∷ []) letter → AreKept table pattern self.new }
     {
         self.kept[c as usize & self.last] = Kept {
             code_point: c as u32,

@@ -38,7 +38,7 @@ pub struct Letters {
 }
 
 impl Letters {
-    ghost use Rattle.std.specs.Prelude.{◌∷◌, [], IfOk};
+    ghost use Rattle.std.specs.Prelude.{◌∷◌, [], IfOk, IfSome};
     ghost use Rattle.collation_table.specs.Table.{TableMap};
     ghost use Rattle.collation_pattern.specs.Compiled.{Compiled};
     ghost use Rattle.collation_letters.specs.Letters.{IsLetter};
@@ -50,7 +50,8 @@ impl Letters {
     ///
     /// Where memory was refused. That it is for no other reason no clause says.
     pub fn new<W: Weights>(alloc: Global, table: &W) -> Result<Letters, AllocError>
-        ensures { IfOk result (λ letters. (table : TableMap) (pattern : Compiled) → AreLetters table pattern letters) }
+        ensures { IfOk result (λ letters. (table : TableMap) (pattern : Compiled)
+            → AreLetters table pattern letters) }
     {
         Ok(Letters {
             places: Places::new(alloc, LAST_OF_FEW)?,
@@ -61,6 +62,19 @@ impl Letters {
         })
     }
 
+    /// The letter of a character, if it is known.
+    #[inline(always)]
+    pub fn known(&self, c: char) -> Option<Letter>
+        ensures { (table : TableMap) (pattern : Compiled) → AreLetters table pattern self.now
+            → IfSome result (λ letter. IsLetter table pattern (c ∷ []) letter) }
+    {
+        let kept = self.places.at(c);
+        if kept.code_point == c as u32 {
+            return Some(kept.letter);
+        }
+        None
+    }
+
     /// The letter of a character. It is found where it is not known. Where memory is refused the answer is the same.
     #[inline(always)]
     pub fn letter<W: Weights>(&mut self, table: &W, pattern: &Pattern, c: char) -> Letter
@@ -68,11 +82,10 @@ impl Letters {
         ensures right { AreLetters (W.table table.now) pattern.now self.new }
         ensures letter { IsLetter (W.table table.now) pattern.now (c ∷ []) result }
     {
-        let kept = self.places.at(c);
-        if kept.code_point == c as u32 {
-            return kept.letter;
+        match self.known(c) {
+            Some(letter) => letter,
+            None => self.find(table, pattern, c),
         }
-        self.find(table, pattern, c)
     }
 
     /// Finds a letter, and keeps it.
@@ -127,7 +140,8 @@ impl Letters {
 
     /// Counts a letter that is found. Where these are many, the places are replaced by more, if there is memory.
     fn count(&mut self)
-        ensures { (table : TableMap) (pattern : Compiled) → AreLetters table pattern self.old → AreLetters table pattern self.new }
+        ensures { (table : TableMap) (pattern : Compiled) → AreLetters table pattern self.old
+            → AreLetters table pattern self.new }
     {
         if self.found == MANY {
             return;

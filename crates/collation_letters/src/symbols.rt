@@ -49,8 +49,10 @@ impl Symbols {
     /// These symbols and one more; `None` where there is no room.
     pub fn with(self, symbol: u8) -> Option<Symbols>
         requires { symbol < 255 }
-        ensures { IfSome result (λ all. (pattern keys more : List KeyValue) → AreLastSymbols pattern keys (listed self)
-            → AreLastSymbols pattern more (symbol ∷ []) → AreLastSymbols pattern (keys ++ more) (listed all)) }
+        ensures { IfSome result (λ all. (pattern keys more : List KeyValue)
+            → AreLastSymbols pattern keys (listed self)
+            → AreLastSymbols pattern more (symbol ∷ [])
+            → AreLastSymbols pattern (keys ++ more) (listed all)) }
     {
         if symbol == FOREIGN {
             return Some(Symbols {
@@ -71,8 +73,10 @@ impl Symbols {
 
     /// These symbols and those of keys that follow; `None` where there is no room.
     pub fn with_all(self, more: Symbols) -> Option<Symbols>
-        ensures { IfSome result (λ all. (pattern keys later : List KeyValue) → AreLastSymbols pattern keys (listed self)
-            → AreLastSymbols pattern later (listed more) → AreLastSymbols pattern (keys ++ later) (listed all)) }
+        ensures { IfSome result (λ all. (pattern keys later : List KeyValue)
+            → AreLastSymbols pattern keys (listed self)
+            → AreLastSymbols pattern later (listed more)
+            → AreLastSymbols pattern (keys ++ later) (listed all)) }
     {
         let all = with_some(self, more.first)?;
         let all = with_some(all, more.second)?;
@@ -82,8 +86,10 @@ impl Symbols {
 
 /// These symbols and one more, if it is one.
 fn with_some(symbols: Symbols, symbol: u8) -> Option<Symbols>
-    ensures { IfSome result (λ all. (pattern keys more : List KeyValue) → AreLastSymbols pattern keys (listed symbols)
-        → AreLastSymbols pattern more (some_symbol symbol) → AreLastSymbols pattern (keys ++ more) (listed all)) }
+    ensures { IfSome result (λ all. (pattern keys more : List KeyValue)
+        → AreLastSymbols pattern keys (listed symbols)
+        → AreLastSymbols pattern more (some_symbol symbol)
+        → AreLastSymbols pattern (keys ++ more) (listed all)) }
 {
     if symbol == NO_SYMBOL {
         return Some(symbols);
@@ -127,6 +133,7 @@ pub fn advance(pattern: &Pattern, state: usize, symbol: u8) -> usize
         if symbol != FIRST {
             return 0;
         }
+        return pattern.len().min(1);
     }
     if symbol == FOREIGN {
         return 0;

@@ -20,7 +20,7 @@ use Rattle.collation_letters.specs.Letters.{begins_cluster, is_mark, flag_after,
 use Rattle.collation_letters.specs.Symbols.{AreLastSymbols, listed}
 use Rattle.collation_search.specs.declared.walk.Walk.{Walk}
 use Rattle.collation_search.specs.Apart.{HasWalked, HasWalkedOn}
-use Rattle.collation_search.specs.Walks.{WalksOver}
+use Rattle.collation_search.specs.Walks.{WalksOver, letter_items}
 use Rattle.collation_letters.proofs.CharacterLemmas.{points_are_shifted}
 use Rattle.collation_letters.proofs.JoiningLemmas.{after-plain}
 use Rattle.collation_letters.proofs.LetterApart.{starter-counted}
@@ -38,7 +38,7 @@ GoesOnLaw =
 pub walked-on : GoesOnLaw → PointsAreShifted → (table : TableMap) (pattern : Compiled) (w w' : Weigher) (walk walk' : Walk) (start : ℕ) (cs : List ℕ) (l : Letter) (found : List (ℕ × ℕ)) → l.role ≢ Steps →
     is_mark l.role ≡ false → IsLetter table pattern cs l → w' ≡ weigher pattern.strength pattern.variable (flag_after l.role w.after_variable) →
     ((items : List Item) (ranges : List (ℕ × ℕ)) (keys : List Key) → AreLastSymbols pattern.keys keys (listed l.symbols) → WalksOver pattern.keys items ranges walk →
-    WalksOver pattern.keys (items ++ (cond (begins_cluster l.role) (ClusterStart start ∷ []) [] ++ map (λ key. Element key) keys)) (ranges ++ found) walk') →
+    WalksOver pattern.keys (items ++ letter_items l.role start keys) (ranges ++ found) walk') →
     HasWalkedOn table pattern w walk w' walk' (units table (points_from start cs)) found
 walked-on law shift table pattern w w' walk walk' start cs l found known starter h made walks = λ before ranges on.
     let k = h.known known in
@@ -49,7 +49,7 @@ walked-on law shift table pattern w w' walk walk' start cs l found known starter
     let has = k.items flag may in
     let us = units table (points_from start cs) in
     let here : us ≡ units table (map (shifted start) (points_from 0 cs)) = ap (units table) (points_are_shifted shift start cs) in
-    let given : List Item = cond (begins_cluster l.role) (ClusterStart start ∷ []) [] ++ map (λ key. Element key) (keys_alone table pattern (points_from 0 cs) flag) in
+    let given : List Item = letter_items l.role start (keys_alone table pattern (points_from 0 cs) flag) in
     let gives : items_of table w.strength w.variable flag us ≡ given =
     ap₂ (λ (s : Strength) (v : Variable). items_of table s v flag us) on.strength on.variable ∙ ap (items_of table S V flag) here ∙ has.items start in
     let leaves : after_units table w.variable flag us ≡ flag_after l.role flag =
@@ -63,10 +63,3 @@ walked-on law shift table pattern w w' walk walk' start cs l found known starter
       strength = ap (λ v. v.strength) made;
       variable = ap (λ v. v.variable) made;
     }
-
--- ---- from one place to another
-
-pub from-place : (table : TableMap) (pattern : Compiled) (w w' : Weigher) (walk walk' : Walk) (us : List (List Point)) (found : List (ℕ × ℕ)) →
-    HasWalkedOn table pattern (weigher pattern.strength pattern.variable w.after_variable) walk w' walk' us found → HasWalkedOn table pattern w walk w' walk' us found
-from-place table pattern w w' walk walk' us found h = λ before ranges on.
-    h before ranges (subst (λ (v : Weigher). HasWalked table pattern v walk before ranges) (ap₂ (λ (s : Strength) (v : Variable). weigher s v w.after_variable) on.strength on.variable) on)

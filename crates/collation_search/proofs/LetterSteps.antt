@@ -14,7 +14,7 @@ use Rattle.collation_letters.specs.Symbols.{IsSymbol, AreLastSymbols, IsLastSymb
 use Rattle.collation_matches.specs.ByClusters.{PlacedKey, text_begin, placed, placed_at}
 use Rattle.collation_matches.specs.Selecting.{selected, remembered}
 use Rattle.collation_search.specs.declared.walk.Walk.{Walk}
-use Rattle.collation_search.specs.Walks.{flag_word, place_of, WalksOver, standing_of, stands}
+use Rattle.collation_search.specs.Walks.{place_of, WalksOver}
 use Rattle.collation_matches.proofs.SelectingLemmas.{selected_after-nil}
 use Rattle.collation_search.proofs.WalkSteps.{found_before, placed-last, walks-end_short, walks-select, walks-start}
 
@@ -128,16 +128,3 @@ walks-begin_none pattern items ranges start w later short h =
     walks-start pattern items ranges [] start w v h (ne_eqb start 0 later) refl refl refl refl refl
     (h.last_end ∙ ap (remembered w.select) (sym (append-nil ranges)))
     (ap (λ (rs : List (ℕ × ℕ)). ranges ++ rs) (sym (selected_after-nil w.select w.last_end)) ∙ walks-select pattern items ranges [] w start h (walks-end_short pattern items ranges w start short h))
-
--- ---- flags as numbers
-
-pub flag-same : (b : Bool) → nat_lt 0 (flag_word b) ≡ b
-flag-same true = refl
-flag-same false = refl
-
-pub stands-same : (w : Walk) → stands w (standing_of w) ≡ w
-stands-same w = ap (λ b. record w { has_keys = b }) (flag-same w.has_keys)
-
-pub none-flag : (n : ℕ) → (n == 0) ≡ not (nat_lt 0 n)
-none-flag zero = refl
-none-flag (suc n) = ne_eqb (suc n) 0 (λ e. absurd (omega (arith, e))) ∙ sym (ap not (lt-ltb 0 (suc n) (omega arith)))

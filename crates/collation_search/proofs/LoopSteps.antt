@@ -1,7 +1,7 @@
 -- A walk over the characters at the front of a piece comes further.
 use Rattle.std.specs.Char.{len_utf8}
 use Rattle.std.specs.Str.{chars, IsUtf8}
-use Rattle.std.proofs.Common.{◌≡◌, ◌∙◌, ℕ, ◌+◌, ◌-◌, nat_lt, true, ◌≤◌, List, [], ◌∷◌, ◌++◌, length, take, drop, sym, ap, subst, arith, append_assoc}
+use Rattle.std.proofs.Common.{◌≡◌, ◌∙◌, ℕ, ◌+◌, ◌-◌, true, ◌≤◌, List, [], ◌∷◌, ◌++◌, length, take, drop, sym, ap, subst, arith, append_assoc}
 use Rattle.std.proofs.lemmas.List.{length-drop}
 use Rattle.std.proofs.lemmas.Str.{IsUtf8-nil, chars-nil}
 use Rattle.utf8_cut.specs.Sequences.{SpellsCharacter}
@@ -9,22 +9,19 @@ use Rattle.nfd_points.specs.Points.{byte_len, points_of, points_from, begins_wit
 use Rattle.collation_table.specs.Table.{TableMap}
 use Rattle.collation_elements.specs.declared.weigher.Weigher.{Weigher}
 use Rattle.collation_elements.specs.Units.{units}
-use Rattle.collation_elements.specs.Weighing.{weigher}
 use Rattle.collation_pattern.specs.Compiled.{Compiled}
 use Rattle.collation_letters.specs.Apart.{IsNext}
-use Rattle.collation_search.specs.declared.letter_loop.Place.{Place}
 use Rattle.collation_search.specs.declared.walk.Walk.{Walk}
-use Rattle.collation_search.specs.Apart.{AreApart}
-use Rattle.collation_search.specs.LetterRun.{AreNext, HasComeTo, HasGoneOn}
-use Rattle.collation_search.specs.Walks.{stands}
+use Rattle.collation_search.specs.Apart.{AreApart, HasWalkedOn}
+use Rattle.collation_search.specs.LetterRun.{AreNext, HasComeTo}
 use Rattle.collation_search.proofs.ApartLaws.{Laws}
 use Rattle.collation_search.proofs.ApartLemmas.{apart-none, apart-more, units-apart, from_none}
 use Rattle.collation_search.proofs.CharacterLemmas.{on-none, on-more, text-part, chars-len, spells-after}
 
 -- nothing so far
-pub come-none : Laws → (table : TableMap) (pattern : Compiled) (piece : List ℕ) (offset reach first : ℕ) (walk : Walk) (place : Place) → len_utf8 first ≤ length piece → SpellsCharacter (take (len_utf8 first) piece) first →
-    begins_with_starter (points_of offset first) ≡ true → HasComeTo table pattern piece offset reach first walk place walk place 0 first []
-come-none laws table pattern piece offset reach first walk place within spelled begins =
+pub come-none : Laws → (table : TableMap) (pattern : Compiled) (piece : List ℕ) (offset reach first : ℕ) (weigher : Weigher) (walk : Walk) → len_utf8 first ≤ length piece → SpellsCharacter (take (len_utf8 first) piece) first →
+    begins_with_starter (points_of offset first) ≡ true → HasComeTo table pattern piece offset reach first weigher walk weigher walk 0 first []
+come-none laws table pattern piece offset reach first weigher walk within spelled begins =
     let none : points_from offset (chars (take 0 piece)) ≡ [] = ap (points_from offset) chars-nil ∙ from_none offset in
     record {
       near = omega arith;
@@ -33,19 +30,18 @@ come-none laws table pattern piece offset reach first walk place within spelled 
       text = IsUtf8-nil;
       begun = ([], ap (λ (cs : List ℕ). cs ++ first ∷ []) chars-nil);
       apart = subst (λ (cs : List ℕ). AreApart table offset cs first) (sym chars-nil) (apart-none laws table offset first begins);
-      walked = on-none table pattern (weigher pattern.strength pattern.variable (nat_lt 0 place.variable)) (stands walk place.standing) (units table (points_from offset (chars (take 0 piece)))) (ap (units table) none);
+      walked = on-none table pattern weigher walk (units table (points_from offset (chars (take 0 piece)))) (ap (units table) none);
     }
 
 joined : (cs others : List ℕ) (c next : ℕ) → (cs ++ c ∷ others) ++ next ∷ [] ≡ (cs ++ c ∷ []) ++ (others ++ next ∷ [])
 joined cs others c next = append_assoc cs (c ∷ others) (next ∷ []) ∙ sym (append_assoc cs (c ∷ []) (others ++ next ∷ []))
 
 -- and the next characters
-pub come-further : Laws → (table : TableMap) (pattern : Compiled) (piece : List ℕ) (offset reach first at to c next : ℕ) (old walk walk_now : Walk) (from place place_now : Place) (ranges found : List (ℕ × ℕ)) →
-    HasComeTo table pattern piece offset reach first old from walk place at c ranges → AreNext table piece offset reach at to c next →
-    HasGoneOn table pattern walk place walk_now place_now (units table (points_from (offset + at) (chars (take (to - at) (drop at piece))))) found →
-    HasComeTo table pattern piece offset reach first old from walk_now place_now to next (ranges ++ found)
-come-further laws table pattern piece offset reach first at to c next old walk walk_now from place place_now ranges found h n goes =
-    let flag : Place → Weigher = λ p. weigher pattern.strength pattern.variable (nat_lt 0 p.variable) in
+pub come-further : Laws → (table : TableMap) (pattern : Compiled) (piece : List ℕ) (offset reach first at to c next : ℕ) (weigher weigher₁ weigher₂ : Weigher) (walk walk₁ walk₂ : Walk) (ranges found : List (ℕ × ℕ)) →
+    HasComeTo table pattern piece offset reach first weigher walk weigher₁ walk₁ at c ranges → AreNext table piece offset reach at to c next →
+    HasWalkedOn table pattern weigher₁ walk₁ weigher₂ walk₂ (units table (points_from (offset + at) (chars (take (to - at) (drop at piece))))) found →
+    HasComeTo table pattern piece offset reach first weigher walk weigher₂ walk₂ to next (ranges ++ found)
+come-further laws table pattern piece offset reach first at to c next weigher weigher₁ weigher₂ walk walk₁ walk₂ ranges found h n goes =
     let cs = chars (take at piece) in
     let more = chars (take (to - at) (drop at piece)) in
     let upto = text-part piece at to n.forth h.text n.part in
@@ -64,7 +60,7 @@ come-further laws table pattern piece offset reach first at to c next old walk w
         ap (λ (t : List ℕ). t ++ next ∷ []) (upto.1 ∙ ap (λ (t : List ℕ). cs ++ t) n.first.1) ∙ joined cs n.first.0 c next ∙ ap (λ (t : List ℕ). t ++ (n.first.0 ++ next ∷ [])) h.begun.1,
       );
       apart = subst (λ (t : List ℕ). AreApart table offset t next) (sym upto.1) (apart-more laws table offset c next cs n.first.0 more n.first.1 h.apart ends);
-      walked = on-more table pattern (flag from) (flag place) (flag place_now) (stands old from.standing) (stands walk place.standing) (stands walk_now place_now.standing)
+      walked = on-more table pattern weigher weigher₁ weigher₂ walk walk₁ walk₂
           (units table (points_from offset cs)) (units table (points_from (offset + at) more)) (units table (points_from offset (chars (take to piece)))) ranges found cut h.walked goes;
     }
 

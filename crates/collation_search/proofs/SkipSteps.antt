@@ -1,6 +1,6 @@
 -- A walk that goes over text that is passed: no match ends in it, and behind its last character no key waits.
 use Rattle.circular_buffer.specs.Buffer.{keep_last}
-use Rattle.std.proofs.Common.{◌≡◌, ◌∙◌, ℕ, suc, not, ◌+◌, ◌-◌, ◌<◌, ◌≤◌, inl, inr, Bool, true, false, nat_lt, List, [], ◌∷◌, ◌++◌, length, map, take, drop, Contains, refl, sym, ap, subst, arith, append_assoc}
+use Rattle.std.proofs.Common.{◌≡◌, ◌∙◌, ℕ, suc, not, ◌+◌, ◌-◌, ◌<◌, ◌≤◌, inl, inr, Bool, true, false, List, [], ◌∷◌, ◌++◌, length, map, take, drop, Contains, refl, sym, ap, ap₂, subst, arith, append_assoc}
 use Rattle.std.proofs.lemmas.List.{append-nil}
 use Rattle.std.specs.Char.{len_utf8}
 use Rattle.std.specs.Str.{chars, IsUtf8}
@@ -13,19 +13,19 @@ use Rattle.collation_elements.specs.declared.keys.Item.{Item}
 use Rattle.collation_elements.specs.declared.keys.Item.TheVariants.{ClusterStart, Element}
 use Rattle.collation_elements.specs.declared.settings.Strength.{Strength}
 use Rattle.collation_elements.specs.declared.settings.Variable.{Variable}
+use Rattle.collation_elements.specs.declared.weigher.Weigher.{Weigher}
 use Rattle.collation_elements.specs.Items.{items as items_of}
 use Rattle.collation_elements.specs.ItemParts.{item_keys}
 use Rattle.collation_elements.specs.Units.{units}
-use Rattle.collation_elements.specs.Weighing.{weigher, after_units}
+use Rattle.collation_elements.specs.Weighing.{weigher, after_units, WeigherStandsFor}
 use Rattle.collation_pattern.specs.Border.{border, BordersGoOn}
 use Rattle.collation_pattern.specs.Compiled.{Compiled}
 use Rattle.collation_letters.specs.Symbols.{AreLastSymbols, NothingWaitsBehindForeignKeys, OneSymbolIsOfTheLastKey}
 use Rattle.collation_skip.specs.Passed.{IsPassed, IsQuiet}
-use Rattle.collation_search.specs.declared.letter_loop.Place.{Place}
 use Rattle.collation_search.specs.declared.walk.KeyPlace.{KeyPlace}
 use Rattle.collation_search.specs.declared.walk.Walk.{Walk}
-use Rattle.collation_search.specs.LetterRun.{HasGoneOn}
-use Rattle.collation_search.specs.Walks.{WalksOver, stands, passed_at, place_of}
+use Rattle.collation_search.specs.Apart.{HasWalkedOn}
+use Rattle.collation_search.specs.Walks.{WalksOver, passed_to, place_of}
 use Rattle.collation_matches.specs.ByClusters.{placed}
 use Rattle.collation_matches.specs.Selecting.{selected, remembered}
 use Rattle.collation_search.proofs.ApartLemmas.{from_none}
@@ -127,7 +127,7 @@ any-places pattern items ranges u w h none now at some select last_end capacity 
 
 pub walks-passed : Laws → (pattern keys : List Key) (more items : List Item) (ranges : List (ℕ × ℕ)) (start last : ℕ) (w : Walk) → w.state ≡ 0 → 1 ≤ start → start ≤ last → StartFrom start more →
     IsQuiet pattern (more ++ ClusterStart last ∷ []) → AreLastSymbols pattern keys (0 ∷ []) → WalksOver pattern items ranges w →
-    WalksOver pattern (items ++ (more ++ ClusterStart last ∷ map (λ key. Element key) keys)) ranges (stands w (passed_at last))
+    WalksOver pattern (items ++ (more ++ ClusterStart last ∷ map (λ key. Element key) keys)) ranges (passed_to w last)
 walks-passed laws pattern keys more items ranges start last w none some after from quiet symbols h =
     let end : List Item = ClusterStart last ∷ [] in
     let over = goes-over laws.go_on pattern more items ranges [] start w some from (none ∙ sym (border_none pattern))
@@ -144,29 +144,27 @@ walks-passed laws pattern keys more items ranges start last w none some after fr
     (subst (λ (rs : List (ℕ × ℕ)). WalksOver pattern ((items ++ more) ++ ClusterStart last ∷ []) rs b) (append-nil ranges) begun) refl refl refl refl refl refl in
     let all : ((items ++ more) ++ ClusterStart last ∷ []) ++ map (λ key. Element key) keys ≡ items ++ (more ++ ClusterStart last ∷ map (λ key. Element key) keys) =
     append_assoc (items ++ more) (ClusterStart last ∷ []) (map (λ key. Element key) keys) ∙ append_assoc items more (ClusterStart last ∷ map (λ key. Element key) keys) in
-    any-places pattern (items ++ (more ++ ClusterStart last ∷ map (λ key. Element key) keys)) ranges u (stands w (passed_at last))
+    any-places pattern (items ++ (more ++ ClusterStart last ∷ map (λ key. Element key) keys)) ranges u (passed_to w last)
     (subst (λ (is : List Item). WalksOver pattern is ranges u) all ended) refl refl refl refl over.select over.last_end h.capacity h.few
 
--- from a place where no key waits to the one behind the text that is passed
-pub goes-on : Laws → GoesOnLaw → (table : TableMap) (pattern : Compiled) (walk : Walk) (place : Place) (start last : ℕ) (cs : List ℕ) (next : ℕ) → place.standing.state ≡ 0 → place.variable ≡ 0 → 1 ≤ start →
-    IsPassed table pattern start last cs next →
-    HasGoneOn table pattern walk place walk (record { standing = passed_at last; variable = 0 }) (units table (points_from start cs)) []
-goes-on laws law table pattern walk place start last cs next none plain some p = λ before ranges on.
-    let S : Strength = pattern.strength in
-    let V : Variable = pattern.variable in
+-- where no key waits and the last element that was variable or primary was not variable: behind the text that is passed the same
+pub goes-on : Laws → GoesOnLaw → (table : TableMap) (pattern : Compiled) (w : Weigher) (walk : Walk) (start last : ℕ) (cs : List ℕ) (next : ℕ) → w.after_variable ≡ false → walk.state ≡ 0 → 1 ≤ start →
+    IsPassed table pattern start last cs next → HasWalkedOn table pattern w walk w (passed_to walk last) (units table (points_from start cs)) []
+goes-on laws law table pattern w walk start last cs next plain none some p = λ before ranges on.
     let us = units table (points_from start cs) in
-    let w = weigher S V (nat_lt 0 place.variable) in
-    let flag : nat_lt 0 place.variable ≡ false = ap (nat_lt 0) plain in
     let given : List Item = p.before ++ ClusterStart last ∷ map (λ key. Element key) p.keys in
-    let gives : items_of table S V (nat_lt 0 place.variable) us ≡ given = ap (λ (b : Bool). items_of table S V b us) flag ∙ p.items in
-    let leaves : after_units table V (nat_lt 0 place.variable) us ≡ false = ap (λ (b : Bool). after_units table V b us) flag ∙ p.flag in
+    let gives : items_of table w.strength w.variable w.after_variable us ≡ given =
+    ap (λ (b : Bool). items_of table w.strength w.variable b us) plain ∙ ap₂ (λ (s : Strength) (v : Variable). items_of table s v false us) on.strength on.variable ∙ p.items in
+    let leaves : after_units table w.variable w.after_variable us ≡ false =
+    ap (λ (b : Bool). after_units table w.variable b us) plain ∙ ap (λ (v : Variable). after_units table v false us) on.variable ∙ p.flag in
+    let same : weigher w.strength w.variable false ≡ w = ap (λ (b : Bool). weigher w.strength w.variable b) (sym plain) in
     record {
       items = on.items ++ given;
-      weighed = law table w before us on.items given false gives leaves on.weighed;
-      walked = subst (λ (rs : List (ℕ × ℕ)). WalksOver pattern.keys (on.items ++ given) rs (stands walk (passed_at last))) (sym (append-nil ranges))
-          (walks-passed laws pattern.keys p.keys p.before on.items ranges start last (stands walk place.standing) none some p.after_start p.later p.quiet p.foreign on.walked);
-      strength = refl;
-      variable = refl;
+      weighed = subst (λ (v : Weigher). WeigherStandsFor table v (before ++ us) (on.items ++ given)) same (law table w before us on.items given false gives leaves on.weighed);
+      walked = subst (λ (rs : List (ℕ × ℕ)). WalksOver pattern.keys (on.items ++ given) rs (passed_to walk last)) (sym (append-nil ranges))
+          (walks-passed laws pattern.keys p.keys p.before on.items ranges start last walk none some p.after_start p.later p.quiet p.foreign on.walked);
+      strength = on.strength;
+      variable = on.variable;
     }
 
 -- ---- the characters that are passed

@@ -1,14 +1,16 @@
 -- What a walk over some items of a text represents: the ranges that end with the clusters that have ended, and where the last keys
 -- stand.
-use Rattle.std.specs.Prelude.{◌≡◌, ℕ, ◌≤◌, nat_lt, Bool, true, false, List, [], ◌∷◌, ◌++◌, length, map}
+use Rattle.std.specs.Prelude.{◌≡◌, ℕ, ◌≤◌, true, List, [], ◌∷◌, ◌++◌, length, map, if◌then◌else◌}
 use Rattle.circular_buffer.specs.Buffer.{keep_last}
 use Rattle.collation_elements.specs.declared.keys.Key.{Key}
 use Rattle.collation_elements.specs.declared.keys.Item.{Item}
+use Rattle.collation_elements.specs.declared.keys.Item.TheVariants.{ClusterStart, Element}
 use Rattle.collation_elements.specs.Clusters.{Cluster, clusters_from}
 use Rattle.collation_pattern.specs.Border.{border}
+use Rattle.collation_letters.specs.declared.letter.Role.{Role}
+use Rattle.collation_letters.specs.Letters.{begins_cluster}
 use Rattle.collation_matches.specs.ByClusters.{PlacedKey}
 use Rattle.collation_search.specs.declared.walk.KeyPlace.{KeyPlace}
-use Rattle.collation_search.specs.declared.walk.Standing.{Standing}
 use Rattle.collation_search.specs.declared.walk.Walk.{Walk}
 use Rattle.collation_matches.specs.Selecting.{selected, remembered}
 use Rattle.collation_matches.specs.ByClusters.{text_begin, has_keys, found, placed}
@@ -17,21 +19,13 @@ use Rattle.collation_matches.specs.ByClusters.{text_begin, has_keys, found, plac
 abbrev pub place_of : PlacedKey → KeyPlace
 place_of k = record { start = k.start; is_first = k.is_first }
 
--- a flag as a number
-abbrev pub flag_word : Bool → ℕ
-flag_word false = 0
-flag_word true = 1
+-- the items of a letter: the start of a cluster at an offset, if one begins there, and its keys
+abbrev pub letter_items : Role → ℕ → List Key → List Item
+letter_items role start keys = (if begins_cluster role then ClusterStart start ∷ [] else []) ++ map (λ key. Element key) keys
 
--- where a walk stands, and a walk that stands there
-abbrev pub standing_of : Walk → Standing
-standing_of walk = record { state = walk.state; start = walk.start; keys = flag_word walk.has_keys }
-
-abbrev pub stands : Walk → Standing → Walk
-stands walk at = record walk { state = at.state; start = at.start; has_keys = nat_lt 0 at.keys }
-
--- where a walk stands after a cluster at this offset with one key, where none waits
-abbrev pub passed_at : ℕ → Standing
-passed_at start = record { state = 0; start = start; keys = 1 }
+-- a walk that has passed text by: it stands in a cluster with a key, which starts at this offset, and no key waits
+abbrev pub passed_to : Walk → ℕ → Walk
+passed_to walk start = record walk { state = 0; start = start; has_keys = true }
 
 -- A walk over these items by this pattern, which has handed out these ranges: with any items that follow, the clusters are
 -- those `before`, which have ended, and those from the current one on. The ranges are those that end with one of the former, or

@@ -12,16 +12,16 @@ ghost use Rattle.collation_letters.specs.Letters.{IsLetter, is_mark};
 ghost use Rattle.collation_letters.specs.Store.{AreLetters};
 ghost use Rattle.collation_letters.specs.declared.letter.Role.TheVariants.{Steps, Plain};
 ghost use Rattle.collation_matches.specs.GoodPrefix.{most_bytes};
-ghost use Rattle.collation_search.specs.declared.letter_loop.Place.{Place};
+ghost use Rattle.collation_search.specs.Apart.{HasWalkedOn};
 ghost use Rattle.collation_search.specs.Caches.{AreRight};
-ghost use Rattle.collation_search.specs.LetterRun.{HasComeTo, HasGoneOn, place_of};
+ghost use Rattle.collation_search.specs.LetterRun.{HasComeTo};
 
 use crate::feed::call;
 use crate::search::Query;
 use crate::skipping::Cache;
-use crate::walk::{Standing, Walk, flag_word};
-use collation_elements::weighers_go_on;
-use collation_letters::{Letter, Letters, NO_SYMBOL, Role, is_next, laws_of_symbols};
+use crate::walk::Walk;
+use collation_elements::{Weigher, weighers_go_on};
+use collation_letters::{Letter, Letters, Role, is_next, laws_of_symbols};
 use collation_table::Weights;
 use nfd_points::laws::{laws_of_decompositions, laws_of_faults, laws_of_ordering, laws_of_points};
 use utf8_cut::sized_character;
@@ -36,19 +36,11 @@ pub(crate) struct Walked {
     pub(crate) letter: Letter,
 }
 
-/// Where a weigher and a walk stand between two letters. It is kept apart from them, so that it need not be written at each letter.
-#[derive(Clone, Copy)]
-pub(crate) struct Place {
-    pub(crate) standing: Standing,
-    /// 1 if the last element that was variable or primary was variable, in shifted weighting, else 0.
-    pub(crate) variable: u64,
-}
-
 /// Walks over characters at the front of a piece, of which the first is the one that follows `from`, as long as no unit reaches from one
-/// to the next, and that does not begin after `reach`. It answers how many bytes these have, the character that follows, and where the
-/// walk stands then.
+/// to the next, and that does not begin after `reach`. It answers how many bytes these have, and the character that follows.
 #[inline(never)]
 pub(crate) fn walk_letters<W: Weights, F: FnMut(u64, u64)>(
+    weigher: &mut Weigher,
     walk: &mut Walk,
     query: &Query<'_, W>,
     cache: &mut Cache,
@@ -56,24 +48,25 @@ pub(crate) fn walk_letters<W: Weights, F: FnMut(u64, u64)>(
     from: Walked,
     reach: usize,
     offset: u64,
-    first_place: Place,
     sink: &mut F,
-) -> (Walked, Place)
-    requires first { (len_utf8 from.next ≤ length piece.now) × SpellsCharacter (take (len_utf8 from.next) piece.now) from.next }
-    requires letter { IsLetter (W.table query.now.table.now) query.now.pattern.now (from.next ∷ []) from.letter }
+) -> Walked
+    requires first { (len_utf8 from.next ≤ length piece.now)
+        × SpellsCharacter (take (len_utf8 from.next) piece.now) from.next }
+    requires letter { IsLetter (W.table query.now.table.now) query.now.pattern.now
+        (from.next ∷ []) from.letter }
     requires begins { begins_with_starter (points_of offset from.next) ≡ true }
     requires right { AreRight (W.table query.now.table.now) query.now.pattern.now cache.old }
     requires fits { offset + length piece.now ≤ most_bytes }
     requires state { walk.old.state ≤ length query.now.pattern.now.keys }
-    requires place { first_place.standing.state ≤ length query.now.pattern.now.keys }
     requires callable { F.IsAlwaysCallable sink.old }
-    ensures come { (ranges : List (ℕ × ℕ)) × FoldsTo (λ f range g. F.step f range.0 range.1 tt g) sink.old ranges sink.new
-        × HasComeTo (W.table query.now.table.now) query.now.pattern.now piece.now offset reach from.next walk.old first_place
-        walk.new result.1 result.0.len result.0.next ranges }
+    ensures come { (ranges : List (ℕ × ℕ))
+        × FoldsTo (λ f range g. F.step f range.0 range.1 tt g) sink.old ranges sink.new
+        × HasComeTo (W.table query.now.table.now) query.now.pattern.now piece.now offset reach from.next
+        weigher.old walk.old weigher.new walk.new result.len result.next ranges }
     ensures right { AreRight (W.table query.now.table.now) query.now.pattern.now cache.new }
     ensures state { walk.new.state ≤ length query.now.pattern.now.keys }
-    ensures place { result.1.standing.state ≤ length query.now.pattern.now.keys }
     ensures select { walk.new.select ≡ walk.old.select }
+    ensures room { walk.new.places.capacity ≡ walk.old.places.capacity }
     ensures callable { F.IsAlwaysCallable sink.new }
 {
     laws_of_points();
@@ -84,7 +77,6 @@ pub(crate) fn walk_letters<W: Weights, F: FnMut(u64, u64)>(
     let mut c = from.next;
     let mut end = c.len_utf8();
     let mut letter = from.letter;
-    let mut place = first_place;
     let mut due = cache.hold;
     'characters: loop {
         let Some((next, len)) = sized_character(&piece[end..]) else {
@@ -110,40 +102,32 @@ pub(crate) fn walk_letters<W: Weights, F: FnMut(u64, u64)>(
         if end > reach {
             break;
         }
-        place = walk_next(walk, query, &letter, place, offset + at as u64, sink);
+        walk_letter(weigher, walk, query, &letter, offset + at as u64, sink);
         at = end;
         end += len;
         c = next;
         letter = following;
-        if at < due || place.standing.state != 0 || place.variable != 0 {
+        if at < due || walk.state != 0 || weigher.after_variable() {
             continue;
         }
         let start = offset + at as u64;
-        let skipped = cache.skip(query, walk, &piece[at..], c, reach - at, start);
+        let skipped = cache.skip(query, &piece[at..], c, reach - at, start);
         due = at.saturating_add(cache.hold);
         let Some(skipped) = skipped else {
             continue;
         };
         due = due.saturating_add(skipped.end);
-        place = Place {
-            standing: Standing {
-                state: 0,
-                start: start + skipped.start as u64,
-                keys: 1,
-            },
-            variable: 0,
-        };
+        walk.pass_to(start + skipped.start as u64);
         at += skipped.end;
         c = skipped.next;
         end = at + c.len_utf8();
         letter = skipped.letter;
     }
-    let walked = Walked {
+    Walked {
         len: at,
         next: c,
         letter,
-    };
-    (walked, place)
+    }
 }
 
 /// The letter of some characters, of which the first is `first`, and the one that follows them, where they are one unit: a mark that
@@ -179,156 +163,102 @@ fn join<W: Weights>(
     }
 }
 
-/// Walks over the characters of a letter, of which the first stands at a byte offset, from a place on, and hands out the range that became
-/// known, if there is one. It says where the walk stands then.
+/// Walks over the characters of a letter, of which the first stands at a byte offset, and hands out the range that became known, if there
+/// is one.
 #[inline(always)]
-fn walk_next<W: Weights, F: FnMut(u64, u64)>(
+fn walk_letter<W: Weights, F: FnMut(u64, u64)>(
+    weigher: &mut Weigher,
     walk: &mut Walk,
     query: &Query<'_, W>,
     letter: &Letter,
-    place: Place,
     start: u64,
     sink: &mut F,
-) -> Place
+)
     requires known { (letter.now.role ≢ Steps) × (is_mark letter.now.role ≡ false) }
     requires state { walk.old.state ≤ length query.now.pattern.now.keys }
-    requires place { place.standing.state ≤ length query.now.pattern.now.keys }
     requires callable { F.IsAlwaysCallable sink.old }
-    ensures walked { (ranges : List (ℕ × ℕ)) × FoldsTo (λ f range g. F.step f range.0 range.1 tt g) sink.old ranges sink.new
-        × ((cs : List ℕ) → IsLetter (W.table query.now.table.now) query.now.pattern.now cs letter.now
-        → HasGoneOn (W.table query.now.table.now) query.now.pattern.now walk.old place walk.new result
+    ensures walked { (ranges : List (ℕ × ℕ))
+        × FoldsTo (λ f range g. F.step f range.0 range.1 tt g) sink.old ranges sink.new
+        × ((cs : List ℕ)
+        → IsLetter (W.table query.now.table.now) query.now.pattern.now cs letter.now
+        → HasWalkedOn (W.table query.now.table.now) query.now.pattern.now
+        weigher.old walk.old weigher.new walk.new
         (units (W.table query.now.table.now) (points_from start cs)) ranges) }
-    ensures place { result.standing.state ≤ length query.now.pattern.now.keys }
     ensures state { walk.new.state ≤ length query.now.pattern.now.keys }
     ensures select { walk.new.select ≡ walk.old.select }
+    ensures room { walk.new.places.capacity ≡ walk.old.places.capacity }
     ensures callable { F.IsAlwaysCallable sink.new }
 {
-    let state = place.standing.state;
-    if is_short(letter, state, query.pattern.len(), start) {
-        let state = walk_plain(walk, query, letter, state, start);
-        return Place {
-            standing: Standing {
-                state,
-                start,
-                keys: 1,
-            },
-            variable: 0,
-        };
-    }
-    walk.stand(place.standing);
-    let letter = *letter;
-    let variable = walk_any(walk, query, &letter, place.variable, start, sink);
-    Place {
-        standing: walk.standing(),
-        variable,
-    }
-}
-
-/// Whether a letter, whose characters begin at a byte offset, is plain and has a symbol, and no match waits before it.
-#[inline(always)]
-fn is_short(letter: &Letter, state: usize, pattern_len: usize, start: u64) -> bool
-    ensures plain { result ≡ true → letter.now.role ≡ Plain }
-    ensures some { result ≡ true → letter.now.symbols.third < 255 }
-    ensures short { result ≡ true → state < pattern_len }
-    ensures later { result ≡ true → 0 < start }
-{
     match letter.role {
-        Role::Plain => letter.symbols.third != NO_SYMBOL && state < pattern_len && start > 0,
-        _ => false,
+        Role::Plain => walk_plain(weigher, walk, query, letter, start, sink),
+        _ => walk_any(weigher, walk, query, letter, start, sink),
     }
 }
 
-/// Walks over the characters of a plain letter that has a symbol, of which the first stands at a byte offset, where so many keys have
-/// matched before and no match waits. It says how many have then.
+/// The same of a plain letter, as most are.
 #[inline(always)]
-fn walk_plain<W: Weights>(
+fn walk_plain<W: Weights, F: FnMut(u64, u64)>(
+    weigher: &mut Weigher,
     walk: &mut Walk,
     query: &Query<'_, W>,
     letter: &Letter,
-    state: usize,
     start: u64,
-) -> usize
+    sink: &mut F,
+)
     requires plain { letter.now.role ≡ Plain }
-    requires some { letter.now.symbols.third < 255 }
-    requires later { 0 < start }
-    requires walk { walk.old.state ≤ length query.now.pattern.now.keys }
-    requires state { state < length query.now.pattern.now.keys }
-    ensures walked { (place : Place) (cs : List ℕ) → place.standing.state ≡ state
+    requires state { walk.old.state ≤ length query.now.pattern.now.keys }
+    requires callable { F.IsAlwaysCallable sink.old }
+    ensures walked { (ranges : List (ℕ × ℕ))
+        × FoldsTo (λ f range g. F.step f range.0 range.1 tt g) sink.old ranges sink.new
+        × ((cs : List ℕ)
         → IsLetter (W.table query.now.table.now) query.now.pattern.now cs letter.now
-        → HasGoneOn (W.table query.now.table.now) query.now.pattern.now walk.old place walk.new
-        (record { standing = record { state = result; start = start; keys = 1 }; variable = 0 })
-        (units (W.table query.now.table.now) (points_from start cs)) [] }
+        → HasWalkedOn (W.table query.now.table.now) query.now.pattern.now
+        weigher.old walk.old weigher.new walk.new
+        (units (W.table query.now.table.now) (points_from start cs)) ranges) }
     ensures state { walk.new.state ≤ length query.now.pattern.now.keys }
-    ensures within { result ≤ length query.now.pattern.now.keys }
     ensures select { walk.new.select ≡ walk.old.select }
+    ensures room { walk.new.places.capacity ≡ walk.old.places.capacity }
+    ensures callable { F.IsAlwaysCallable sink.new }
 {
     laws_of_points();
     laws_of_symbols();
     weighers_go_on();
-    walk.take_plain(query.pattern, state, letter.symbols.third, start)
+    let pattern = query.pattern;
+    let range = walk.take_plain(pattern, letter.symbols.third, start);
+    *weigher = Weigher::restore(pattern.strength(), pattern.variable(), false);
+    call(range, sink);
 }
 
-/// Walks over the characters of any letter, of which the first stands at a byte offset, from where the walk stands, and hands out the range
-/// that became known, if there is one. It takes and answers the flag of a place.
+/// The same of any letter.
 #[inline(never)]
 fn walk_any<W: Weights, F: FnMut(u64, u64)>(
+    weigher: &mut Weigher,
     walk: &mut Walk,
     query: &Query<'_, W>,
     letter: &Letter,
-    variable: u64,
     start: u64,
     sink: &mut F,
-) -> u64
+)
     requires known { (letter.now.role ≢ Steps) × (is_mark letter.now.role ≡ false) }
     requires state { walk.old.state ≤ length query.now.pattern.now.keys }
     requires callable { F.IsAlwaysCallable sink.old }
-    ensures walked { (ranges : List (ℕ × ℕ)) × FoldsTo (λ f range g. F.step f range.0 range.1 tt g) sink.old ranges sink.new
-        × ((cs : List ℕ) → IsLetter (W.table query.now.table.now) query.now.pattern.now cs letter.now
-        → HasGoneOn (W.table query.now.table.now) query.now.pattern.now walk.old (place_of walk.old variable) walk.new (place_of walk.new result)
+    ensures walked { (ranges : List (ℕ × ℕ))
+        × FoldsTo (λ f range g. F.step f range.0 range.1 tt g) sink.old ranges sink.new
+        × ((cs : List ℕ)
+        → IsLetter (W.table query.now.table.now) query.now.pattern.now cs letter.now
+        → HasWalkedOn (W.table query.now.table.now) query.now.pattern.now
+        weigher.old walk.old weigher.new walk.new
         (units (W.table query.now.table.now) (points_from start cs)) ranges) }
     ensures state { walk.new.state ≤ length query.now.pattern.now.keys }
     ensures select { walk.new.select ≡ walk.old.select }
-    ensures callable { F.IsAlwaysCallable sink.new }
-{
-    let place = Place {
-        standing: walk.standing(),
-        variable,
-    };
-    let place = walk_letter(walk, query, letter, place, start, sink);
-    walk.stand(place.standing);
-    place.variable
-}
-
-/// Walks over the characters of a letter, of which the first stands at a byte offset, from a place on, and hands out the range that became
-/// known, if there is one. It says where the walk stands then.
-#[inline(always)]
-fn walk_letter<W: Weights, F: FnMut(u64, u64)>(
-    walk: &mut Walk,
-    query: &Query<'_, W>,
-    letter: &Letter,
-    place: Place,
-    start: u64,
-    sink: &mut F,
-) -> Place
-    requires known { (letter.now.role ≢ Steps) × (is_mark letter.now.role ≡ false) }
-    requires state { walk.old.state ≤ length query.now.pattern.now.keys }
-    requires place { place.standing.state ≤ length query.now.pattern.now.keys }
-    requires callable { F.IsAlwaysCallable sink.old }
-    ensures walked { (ranges : List (ℕ × ℕ)) × FoldsTo (λ f range g. F.step f range.0 range.1 tt g) sink.old ranges sink.new
-        × ((cs : List ℕ) → IsLetter (W.table query.now.table.now) query.now.pattern.now cs letter.now
-        → HasGoneOn (W.table query.now.table.now) query.now.pattern.now walk.old place walk.new result
-        (units (W.table query.now.table.now) (points_from start cs)) ranges) }
-    ensures place { result.standing.state ≤ length query.now.pattern.now.keys }
-    ensures state { walk.new.state ≤ length query.now.pattern.now.keys }
-    ensures select { walk.new.select ≡ walk.old.select }
+    ensures room { walk.new.places.capacity ≡ walk.old.places.capacity }
     ensures callable { F.IsAlwaysCallable sink.new }
 {
     laws_of_points();
     weighers_go_on();
-    let (standing, range) = walk.take_letter(query.pattern, place.standing, letter, start);
+    let pattern = query.pattern;
+    let range = walk.take_letter(pattern, letter, start);
+    let after = letter.role.flag_after(weigher.after_variable());
+    *weigher = Weigher::restore(pattern.strength(), pattern.variable(), after);
     call(range, sink);
-    Place {
-        standing,
-        variable: flag_word(letter.role.flag_after(place.variable > 0)),
-    }
 }

@@ -11,18 +11,14 @@ ghost use Rattle.collation_letters.specs.Store.{AreLetters};
 ghost use Rattle.std.specs.List.{FoldsTo};
 ghost use Rattle.nfd_points.specs.Points.{points_from};
 ghost use Rattle.collation_elements.specs.Units.{units};
-ghost use Rattle.collation_search.specs.declared.letter_loop.Place.{Place};
-ghost use Rattle.collation_search.specs.LetterRun.{HasGoneOn, place_of};
-ghost use Rattle.collation_search.specs.Walks.{passed_at};
 
 use crate::feed::hand_out;
 use crate::finder::Finder;
-use crate::letter_loop::{Place, Walked, walk_letters};
+use crate::letter_loop::{Walked, walk_letters};
 use crate::matching::Found;
 use crate::search::Query;
 use crate::skipping::Cache;
-use crate::walk::flag_word;
-use collation_elements::{Weigher, units_stay_apart};
+use collation_elements::units_stay_apart;
 use collation_letters::{Letter, Letters, is_next};
 use collation_table::Weights;
 use nfd_points::laws::{laws_of_decompositions, laws_of_faults, laws_of_ordering, laws_of_points};
@@ -42,11 +38,16 @@ fn read_letter<W: Weights>(
     requires letter { IsLetter (W.table query.now.table.now) query.now.pattern.now (c ∷ []) letter }
     requires right { AreLetters (W.table query.now.table.now) query.now.pattern.now letters.old }
     ensures within { IfSome result (λ r. r.1.len + len_utf8 r.1.next ≤ length piece.now) }
-    ensures next { IfSome result (λ r. SpellsCharacter (take (len_utf8 r.1.next) (drop r.1.len piece.now)) r.1.next) }
-    ensures letter { IfSome result (λ r. IsLetter (W.table query.now.table.now) query.now.pattern.now (r.1.next ∷ []) r.1.letter) }
+    ensures next { IfSome result (λ r.
+        SpellsCharacter (take (len_utf8 r.1.next) (drop r.1.len piece.now)) r.1.next) }
+    ensures letter { IfSome result (λ r.
+        IsLetter (W.table query.now.table.now) query.now.pattern.now (r.1.next ∷ []) r.1.letter) }
     ensures text { IfSome result (λ r. IsUtf8 (take r.1.len piece.now)) }
-    ensures begun { IfSome result (λ r. (others : List ℕ) × (chars (take r.1.len piece.now) ≡ c ∷ others)) }
-    ensures all { IfSome result (λ r. IsLetter (W.table query.now.table.now) query.now.pattern.now (chars (take r.1.len piece.now)) r.0) }
+    ensures begun { IfSome result (λ r. (others : List ℕ)
+        × (chars (take r.1.len piece.now) ≡ c ∷ others)) }
+    ensures all { IfSome result (λ r.
+        IsLetter (W.table query.now.table.now) query.now.pattern.now
+        (chars (take r.1.len piece.now)) r.0) }
     ensures right { AreLetters (W.table query.now.table.now) query.now.pattern.now letters.new }
 {
     let mut all = letter;
@@ -81,8 +82,10 @@ fn next_apart<W: Weights>(
     requires letter { IsLetter (W.table query.now.table.now) query.now.pattern.now (c ∷ []) letter }
     requires right { AreLetters (W.table query.now.table.now) query.now.pattern.now letters.old }
     ensures within { IfSome result (λ w. w.len + len_utf8 w.next ≤ length piece.now) }
-    ensures next { IfSome result (λ w. SpellsCharacter (take (len_utf8 w.next) (drop w.len piece.now)) w.next) }
-    ensures letter { IfSome result (λ w. IsLetter (W.table query.now.table.now) query.now.pattern.now (w.next ∷ []) w.letter) }
+    ensures next { IfSome result (λ w.
+        SpellsCharacter (take (len_utf8 w.next) (drop w.len piece.now)) w.next) }
+    ensures letter { IfSome result (λ w.
+        IsLetter (W.table query.now.table.now) query.now.pattern.now (w.next ∷ []) w.letter) }
     ensures right { AreLetters (W.table query.now.table.now) query.now.pattern.now letters.new }
 {
     let (all, walked) = read_letter(query, letters, piece, c, letter)?;
@@ -103,8 +106,10 @@ fn can_begin<W: Weights>(
     letter: Letter,
     reach: usize,
 ) -> bool
-    requires first { (len_utf8 first ≤ length piece.now) × SpellsCharacter (take (len_utf8 first) piece.now) first }
-    requires letter { IsLetter (W.table query.now.table.now) query.now.pattern.now (first ∷ []) letter }
+    requires first { (len_utf8 first ≤ length piece.now)
+        × SpellsCharacter (take (len_utf8 first) piece.now) first }
+    requires letter { IsLetter (W.table query.now.table.now) query.now.pattern.now
+        (first ∷ []) letter }
     requires right { AreLetters (W.table query.now.table.now) query.now.pattern.now letters.old }
     ensures apart { result ≡ true → letter.is_apart ≡ true }
     ensures right { AreLetters (W.table query.now.table.now) query.now.pattern.now letters.new }
@@ -156,14 +161,22 @@ impl Finder {
         requires callable { F.IsAlwaysCallable sink.old }
         ensures within { result ≤ length piece.now }
         ensures text { IsUtf8 (take result piece.now) }
-        ensures taken { (ranges : List (ℕ × ℕ)) × FoldsTo (λ f range g. F.step f range.0 range.1 tt g) sink.old ranges sink.new
-            × ((taken : List ℕ) (handed : List (ℕ × ℕ)) → FinderStandsFor (W.table query.now.table.now) query.now.pattern.now self.old taken handed
+        ensures taken { (ranges : List (ℕ × ℕ))
+            × FoldsTo (λ f range g. F.step f range.0 range.1 tt g) sink.old ranges sink.new
+            × ((taken : List ℕ) (handed : List (ℕ × ℕ))
+            → FinderStandsFor (W.table query.now.table.now) query.now.pattern.now
+            self.old taken handed
             → offset ≡ byte_len taken
-            → FinderStandsFor (W.table query.now.table.now) query.now.pattern.now self.new (taken ++ chars (take result piece.now)) (handed ++ ranges)) }
+            → FinderStandsFor (W.table query.now.table.now) query.now.pattern.now self.new
+            (taken ++ chars (take result piece.now)) (handed ++ ranges)) }
         // units may be cut early, but only before a character that does not begin after `reach`
-        ensures left { (place : ℕ) (taken : List ℕ) (handed : List (ℕ × ℕ)) → FinderStandsFor (W.table query.now.table.now) query.now.pattern.now self.old taken handed
-            → offset ≡ byte_len taken → offset + reach ≤ place → IsCutUpTo (W.table query.now.table.now) place taken self.old.window.points
-            → IsCutUpTo (W.table query.now.table.now) place (taken ++ chars (take result piece.now)) self.new.window.points }
+        ensures left { (place : ℕ) (taken : List ℕ) (handed : List (ℕ × ℕ))
+            → FinderStandsFor (W.table query.now.table.now) query.now.pattern.now
+            self.old taken handed
+            → offset ≡ byte_len taken → offset + reach ≤ place
+            → IsCutUpTo (W.table query.now.table.now) place taken self.old.window.points
+            → IsCutUpTo (W.table query.now.table.now) place (taken ++ chars
+            (take result piece.now)) self.new.window.points }
         ensures right { AreRight (W.table query.now.table.now) query.now.pattern.now cache.new }
         ensures open { self.new.window.has_ended ≡ false }
         ensures longest { self.new.longest_key ≡ self.old.longest_key }
@@ -198,8 +211,12 @@ impl Finder {
         requires open { self.old.window.has_ended ≡ false }
         requires longest { self.old.longest_key ≡ longest_key_of (W.table query.now.table.now) }
         requires pattern_len { self.old.pattern_len ≡ length query.now.pattern.now.keys }
-        ensures paused { (taken : List ℕ) (ranges : List (ℕ × ℕ)) → FinderStandsFor (W.table query.now.table.now) query.now.pattern.now self.old taken ranges
-            → IsPaused (W.table query.now.table.now) query.now.pattern.now self.new.reorder self.new.window self.new.weigher self.new.walk taken (ranges ++ found.new.items) }
+        ensures paused { (taken : List ℕ) (ranges : List (ℕ × ℕ))
+            → FinderStandsFor (W.table query.now.table.now) query.now.pattern.now
+            self.old taken ranges
+            → IsPaused (W.table query.now.table.now) query.now.pattern.now
+            self.new.reorder self.new.window self.new.weigher self.new.walk
+            taken (ranges ++ found.new.items) }
         ensures open { self.new.window.has_ended ≡ false }
         ensures none_waits { self.new.reorder.held ≡ [] }
         ensures longest { self.new.longest_key ≡ self.old.longest_key }
@@ -224,8 +241,10 @@ impl Finder {
         offset: u64,
         sink: &mut F,
     ) -> (usize, char)
-        requires first { (len_utf8 first ≤ length piece.now) × SpellsCharacter (take (len_utf8 first) piece.now) first }
-        requires letter { IsLetter (W.table query.now.table.now) query.now.pattern.now (first ∷ []) first_letter }
+        requires first { (len_utf8 first ≤ length piece.now)
+            × SpellsCharacter (take (len_utf8 first) piece.now) first }
+        requires letter { IsLetter (W.table query.now.table.now) query.now.pattern.now
+            (first ∷ []) first_letter }
         requires begins { begins_with_starter (points_of offset first) ≡ true }
         requires pattern_len { self.old.pattern_len ≡ length query.now.pattern.now.keys }
         requires right { AreRight (W.table query.now.table.now) query.now.pattern.now cache.old }
@@ -233,13 +252,19 @@ impl Finder {
         requires callable { F.IsAlwaysCallable sink.old }
         ensures within { result.0 + len_utf8 result.1 ≤ length piece.now }
         ensures reach { result.0 ≤ reach }
-        ensures next { SpellsCharacter (take (len_utf8 result.1) (drop result.0 piece.now)) result.1 }
+        ensures next { SpellsCharacter (take (len_utf8 result.1)
+            (drop result.0 piece.now)) result.1 }
         ensures text { IsUtf8 (take result.0 piece.now) }
-        ensures begun { (others : List ℕ) × (chars (take result.0 piece.now) ++ result.1 ∷ [] ≡ first ∷ others) }
-        ensures apart { AreApart (W.table query.now.table.now) offset (chars (take result.0 piece.now)) result.1 }
-        ensures walked { (ranges : List (ℕ × ℕ)) × FoldsTo (λ f range g. F.step f range.0 range.1 tt g) sink.old ranges sink.new
-            × HasWalkedOn (W.table query.now.table.now) query.now.pattern.now self.old.weigher self.old.walk self.new.weigher self.new.walk
-            (units (W.table query.now.table.now) (points_from offset (chars (take result.0 piece.now)))) ranges }
+        ensures begun { (others : List ℕ)
+            × (chars (take result.0 piece.now) ++ result.1 ∷ [] ≡ first ∷ others) }
+        ensures apart { AreApart (W.table query.now.table.now) offset
+            (chars (take result.0 piece.now)) result.1 }
+        ensures walked { (ranges : List (ℕ × ℕ))
+            × FoldsTo (λ f range g. F.step f range.0 range.1 tt g) sink.old ranges sink.new
+            × HasWalkedOn (W.table query.now.table.now) query.now.pattern.now
+            self.old.weigher self.old.walk self.new.weigher self.new.walk
+            (units (W.table query.now.table.now)
+            (points_from offset (chars (take result.0 piece.now)))) ranges }
         ensures right { AreRight (W.table query.now.table.now) query.now.pattern.now cache.new }
         ensures window { self.new.window ≡ self.old.window }
         ensures reorder { self.new.reorder ≡ self.old.reorder }
@@ -248,16 +273,13 @@ impl Finder {
         ensures select { self.new.walk.select ≡ self.old.walk.select }
         ensures callable { F.IsAlwaysCallable sink.new }
     {
-        let place = Place {
-            standing: self.walk.standing(),
-            variable: flag_word(self.weigher.after_variable()),
-        };
         let from = Walked {
             len: 0,
             next: first,
             letter: first_letter,
         };
-        let (walked, place) = walk_letters(
+        let walked = walk_letters(
+            &mut self.weigher,
             &mut self.walk,
             query,
             cache,
@@ -265,12 +287,8 @@ impl Finder {
             from,
             reach,
             offset,
-            place,
             sink,
         );
-        self.walk.stand(place.standing);
-        let pattern = query.pattern;
-        self.weigher = Weigher::restore(pattern.strength(), pattern.variable(), place.variable > 0);
         (walked.len, walked.next)
     }
 }

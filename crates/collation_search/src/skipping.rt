@@ -1,6 +1,5 @@
 //! Text that can't match is passed by, where no key waits.
 use crate::search::Query;
-use crate::walk::Walk;
 use collation_elements::weighers_go_on;
 use collation_letters::{Letters, laws_of_symbols};
 use collation_pattern::laws::laws_of_borders;
@@ -12,10 +11,10 @@ use std::alloc::{AllocError, Global};
 const MOST_HELD: usize = 2_048;
 
 /// How many bytes are worth the passing by.
-const WORTH: usize = 8;
+const WORTH: usize = 2;
 
-/// The fewest bytes that are walked over before text is passed by again: a character with a key of the pattern, and the next one.
-const FEWEST_HELD: usize = 2;
+/// The fewest bytes that are walked over before text is passed by again.
+const FEWEST_HELD: usize = 1;
 
 /// What a search has found out of the characters that it met, for its table and its pattern.
 #[derive(Drop)]
@@ -27,7 +26,7 @@ pub(crate) struct Cache {
 }
 
 impl Cache {
-    ghost use Rattle.std.specs.Prelude.{◌≡◌, ℕ, ◌+◌, ◌<◌, ◌≤◌, List, [], ◌∷◌, length, take, drop, true, IfOk, IfSome};
+    ghost use Rattle.std.specs.Prelude.{◌≡◌, ℕ, ◌+◌, ◌<◌, ◌≤◌, List, [], ◌∷◌, length, take, drop, true, false, IfOk, IfSome};
     ghost use Rattle.std.specs.Char.{len_utf8};
     ghost use Rattle.std.specs.Str.{chars, IsUtf8};
     ghost use Rattle.utf8_cut.specs.Sequences.{SpellsCharacter};
@@ -37,10 +36,12 @@ impl Cache {
     ghost use Rattle.collation_pattern.specs.Compiled.{Compiled};
     ghost use Rattle.collation_letters.specs.Apart.{IsNext};
     ghost use Rattle.collation_letters.specs.Letters.{IsLetter};
-    ghost use Rattle.collation_search.specs.declared.letter_loop.Place.{Place};
+    ghost use Rattle.collation_elements.specs.Weighing.{is_after_variable};
+    ghost use Rattle.collation_elements.specs.declared.weigher.Weigher.{Weigher};
+    ghost use Rattle.collation_search.specs.declared.walk.Walk.{Walk};
+    ghost use Rattle.collation_search.specs.Apart.{HasWalkedOn};
     ghost use Rattle.collation_search.specs.Caches.{AreRight};
-    ghost use Rattle.collation_search.specs.LetterRun.{HasGoneOn};
-    ghost use Rattle.collation_search.specs.Walks.{passed_at};
+    ghost use Rattle.collation_search.specs.Walks.{passed_to};
 
     /// Nothing is known yet.
     ///
@@ -48,7 +49,8 @@ impl Cache {
     ///
     /// Only where memory was refused.
     pub(crate) fn new<W: Weights>(alloc: Global, table: &W) -> Result<Cache, AllocError>
-        ensures { IfOk result (λ cache. (table : TableMap) (pattern : Compiled) → AreRight table pattern cache) }
+        ensures { IfOk result (λ cache. (table : TableMap) (pattern : Compiled)
+            → AreRight table pattern cache) }
     {
         Ok(Cache {
             letters: Letters::new(alloc, table)?,
@@ -62,13 +64,13 @@ impl Cache {
     pub(crate) fn skip<W: Weights>(
         &mut self,
         query: &Query<'_, W>,
-        walk: &Walk,
         piece: &[u8],
         first: char,
         reach: usize,
         offset: u64,
     ) -> Option<Passed>
-        requires first { (len_utf8 first ≤ length piece.now) × SpellsCharacter (take (len_utf8 first) piece.now) first }
+        requires first { (len_utf8 first ≤ length piece.now)
+            × SpellsCharacter (take (len_utf8 first) piece.now) first }
         requires begins { begins_with_starter (points_of offset first) ≡ true }
         requires later { 0 < offset }
         requires right { AreRight (W.table query.now.table.now) query.now.pattern.now self.old }
@@ -76,15 +78,21 @@ impl Cache {
         ensures last { IfSome result (λ s. s.start ≤ s.end) }
         ensures reach { IfSome result (λ s. s.end ≤ reach) }
         ensures within { IfSome result (λ s. s.end + len_utf8 s.next ≤ length piece.now) }
-        ensures next { IfSome result (λ s. SpellsCharacter (take (len_utf8 s.next) (drop s.end piece.now)) s.next) }
-        ensures letter { IfSome result (λ s. IsLetter (W.table query.now.table.now) query.now.pattern.now (s.next ∷ []) s.letter) }
+        ensures next { IfSome result (λ s.
+            SpellsCharacter (take (len_utf8 s.next) (drop s.end piece.now)) s.next) }
+        ensures letter { IfSome result (λ s.
+            IsLetter (W.table query.now.table.now) query.now.pattern.now (s.next ∷ []) s.letter) }
         ensures text { IfSome result (λ s. IsUtf8 (take s.end piece.now)) }
-        ensures begun { IfSome result (λ s. (others : List ℕ) × (chars (take s.end piece.now) ≡ first ∷ others)) }
-        ensures apart { IfSome result (λ s. IsNext (W.table query.now.table.now) offset (chars (take s.end piece.now)) s.next) }
-        ensures walked { IfSome result (λ s. (place : Place) → place.standing.state ≡ 0 → place.variable ≡ 0
-            → HasGoneOn (W.table query.now.table.now) query.now.pattern.now walk.now place walk.now
-            (record { standing = passed_at (offset + s.start); variable = 0 })
-            (units (W.table query.now.table.now) (points_from offset (chars (take s.end piece.now)))) []) }
+        ensures begun { IfSome result (λ s. (others : List ℕ)
+            × (chars (take s.end piece.now) ≡ first ∷ others)) }
+        ensures apart { IfSome result (λ s.
+            IsNext (W.table query.now.table.now) offset (chars (take s.end piece.now)) s.next) }
+        ensures walked { IfSome result (λ s. (weigher : Weigher) (walk : Walk)
+            → is_after_variable weigher ≡ false → walk.state ≡ 0
+            → HasWalkedOn (W.table query.now.table.now) query.now.pattern.now weigher walk weigher
+            (passed_to walk (offset + s.start))
+            (units (W.table query.now.table.now)
+            (points_from offset (chars (take s.end piece.now)))) []) }
         ensures right { AreRight (W.table query.now.table.now) query.now.pattern.now self.new }
     {
         laws_of_symbols();
@@ -106,11 +114,11 @@ impl Cache {
     }
 }
 
-/// How many bytes are walked over before text is passed by again, where so many were before, and so many were passed by then: half as
-/// many where that was worth it, else twice as many.
+/// How many bytes are walked over before text is passed by again, where so many were before, and so many were passed by then: a quarter
+/// where that was worth it, else twice as many.
 fn held_after(hold: usize, passed: usize) -> usize {
     if passed >= WORTH {
-        (hold / 2).max(FEWEST_HELD)
+        (hold / 4).max(FEWEST_HELD)
     } else {
         hold.saturating_mul(2).min(MOST_HELD)
     }

@@ -2,7 +2,6 @@
 //! keys so far is a number, and of the last keys, of as many as that at least, it keeps where they stand.
 
 ghost use Rattle.std.specs.Prelude.{◌≡◌, ℕ, List, [], ◌++◌, IfOk};
-ghost use Rattle.collation_search.specs.Walks.{flag_word};
 ghost use Rattle.collation_search.specs.Walks.{WalksOver};
 
 use circular_buffer::HeapCircularBuffer;
@@ -19,23 +18,6 @@ pub(crate) struct KeyPlace {
     pub(crate) start: u64,
     /// Whether it is the first key of its cluster.
     pub(crate) is_first: bool,
-}
-
-/// Where a walk stands, but for the places of its last keys. No field is shorter than a word, so that it is moved word by word.
-#[derive(Clone, Copy)]
-pub(crate) struct Standing {
-    pub(crate) state: usize,
-    pub(crate) start: u64,
-    /// 1 if the current cluster has keys, else 0.
-    pub(crate) keys: u64,
-}
-
-/// 1 for true, 0 for false.
-#[inline(always)]
-pub(crate) fn flag_word(flag: bool) -> u64
-    ensures { result ≡ flag_word flag }
-{
-    flag as u64
 }
 
 /// A walk over the items of a text.
@@ -63,9 +45,8 @@ impl Walk {
     ghost use Rattle.collation_elements.specs.Clusters.{clusters_from};
     ghost use Rattle.collation_matches.specs.ByClusters.{text_begin, found};
     ghost use Rattle.collation_matches.specs.Selecting.{selected, remembered};
-    ghost use Rattle.collation_search.specs.declared.walk.Standing.{Standing};
-    ghost use Rattle.collation_search.specs.Walks.{WalksOver, standing_of, stands};
-    ghost use Rattle.collation_letters.specs.Letters.{begins_cluster};
+    ghost use Rattle.collation_letters.specs.declared.letter.Role.TheVariants.{Plain};
+    ghost use Rattle.collation_search.specs.Walks.{WalksOver, letter_items, passed_to};
     ghost use Rattle.collation_letters.specs.Symbols.{AreLastSymbols, listed, some_symbol};
 
     /// A walk at the beginning of a text.
@@ -94,10 +75,13 @@ impl Walk {
     pub(crate) fn take(&mut self, pattern: &Pattern, item: Item) -> Option<(u64, u64)>
         requires { self.old.state ≤ length pattern.now.keys }
         ensures walks { (items : List Item) (ranges : List (ℕ × ℕ))
-            → WalksOver pattern.now.keys items ranges self.old → WalksOver pattern.now.keys (items ++ item ∷ []) (ranges ++ option_to_list result) self.new }
+            → WalksOver pattern.now.keys items ranges self.old
+            → WalksOver pattern.now.keys (items ++ item ∷ [])
+            (ranges ++ option_to_list result) self.new }
         ensures at_start { IfSome result (λ range. item ≡ ClusterStart range.1) }
         ensures within { self.new.state ≤ length pattern.now.keys }
         ensures select { self.new.select ≡ self.old.select }
+        ensures room { self.new.places.capacity ≡ self.old.places.capacity }
     {
         match item {
             // The first cluster has begun with the text.
@@ -121,169 +105,114 @@ impl Walk {
         }
     }
 
-    /// Where it stands.
-    #[inline(always)]
-    pub(crate) fn standing(&self) -> Standing
-        ensures { result ≡ standing_of self.now }
-    {
-        Standing {
-            state: self.state,
-            start: self.start,
-            keys: flag_word(self.has_keys),
-        }
-    }
-
-    /// Lets it stand there.
-    #[inline(always)]
-    pub(crate) fn stand(&mut self, at: Standing)
-        ensures { self.new ≡ stands self.old at }
-    {
-        self.state = at.state;
-        self.start = at.start;
-        self.has_keys = at.keys > 0;
-    }
-
-    /// Takes the start of a cluster, if one begins at a byte offset, and the keys of a letter, from where the walk stands. It says where
-    /// it stands then, and hands out the range that ends at the start, if there is one.
+    /// Takes the start of a cluster at a byte offset, if one begins there, and the keys of a letter. It hands out the range that ends at
+    /// the start, if there is one.
     #[inline(always)]
     pub(crate) fn take_letter(
         &mut self,
         pattern: &Pattern,
-        at: Standing,
         letter: &Letter,
         start: u64,
-    ) -> (Standing, Option<(u64, u64)>)
+    ) -> Option<(u64, u64)>
         requires state { self.old.state ≤ length pattern.now.keys }
-        requires at { at.state ≤ length pattern.now.keys }
-        ensures walks { (items : List Item) (ranges : List (ℕ × ℕ)) (keys : List Key) → AreLastSymbols pattern.now.keys keys (listed letter.now.symbols)
-            → WalksOver pattern.now.keys items ranges (stands self.old at)
-            → WalksOver pattern.now.keys (items ++ ((if begins_cluster letter.now.role then ClusterStart start ∷ [] else []) ++ map (λ key. Item.Element key) keys))
-            (ranges ++ option_to_list result.1) (stands self.new result.0) }
+        ensures walks { (items : List Item) (ranges : List (ℕ × ℕ)) (keys : List Key)
+            → AreLastSymbols pattern.now.keys keys (listed letter.now.symbols)
+            → WalksOver pattern.now.keys items ranges self.old
+            → WalksOver pattern.now.keys (items ++ letter_items letter.now.role start keys)
+            (ranges ++ option_to_list result) self.new }
         ensures state { self.new.state ≤ length pattern.now.keys }
-        ensures within { result.0.state ≤ length pattern.now.keys }
         ensures select { self.new.select ≡ self.old.select }
+        ensures room { self.new.places.capacity ≡ self.old.places.capacity }
     {
         laws_of_symbols();
-        let (at, range) = self.take_start(pattern, at, letter.role.begins_cluster(), start);
-        let at = self.take_symbol(pattern, at, letter.symbols.first);
-        let at = self.take_symbol(pattern, at, letter.symbols.second);
-        (self.take_symbol(pattern, at, letter.symbols.third), range)
+        let range = self.take_start(pattern, letter.role.begins_cluster(), start);
+        self.take_symbol(pattern, letter.symbols.first);
+        self.take_symbol(pattern, letter.symbols.second);
+        self.take_symbol(pattern, letter.symbols.third);
+        range
     }
 
-    /// Takes the start of a cluster, if one begins at a byte offset.
-    #[inline(always)]
-    fn take_start(
-        &mut self,
-        pattern: &Pattern,
-        at: Standing,
-        begins: bool,
-        start: u64,
-    ) -> (Standing, Option<(u64, u64)>)
-        requires state { self.old.state ≤ length pattern.now.keys }
-        requires at { at.state ≤ length pattern.now.keys }
-        ensures walks { (items : List Item) (ranges : List (ℕ × ℕ)) → WalksOver pattern.now.keys items ranges (stands self.old at)
-            → WalksOver pattern.now.keys (items ++ (if begins then ClusterStart start ∷ [] else [])) (ranges ++ option_to_list result.1) (stands self.new result.0) }
-        ensures state { self.new.state ≤ length pattern.now.keys }
-        ensures within { result.0.state ≤ length pattern.now.keys }
-        ensures select { self.new.select ≡ self.old.select }
-    {
-        if !begins {
-            return (at, None);
-        }
-        if start > 0 && at.state < pattern.len() {
-            let at = Standing {
-                state: at.state,
-                start,
-                keys: 0,
-            };
-            return (at, None);
-        }
-        self.end_cluster(pattern, at, start)
-    }
-
-    /// Takes the start of a cluster at a byte offset, at which a range may end.
-    #[inline(never)]
-    fn end_cluster(
-        &mut self,
-        pattern: &Pattern,
-        at: Standing,
-        start: u64,
-    ) -> (Standing, Option<(u64, u64)>)
-        requires { at.state ≤ length pattern.now.keys }
-        ensures walks { (items : List Item) (ranges : List (ℕ × ℕ)) → WalksOver pattern.now.keys items ranges (stands self.old at)
-            → WalksOver pattern.now.keys (items ++ ClusterStart start ∷ []) (ranges ++ option_to_list result.1) (stands self.new result.0) }
-        ensures state { self.new.state ≤ length pattern.now.keys }
-        ensures within { result.0.state ≤ length pattern.now.keys }
-        ensures select { self.new.select ≡ self.old.select }
-    {
-        self.stand(at);
-        let range = self.take(pattern, Item::ClusterStart(start));
-        (self.standing(), range)
-    }
-
-    /// Takes the start of a cluster at a byte offset, where no match waits, and the key of a symbol, from where a walk stands in which so
-    /// many keys have matched. It says how many have then.
+    /// Takes the start of a cluster at a byte offset and the keys of a symbol, as far as it is one. It hands out the range that ends at the
+    /// start, if there is one.
     #[inline(always)]
     pub(crate) fn take_plain(
         &mut self,
         pattern: &Pattern,
-        state: usize,
         symbol: u8,
         start: u64,
-    ) -> usize
-        requires walk { self.old.state ≤ length pattern.now.keys }
-        requires state { state < length pattern.now.keys }
-        requires later { 0 < start }
-        requires some { symbol < 255 }
-        ensures walks { (at : Standing) (items : List Item) (ranges : List (ℕ × ℕ)) (keys : List Key) → at.state ≡ state
-            → AreLastSymbols pattern.now.keys keys (some_symbol symbol) → WalksOver pattern.now.keys items ranges (stands self.old at)
-            → WalksOver pattern.now.keys (items ++ (ClusterStart start ∷ map (λ key. Item.Element key) keys)) (ranges ++ [])
-            (stands self.new (record { state = result; start = start; keys = 1 })) }
+    ) -> Option<(u64, u64)>
+        requires state { self.old.state ≤ length pattern.now.keys }
+        ensures walks { (items : List Item) (ranges : List (ℕ × ℕ)) (keys : List Key)
+            → AreLastSymbols pattern.now.keys keys (some_symbol symbol)
+            → WalksOver pattern.now.keys items ranges self.old
+            → WalksOver pattern.now.keys (items ++ letter_items Plain start keys)
+            (ranges ++ option_to_list result) self.new }
         ensures state { self.new.state ≤ length pattern.now.keys }
-        ensures within { result ≤ length pattern.now.keys }
         ensures select { self.new.select ≡ self.old.select }
+        ensures room { self.new.places.capacity ≡ self.old.places.capacity }
     {
-        let at = Standing {
-            state,
-            start,
-            keys: 0,
-        };
-        let after = self.take_symbol(pattern, at, symbol);
-        after.state
+        let range = self.take(pattern, Item::ClusterStart(start));
+        self.take_symbol(pattern, symbol);
+        range
+    }
+
+    /// Takes the start of a cluster at a byte offset, if one begins there.
+    #[inline(always)]
+    fn take_start(&mut self, pattern: &Pattern, begins: bool, start: u64) -> Option<(u64, u64)>
+        requires state { self.old.state ≤ length pattern.now.keys }
+        ensures walks { (items : List Item) (ranges : List (ℕ × ℕ))
+            → WalksOver pattern.now.keys items ranges self.old
+            → WalksOver pattern.now.keys (items ++ (if begins then ClusterStart start ∷ [] else []))
+            (ranges ++ option_to_list result) self.new }
+        ensures state { self.new.state ≤ length pattern.now.keys }
+        ensures select { self.new.select ≡ self.old.select }
+        ensures room { self.new.places.capacity ≡ self.old.places.capacity }
+    {
+        if begins {
+            self.take(pattern, Item::ClusterStart(start))
+        } else {
+            None
+        }
     }
 
     /// Takes the keys of a symbol, if it is one. Where no prefix of the pattern has matched then, it is of no account where the keys so
     /// far stand.
     #[inline(always)]
-    fn take_symbol(&mut self, pattern: &Pattern, at: Standing, symbol: u8) -> Standing
+    fn take_symbol(&mut self, pattern: &Pattern, symbol: u8)
         requires state { self.old.state ≤ length pattern.now.keys }
-        requires at { at.state ≤ length pattern.now.keys }
-        ensures walks { (items : List Item) (ranges : List (ℕ × ℕ)) (keys : List Key) → AreLastSymbols pattern.now.keys keys (some_symbol symbol)
-            → WalksOver pattern.now.keys items ranges (stands self.old at)
-            → WalksOver pattern.now.keys (items ++ map (λ key. Item.Element key) keys) ranges (stands self.new result) }
+        ensures walks { (items : List Item) (ranges : List (ℕ × ℕ)) (keys : List Key)
+            → AreLastSymbols pattern.now.keys keys (some_symbol symbol)
+            → WalksOver pattern.now.keys items ranges self.old
+            → WalksOver pattern.now.keys (items ++ map (λ key.
+            Item.Element key) keys) ranges self.new }
         ensures state { self.new.state ≤ length pattern.now.keys }
-        ensures within { result.state ≤ length pattern.now.keys }
-        ensures place { symbol < 255 → result ≡ record { state = result.state; start = at.start; keys = 1 } }
         ensures select { self.new.select ≡ self.old.select }
+        ensures room { self.new.places.capacity ≡ self.old.places.capacity }
     {
         laws_of_symbols();
         if symbol == NO_SYMBOL {
-            return at;
+            return;
         }
-        let mut after = Standing {
-            state: 0,
-            start: at.start,
-            keys: 1,
-        };
-        after.state = advance(pattern, at.state, symbol);
-        if after.state == 0 {
-            return after;
+        self.state = advance(pattern, self.state, symbol);
+        let is_first = !self.has_keys;
+        self.has_keys = true;
+        if self.state == 0 {
+            return;
         }
         self.places.push_back(KeyPlace {
-            start: at.start,
-            is_first: at.keys == 0,
+            start: self.start,
+            is_first,
         });
-        after
+    }
+
+    /// Goes to a cluster with a key that starts at this offset, where no key waits before it or behind it.
+    #[inline(always)]
+    pub(crate) fn pass_to(&mut self, start: u64)
+        ensures { self.new ≡ passed_to self.old start }
+    {
+        self.state = 0;
+        self.start = start;
+        self.has_keys = true;
     }
 
     /// The range that is handed out if the current cluster ends at the byte offset `end`: its start and its end, in bytes from the
@@ -291,7 +220,9 @@ impl Walk {
     pub(crate) fn end(&self, pattern: &Pattern, end: u64) -> Option<(u64, u64)>
         ensures found { (items : List Item) (ranges : List (ℕ × ℕ))
             → WalksOver pattern.now.keys items ranges self.now
-            → ranges ++ option_to_list result ≡ selected self.now.select (found pattern.now.keys (clusters_from text_begin items) end) }
+            → ranges ++ option_to_list result
+            ≡ selected self.now.select (found pattern.now.keys
+            (clusters_from text_begin items) end) }
         ensures at_end { IfSome result (λ range. range.1 ≡ end) }
     {
         let range = self.ended(pattern, end)?;
@@ -317,8 +248,10 @@ impl Walk {
     ///
     /// A cluster without keys ends no range, although it leaves the state as it was.
     fn ended(&self, pattern: &Pattern, end: u64) -> Option<(u64, u64)>
-        ensures found { (items : List Item) (ranges : List (ℕ × ℕ)) → (h : WalksOver pattern.now.keys items ranges self.now)
-            → found pattern.now.keys h.before h.current.start ++ option_to_list result ≡ found pattern.now.keys (clusters_from text_begin items) end }
+        ensures found { (items : List Item) (ranges : List (ℕ × ℕ))
+            → (h : WalksOver pattern.now.keys items ranges self.now)
+            → found pattern.now.keys h.before h.current.start ++ option_to_list result
+            ≡ found pattern.now.keys (clusters_from text_begin items) end }
         ensures at_end { IfSome result (λ range. range.1 ≡ end) }
     {
         if !self.has_keys || self.state != pattern.len() {

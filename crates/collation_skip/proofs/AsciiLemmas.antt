@@ -144,7 +144,7 @@ min-zero (suc a) zero h = inr refl
 min-zero (suc a) (suc b) h = absurd (omega (arith, h))
 
 -- no unit reaches from one character to the next
-ends-one : RunLaws → (table : TableMap) (at end c d : ℕ) → d < 128 → (AreClosed table (points_from 0 (c ∷ [])) ⊎ AreApart table (points_from 0 (d ∷ []))) → EndsBefore table (points_of at c) end d
+pub ends-one : RunLaws → (table : TableMap) (at end c d : ℕ) → d < 128 → (AreClosed table (points_from 0 (c ∷ [])) ⊎ AreApart table (points_from 0 (d ∷ []))) → EndsBefore table (points_of at c) end d
 ends-one laws table at end c d less (inl closed) = λ x is more.
     subst (λ (ps : List Point). units table (ps ++ x ∷ more) ≡ units table ps ++ units table (x ∷ more)) (sym (points_are_shifted laws.shifted at (c ∷ [])) ∙ from_one at c) (closed at (x ∷ more))
 ends-one laws table at end c d less (inr apart) = λ x is more.

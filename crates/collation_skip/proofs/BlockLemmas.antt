@@ -1,9 +1,10 @@
 -- What was passed of a text of ASCII, up to behind a character with a key that the pattern does not have.
 use Rattle.std.specs.Char.{len_utf8}
 use Rattle.std.specs.Str.{IsAscii}
-use Rattle.std.proofs.Common.{◌≡◌, ◌∙◌, ℕ, suc, ◌+◌, ◌≤◌, ◌<◌, true, false, List, [], ◌∷◌, ◌++◌, length, take, get_or, inl, inr, sym, ap, subst, arith}
+use Rattle.std.proofs.Common.{◌≡◌, ◌∙◌, ℕ, suc, ◌+◌, ◌≤◌, ◌<◌, true, false, List, [], ◌∷◌, ◌++◌, length, take, get_or, inl, inr, refl, sym, ap, subst, arith}
 use Rattle.std.proofs.lemmas.Bool.{cases_lt}
 use Rattle.std.proofs.lemmas.List.{get_or-take, get_or_past, length-take-le}
+use Rattle.std.proofs.Math.Seq.{take-suc}
 use Rattle.nfd_points.specs.declared.points.Point.{Point}
 use Rattle.nfd_points.specs.Points.{byte_len, points_from, begins_with_starter}
 use Rattle.nfd_points.specs.Laws.{AsciiIsItself}
@@ -13,17 +14,18 @@ use Rattle.collation_elements.specs.declared.keys.Item.TheVariants.{ClusterStart
 use Rattle.collation_elements.specs.Units.{units}
 use Rattle.collation_elements.specs.Weighing.{after_units}
 use Rattle.collation_pattern.specs.Compiled.{Compiled}
+use Rattle.collation_letters.specs.Apart.{IsNext}
 use Rattle.collation_letters.specs.declared.letter.Letter.{Letter}
 use Rattle.collation_letters.specs.Letters.{begins_cluster, is_mark, flag_after, keys_alone, IsLetter}
 use Rattle.collation_letters.specs.Symbols.{AreLastSymbols, SymbolsAreListed, some_symbol}
-use Rattle.collation_letters.proofs.ApartLemmas.{from_first}
+use Rattle.collation_letters.proofs.ApartLemmas.{from_first, next-more, next_of_one}
 use Rattle.collation_letters.proofs.CharacterLemmas.{points_are_shifted}
 use Rattle.collation_letters.proofs.LetterApart.{plain-known}
 use Rattle.collation_skip.specs.declared.classes.Classes.{Classes}
 use Rattle.collation_skip.specs.Blocks.{AreClassesRight, IsClean, Passes}
 use Rattle.collation_skip.specs.Passed.{IsPassed}
 use Rattle.collation_skip.proofs.ClassLemmas.{begun_items, letter-items, letter-symbols}
-use Rattle.collation_skip.proofs.AsciiLemmas.{RunLaws, possible, ascii-at, bytes-len, run_items, run-to, run-items-more, quiet-more, front-one}
+use Rattle.collation_skip.proofs.AsciiLemmas.{RunLaws, possible, ascii-at, begins-ascii, ends-one, bytes-len, run_items, run-to, run-items-more, quiet-more, front-one}
 
 -- ---- bytes of ASCII
 
@@ -40,17 +42,17 @@ begins-first law start (b ∷ bytes) n some less =
 
 -- ---- what was passed
 
-pub passed-of : RunLaws → SymbolsAreListed → (table : TableMap) (pattern : Compiled) (classes : Classes) → AreClassesRight table pattern classes → (bytes : List ℕ) (total i : ℕ) → Passes classes bytes total → suc i < total → (l : Letter) →
-    IsLetter table pattern (get_or bytes i 0 ∷ []) l → IsClean l → (start : ℕ) → IsPassed table pattern start (start + i) (take (suc i) bytes) (get_or bytes (suc i) 0)
-passed-of laws listed table pattern classes rights bytes total i p less l h clean start =
-    let here : i < total = omega (arith, less) in
-    let long = p.within in
-    let within : i < length bytes = omega (arith, long, less) in
+-- up to a character before another of ASCII, which need not pass
+pub passed-of : RunLaws → SymbolsAreListed → (table : TableMap) (pattern : Compiled) (classes : Classes) → AreClassesRight table pattern classes → (bytes : List ℕ) (total i : ℕ) → Passes classes bytes total → i < total → suc i < length bytes →
+    get_or bytes (suc i) 0 < 128 → (l : Letter) → IsLetter table pattern (get_or bytes i 0 ∷ []) l → IsClean l → (start : ℕ) → IsPassed table pattern start (start + i) (take (suc i) bytes) (get_or bytes (suc i) 0)
+passed-of laws listed table pattern classes rights bytes total i p here followed ascii l h clean start =
+    let within : i < length bytes = omega (arith, followed) in
     let c = get_or bytes i 0 in
+    let d = get_or bytes (suc i) 0 in
+    let cs = take i bytes in
     let run = run-to laws table pattern classes rights start bytes total i p here in
-    let more = run-to laws table pattern classes rights start bytes total (suc i) p less in
-    let at = start + byte_len (take i bytes) in
-    let us = units table (points_from start (take i bytes)) in
+    let at = start + byte_len cs in
+    let us = units table (points_from start cs) in
     let flag = after_units table pattern.variable false us in
     let may = possible table pattern.variable us in
     let both = run-items-more laws table pattern start bytes i within run.is_next.ends in
@@ -61,11 +63,12 @@ passed-of laws listed table pattern classes rights bytes total i p less l h clea
     let counted = bytes-len bytes i (omega (arith, within)) (λ j lower. ascii-at classes bytes total j p (omega (arith, lower, here))) in
     let same : at ≡ start + i = omega (arith, counted) in
     let items = letter-items laws.shifted table pattern c l flag at known may h ∙ ap (λ b. begun_items b at keys) (ap begins_cluster clean.0) ∙ ap (λ q. begun_items true q keys) same in
+    let one : IsNext table at (c ∷ []) d = next_of_one laws.points table at c d (begins-ascii laws.ascii (at + len_utf8 c) d ascii) (ends-one laws table at (at + len_utf8 c) c d ascii (inl (h.closed said.0))) in
     let place = rights.place in
     let state = run.state in
     record {
-      begins = begins-first laws.ascii start bytes i (omega (arith, within)) (p.ascii (omega (arith, less)));
-      is_next = more.is_next;
+      begins = begins-first laws.ascii start bytes i (omega (arith, within)) (p.ascii (omega (arith, here)));
+      is_next = subst (λ (t : List ℕ). IsNext table start t d) (sym (take-suc bytes i 0 within)) (next-more laws.points table start c d cs [] (c ∷ []) refl run.is_next one);
       before = I;
       keys = keys;
       items = both.0 ∙ ap (λ (is : List Item). I ++ is) items;

@@ -1,10 +1,12 @@
 -- What the operations on vectors of sixteen bytes hold at each lane.
-use Rattle.std.proofs.Common.{◌≡◌, ◌∙◌, ℕ, zero, suc, ◌*◌, ◌/◌, ◌%◌, ◌^◌, ◌<◌, min, List, [], ◌∷◌, Bool, false, not, cond, eqb, ltb, length, get_or, map, replicate, refl, sym, ap, arith, w8, bit_and, bit_or, Fits, inl, inr}
+use Rattle.std.proofs.Common.{◌≡◌, ◌∙◌, ℕ, ◌*◌, ◌/◌, ◌%◌, ◌^◌, ◌<◌, ◌≤◌, min, List, Bool, false, true, not, cond, eqb, ltb, length, get_or, map, replicate, refl, sym, ap, subst, arith, w8, w64, bit_and, bit_or, Fits, inl, inr}
+use Rattle.std.specs.Int.{bit_at, trailing_zeros}
 use Rattle.std.specs.Simd.Lanes.{zip2, sel_l, mask_l, Each1}
-use Rattle.std.proofs.lemmas.Simd.{length-zip2, get_or-zip2, get_or-replicate, length-sel_l, get_or-sel_l, length-swz_l, get_or-swz_l_below, swz_l, SwzOk, SwzOk-from_below, Each1-from_get_or, Each1-get_or}
-use Rattle.std.proofs.lemmas.Bool.{cases_Bool, cond-true, cond-false, ltb-true, ltb-false, true≢false, eqb-true}
-use Rattle.std.proofs.lemmas.Nat.{and_mask, le_or_l, le_or_r}
-use Rattle.std.proofs.lemmas.Nat.Bits.{and_pow}
+use Rattle.std.proofs.lemmas.Simd.{length-zip2, get_or-zip2, get_or-replicate, length-sel_l, get_or-sel_l, length-swz_l, get_or-swz_l_below, swz_l, SwzOk, SwzOk-from_below, Each1-from_get_or, Each1-get_or, mask_l-lt, bit_mask_l}
+use Rattle.std.proofs.lemmas.List.{length-map, get_or-map}
+use Rattle.std.proofs.lemmas.Bool.{cases_Bool, cases_lt, cond-true, cond-false, ltb-true, ltb-false, true≢false, eqb-true}
+use Rattle.std.proofs.lemmas.Nat.{and_mask, le_or_l, le_or_r, or_lt}
+use Rattle.std.proofs.lemmas.Nat.Bits.{and_pow, bit_at-trailing_zeros, bit_at_or, bit_at-lt}
 use Rattle.collation_skip.specs.Lanes.{HasLanes}
 
 pub lanes-zip2 : (f : ℕ → ℕ → ℕ) (a b : List ℕ) → length a ≡ 16 → length b ≡ 16 → HasLanes (zip2 f a b) (λ k. f (get_or a k 0) (get_or b k 0))
@@ -71,16 +73,7 @@ least-lanes a b p q =
           ∙ least-is (get_or a k 0) (get_or b k 0);
     }
 
--- ---- tests of all lanes
-
--- where no bit of a mask is set, no lane passes
-pub mask-none : (p : ℕ → Bool) (xs : List ℕ) → mask_l (map p xs) ≡ 0 → (k : ℕ) → k < length xs → p (get_or xs k 0) ≡ false
-mask-none p [] none k less = absurd (omega (arith, less))
-mask-none p (x ∷ xs) none zero less = elim (cases_Bool (p x)) [
-  | inl yes' ↦ absurd (let e = cond-true {A = ℕ} (p x) 1 0 yes' in omega (arith, e, none))
-  | inr no' ↦ no'
-]
-mask-none p (x ∷ xs) none (suc k) less = mask-none p xs (omega (arith, none)) k (omega (arith, less))
+-- ---- the first lane that is not 0
 
 not-zero : (n : ℕ) → not (eqb n 0) ≡ false → n ≡ 0
 not-zero n h = elim (cases_Bool (eqb n 0)) [
@@ -88,8 +81,42 @@ not-zero n h = elim (cases_Bool (eqb n 0)) [
   | inr no' ↦ absurd (true≢false (sym (ap not no') ∙ h))
 ]
 
-pub zero-lanes : (v : List ℕ) → length v ≡ 16 → mask_l (map (λ x. not (eqb x 0)) v) ≡ 0 → (k : ℕ) → k < 16 → get_or v k 0 ≡ 0
-zero-lanes v long none k less = not-zero (get_or v k 0) (mask-none (λ x. not (eqb x 0)) v none k (omega (arith, long, less)))
+unset : (b : Bool) → cond {A = ℕ} b 1 0 ≡ 0 → b ≡ false
+unset false h = refl
+unset true h = absurd (omega (arith, h))
+
+pow-below : (n k : ℕ) → k ≡ 16 → n < 2 ^ k → n < 2 ^ 64
+pow-below n k same less = let l = subst (λ j. n < 2 ^ j) same less in omega (arith, l)
+
+abbrev pub mask_of : List ℕ → ℕ
+mask_of v = mask_l (map (λ x. not (eqb x 0)) v)
+
+pub record HasFirst (v : List ℕ) (first : ℕ) : Type 0 where
+  pub within : first ≤ 16
+  pub zeros : (k : ℕ) → k < first → get_or v k 0 ≡ 0
+
+-- the lowest bit of a mask and of one bit behind its lanes
+pub first-lane : (v : List ℕ) → length v ≡ 16 → HasFirst v (trailing_zeros w64 (bit_or (mask_of v) 65536))
+first-lane v long =
+    let mask = mask_of v in
+    let ms = map (λ x. not (eqb x 0)) v in
+    let both = bit_or mask 65536 in
+    let first = trailing_zeros w64 both in
+    let small : mask < 2 ^ 64 = let l = mask_l-lt ms in let e = length-map v (λ x. not (eqb x 0)) in pow-below mask (length ms) (e ∙ long) l in
+    let some = le_or_r mask 65536 in
+    let h = bit_at-trailing_zeros w64 both (omega (arith, some)) (or_lt 64 mask 65536 small (omega arith)) in
+    let behind : bit_at both 16 ≡ 1 = bit_at_or mask 65536 16 ∙ (let one = bit_at-lt mask 16 in omega (arith, one)) in
+    let within : first ≤ 16 = elim (cases_lt 16 first) [
+      | inl past ↦ (let none = h.2 16 past in omega (arith, none, behind))
+      | inr not_past ↦ omega (arith, not_past)
+    ] in
+    record {
+      within = within;
+      zeros = λ k less.
+          let none = h.2 k less in
+          let here : bit_at mask k ≡ 0 = (let e = bit_at_or mask 65536 k in omega (arith, none, e)) in
+          not-zero (get_or v k 0) (sym (get_or-map (λ x. not (eqb x 0)) v k 0 false (omega (arith, less, within, long))) ∙ unset (get_or ms k false) (sym (bit_mask_l ms k) ∙ here));
+    }
 
 pub or-left : (a b : ℕ) → bit_or a b ≡ 0 → a ≡ 0
 or-left a b h = let l = le_or_l a b in omega (arith, l, h)

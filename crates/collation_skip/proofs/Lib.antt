@@ -10,3 +10,4 @@ pub mod AsciiLemmas
 pub mod ClassLemmas
 pub mod LaneLemmas
 pub mod BlockLemmas
+pub mod ForeignLemmas

@@ -148,7 +148,7 @@ pub record IsClean (s t : State) : Type 0 where
   pub flag : (after : Bool) → flag_after s.letter.role after ≡ false
   pub symbols : listed s.letter.symbols ≡ 0 ∷ []
 
-begins-more : Laws → (table : TableMap) (at : ℕ) (before : List ℕ) (first : ℕ) (others : List ℕ) → begins_with_starter (points_from at before) ≡ true → IsNext table at before first →
+pub begins-more : Laws → (table : TableMap) (at : ℕ) (before : List ℕ) (first : ℕ) (others : List ℕ) → begins_with_starter (points_from at before) ≡ true → IsNext table at before first →
     begins_with_starter (points_from at (before ++ first ∷ others)) ≡ true
 begins-more laws table at [] first others h next =
     let here : at ≡ at + byte_len [] = let none = laws.bytes [] [] in omega (arith, none) in
@@ -222,6 +222,13 @@ reached-next laws shift table pattern s t at bytes byte c spelled known starter 
 
 -- ---- the first character
 
+pub none-ends : (pattern : List Key) → border pattern [] ≡ 0
+none-ends keys = let none : min (length keys) (length {A = Key} []) ≡ 0 = omega arith in ap (border_up_to keys []) none
+
+pub no-item : (first after : List Item) (i : Item) → [] ≡ first ++ i ∷ after → ⊥
+no-item [] after i e = cc
+no-item (f ∷ first) after i e = cc
+
 pub reached-first : (table : TableMap) (pattern : Compiled) (s : State) (at : ℕ) (bytes : List ℕ) (c : ℕ) → SpellsCharacter bytes c → begins_with_starter (points_from 0 (c ∷ [])) ≡ true →
     0 < length pattern.keys → IsLetter table pattern (c ∷ []) s.letter → s.depth ≡ 0 → s.len ≡ len_utf8 c → (s.letter.is_closed ≡ false → c ≡ s.character) → s.begun ≡ Whole → s.before ≡ 0 →
     IsReached table pattern s at bytes
@@ -248,10 +255,3 @@ reached-first table pattern s at bytes c spelled starter some h depth len charac
       character = λ yes. character;
       behind = λ yes. absurd (omega (arith, yes, before));
     }
-  where
-    none-ends : (pattern : List Key) → border pattern [] ≡ 0
-    none-ends keys = let none : min (length keys) (length {A = Key} []) ≡ 0 = omega arith in ap (border_up_to keys []) none
-
-    no-item : (first after : List Item) (i : Item) → [] ≡ first ++ i ∷ after → ⊥
-    no-item [] after i e = cc
-    no-item (f ∷ first) after i e = cc

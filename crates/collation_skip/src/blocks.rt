@@ -9,7 +9,7 @@ ghost use Rattle.collation_skip.specs.Blocks.{AreClassesRight, IsClean, Passes, 
 ghost use Rattle.collation_skip.specs.Passed.{IsPassed};
 
 use crate::classes::{Classes, in_set};
-use crate::lanes::{is_zero, load, stops};
+use crate::lanes::{load, stops, zeros_in_front};
 use crate::passed::Passed;
 use collation_elements::{units_stay_apart, weighers_go_on};
 use collation_letters::{FOREIGN, Letter, Letters, Role, laws_of_symbols};
@@ -49,7 +49,7 @@ pub(crate) fn pass_blocks<W: Weights>(
     units_stay_apart();
     weighers_go_on();
     let len = passed_len(classes, piece, piece.len().min(reach));
-    let (start, _) = last_clean(table, pattern, letters, piece, len)?;
+    let (start, _) = last_clean(table, pattern, letters, piece, followed_len(piece, len))?;
     let next = piece[start + 1] as char;
     let letter = letters.letter(table, pattern, next);
     Some(Passed {
@@ -60,7 +60,7 @@ pub(crate) fn pass_blocks<W: Weights>(
     })
 }
 
-/// How many bytes at the front of a piece pass, up to `limit`: the first one, blocks of sixteen behind it, and then bytes one by one.
+/// How many bytes at the front of a piece pass, up to `limit`: the first one, blocks of sixteen behind it, and the last few one by one.
 #[inline(never)]
 fn passed_len(classes: &Classes, piece: &[u8], limit: usize) -> usize
     requires { limit ≤ length piece.now }
@@ -71,8 +71,12 @@ fn passed_len(classes: &Classes, piece: &[u8], limit: usize) -> usize
         return 0;
     }
     let mut len = 1;
-    while limit - len >= 16 && block_passes(classes, piece, len) {
-        len += 16;
+    while limit - len >= 16 {
+        let lanes = lanes_that_pass(classes, piece, len);
+        len += lanes;
+        if lanes < 16 {
+            return len;
+        }
     }
     pass_bytes(classes, piece, len, limit)
 }
@@ -104,19 +108,33 @@ fn byte_passes(classes: &Classes, before: u8, here: u8) -> bool
         && in_set(&classes.joins, before).min(in_set(&classes.inner, here)) == 0
 }
 
-/// Whether the sixteen bytes from `at` on pass, behind the byte before them.
+/// How many of the sixteen bytes from `at` on pass, behind the byte before them, up to the first one that does not.
 #[inline(always)]
-pub(crate) fn block_passes(classes: &Classes, bytes: &[u8], at: usize) -> bool
+pub(crate) fn lanes_that_pass(classes: &Classes, bytes: &[u8], at: usize) -> usize
     requires behind { 1 ≤ at }
     requires within { at + 16 ≤ length bytes.now }
-    ensures { result ≡ true → (k : ℕ) → k < 16
+    ensures within { result ≤ 16 }
+    ensures passes { (k : ℕ) → k < result
         → PassesBehind classes.now (slice_index bytes.now (at + k - 1)) (slice_index bytes.now (at + k)) }
 {
-    is_zero(stops(classes, load(bytes, at - 1), load(bytes, at)))
+    zeros_in_front(stops(classes, load(bytes, at - 1), load(bytes, at)))
 }
 
-/// The last of some bytes at the front of a piece, but for the very last, whose character is a cluster with a key that the pattern
-/// does not have; and its letter.
+/// How many of the first `len` bytes of a piece, which pass, have a byte of ASCII behind them.
+#[inline(always)]
+fn followed_len(piece: &[u8], len: usize) -> usize
+    requires { len ≤ length piece.now }
+    ensures within { result ≤ len }
+    ensures followed { 0 < result → len ≤ result → (len < length piece.now) × (slice_index piece.now len < 128) }
+{
+    if len < piece.len() && piece[len] < 128 {
+        return len;
+    }
+    len.saturating_sub(1)
+}
+
+/// The last of the first `len` bytes of a piece whose character is a cluster with a key that the pattern does not have; and its letter.
+#[inline(always)]
 fn last_clean<W: Weights>(
     table: &W,
     pattern: &Pattern,
@@ -127,24 +145,25 @@ fn last_clean<W: Weights>(
     requires right { AreLetters (W.table table.now) pattern.now letters.old }
     requires len { len ≤ length piece.now }
     ensures right { AreLetters (W.table table.now) pattern.now letters.new }
-    ensures within { IfSome result (λ r. suc r.0 < len) }
+    ensures within { IfSome result (λ r. r.0 < len) }
     ensures letter { IfSome result (λ r.
         IsLetter (W.table table.now) pattern.now (slice_index piece.now r.0 ∷ []) r.1) }
     ensures clean { IfSome result (λ r. IsClean r.1) }
 {
     let mut end = len;
-    while end > 1 {
+    while end > 0 {
         end -= 1;
-        let letter = letters.letter(table, pattern, piece[end - 1] as char);
+        let letter = letters.letter(table, pattern, piece[end] as char);
         if is_clean(&letter) {
-            return Some((end - 1, letter));
+            return Some((end, letter));
         }
     }
     None
 }
 
 /// Whether a letter is a cluster out of which no unit reaches, with a last key that the pattern does not have.
-fn is_clean(letter: &Letter) -> bool
+#[inline(always)]
+pub(crate) fn is_clean(letter: &Letter) -> bool
     ensures { result ≡ true → IsClean letter.now }
 {
     match letter.role {

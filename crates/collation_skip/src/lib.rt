@@ -17,6 +17,7 @@ mod begun;
 mod blocks;
 mod classes;
 mod depth;
+mod foreign;
 mod kinds;
 mod lanes;
 mod moves;

@@ -1,6 +1,7 @@
-//! What passes by text, for one table and one pattern: blocks of ASCII where these pay, else the automaton.
+//! What passes by text, for one table and one pattern: blocks of ASCII where these pay, else the automaton, or characters one by one.
 use crate::ascii::AsciiBlocks;
 use crate::automaton::Automaton;
+use crate::foreign::pass_foreign;
 use crate::passed::Passed;
 use collation_letters::Letters;
 use collation_pattern::Pattern;
@@ -17,7 +18,7 @@ const WORTH_MOVES: usize = 24;
 const SHORT: usize = 64;
 
 /// How many times at most the automaton is not asked where it did not pay.
-const LONGEST_REST: u32 = 31;
+const LONGEST_REST: u32 = 255;
 
 /// The automaton of a pattern and its classes of ASCII.
 #[derive(Drop)]
@@ -86,7 +87,10 @@ impl Skip {
         }
         if self.rest > 0 {
             self.rest -= 1;
-            return by_blocks;
+            if by_blocks.is_some() {
+                return by_blocks;
+            }
+            return pass_foreign(pattern, letters, piece, reach);
         }
         let reach = if self.pays { reach.min(SHORT) } else { reach };
         self.pays = false;

@@ -1,6 +1,7 @@
 //! What no clause says: that text is passed by, and how much, over a small table, also where memory was refused before.
 
 use crate::Automaton;
+use crate::foreign::pass_foreign;
 use collation_elements::{Strength, Variable};
 use collation_letters::Letters;
 use collation_pattern::Pattern;
@@ -129,5 +130,38 @@ fn refused_moves_are_stops(rt: HostRuntime) -> Result<(), Fail> {
     let mut automaton = Automaton::new(rt.alloc());
     let all = automaton.pass(&table, &pattern, &mut letters, text, text.len());
     assert_eq!(rt; all.map(|it| it.end), Some(9));
+    Ok(())
+}
+
+/// Characters with other keys go one by one, before a character whose letter is known and is no mark, and that begins not after `reach`.
+#[test]
+fn characters_are_passed_by(rt: HostRuntime) -> Result<(), Fail> {
+    let table = Table::read(rt.alloc(), TABLE.as_bytes())?;
+    let (strength, variable) = (Strength::One, Variable::NonIgnorable);
+    let pattern = Pattern::compile(rt.alloc(), &table, "b", strength, variable)?;
+    let mut letters = Letters::new(rt.alloc(), &table)?;
+    letters.letter(&table, &pattern, 'x');
+    letters.letter(&table, &pattern, 'b');
+    letters.letter(&table, &pattern, '\u{301}');
+    letters.letter(&table, &pattern, '\u{4E00}');
+    letters.letter(&table, &pattern, '\u{D55C}');
+    for (text, reach, want) in [
+        ("x\u{4E00}\u{D55C}x", 8, Some((4, 7, 'x'))),
+        ("x\u{4E00}\u{D55C}x", 4, Some((1, 4, '\u{D55C}'))),
+        ("x\u{4E00}\u{D55C}x", 3, Some((0, 1, '\u{4E00}'))),
+        ("x\u{4E00}\u{D55C}x", 0, None),
+        ("\u{4E00}xbx", 6, Some((3, 4, 'b'))),
+        ("xx\u{301}x", 5, Some((0, 1, 'x'))),
+        // `a` is not known
+        ("xxax", 4, Some((0, 1, 'x'))),
+        ("bxx", 3, None),
+    ] {
+        let passed = pass_foreign(&pattern, &letters, text.as_bytes(), reach);
+        assert_eq!(rt;
+            passed.map(|it| (it.start, it.end, it.next)),
+            want,
+            "{text}"
+        );
+    }
     Ok(())
 }

@@ -1,5 +1,5 @@
 -- The character at the front of bytes: what the front bytes are with the first of the later ones, or without any.
-use Rattle.std.proofs.Common.{◌≡◌, ℕ, ◌+◌, ◌<◌, ◌≤◌, List, [], ◌∷◌, ◌++◌, length, slice_index_or, refl, sym, ap, ◌∙◌, subst, arith, append_assoc, append-nil, length-append}
+use Rattle.std.proofs.Common.{◌≡◌, ℕ, ◌+◌, ◌<◌, ◌≤◌, List, [], ◌∷◌, ◌++◌, length, get_or, slice_index_or, refl, sym, ap, ◌∙◌, subst, arith, append_assoc, append-nil, length-append}
 use Rattle.std.specs.Prelude.{IsTrue, Some}
 use Rattle.std.proofs.lemmas.Bool.{false≢true}
 use Rattle.std.proofs.lemmas.List.{take_at, nil_from_length}
@@ -21,6 +21,12 @@ pub first_whole : (front later : List ℕ) (c : ℕ) → 1 ≤ length later → 
 first_whole front [] c some s = absurd (omega arith)
 first_whole front (b ∷ bs) c some s = subst (λ l. IsFirstCharacter l (Some (c, length front + 1))) (append_assoc front (b ∷ []) bs)
     (subst (λ n. IsFirstCharacter ((front ++ b ∷ []) ++ bs) (Some (c, n))) (length-append front (b ∷ [])) (spelt_before (front ++ b ∷ []) bs c s))
+
+pub first_three : (bytes : List ℕ) (c : ℕ) → 3 ≤ length bytes → SpellsCharacter (get_or bytes 0 0 ∷ get_or bytes 1 0 ∷ get_or bytes 2 0 ∷ []) c → IsFirstCharacter bytes (Some (c, 3))
+first_three [] c within s = absurd (omega (arith, within))
+first_three (x ∷ []) c within s = absurd (omega (arith, within))
+first_three (x ∷ y ∷ []) c within s = absurd (omega (arith, within))
+first_three (x ∷ y ∷ z ∷ rest) c within s = spelt_before (x ∷ y ∷ z ∷ []) rest c s
 
 pub first_ill : (front later : List ℕ) → 1 ≤ length later → IsIllFormed (front ++ slice_index_or later 0 0 ∷ []) → StartsWithNoChar (front ++ later)
 first_ill front [] some h = absurd (omega arith)

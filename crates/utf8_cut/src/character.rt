@@ -5,7 +5,7 @@ ghost use Rattle.std.specs.Str.{StartsWithNoChar};
 ghost use Rattle.utf8_cut.specs.Characters.{is_incomplete_sequence};
 ghost use Rattle.utf8_cut.specs.Sequences.{SpellsCharacter, IsFirstCharacter};
 
-use crate::sequence::{Form, of_four, of_one, of_three, of_two};
+use crate::sequence::{Form, are_three, char_of_three, of_four, of_one, of_three, of_two};
 
 /// The character at the front of a slice, if it is whole there: none where the slice is empty or begins
 /// with a sequence that is ill-formed or incomplete.
@@ -32,6 +32,10 @@ pub fn sized_character(bytes: &[u8]) -> Option<(char, usize)>
         // ASCII is recognized first, by a comparison that most texts make predictable: where the next
         // character begins does not wait for this one then
         [first, ..] if *first < 0x80 => Some((of_ascii(*first), 1)),
+        // then most characters of Asia, by one comparison after the other
+        [first, second, third, ..] if are_three(*first, *second, *third) => {
+            Some((char_of_three(*first, *second, *third), 3))
+        }
         [first, later @ ..] => match of_one(*first) {
             Form::WellFormed(c) => Some((c, 1)),
             Form::Incomplete => after_one(*first, later),

@@ -1,6 +1,6 @@
 // The well-formed byte sequences of UTF-8 (the Unicode Standard, table 3-7): what some bytes are,
 // decided by the last of them alone, where those before it begin a character and lack some of it.
-ghost use Rattle.std.specs.Prelude.{◌≡◌, ◌<◌, ◌≤◌, [], ◌∷◌, ◌++◌, length, IsTrue};
+ghost use Rattle.std.specs.Prelude.{◌≡◌, ◌<◌, ◌≤◌, [], ◌∷◌, ◌++◌, length, true, IsTrue};
 ghost use Rattle.std.specs.Int.{is_in_range};
 ghost use Rattle.std.specs.Str.Lossy.{second_byte_min, second_byte_max};
 ghost use Rattle.utf8_cut.specs.Characters.{is_incomplete_sequence, is_incomplete_or_empty};
@@ -46,6 +46,7 @@ pub(crate) fn is_incomplete_or_empty(bytes: &[u8]) -> bool
     }
 }
 
+#[inline(always)]
 pub(crate) fn of_one(first: u8) -> Form
     ensures { IsForm (first ∷ []) result }
 {
@@ -57,6 +58,7 @@ pub(crate) fn of_one(first: u8) -> Form
 }
 
 /// Whether a byte may stand second after this first one.
+#[inline(always)]
 fn may_be_second(first: u8, second: u8) -> bool
     ensures { result ≡ is_in_range (second_byte_min first) (second_byte_max first) second }
 {
@@ -69,12 +71,14 @@ fn may_be_second(first: u8, second: u8) -> bool
     }
 }
 
+#[inline(always)]
 fn is_continuation(byte: u8) -> bool
     ensures { result ≡ is_in_range 128 191 byte }
 {
     matches!(byte, 0x80..=0xBF)
 }
 
+#[inline(always)]
 pub(crate) fn of_two(first: u8, second: u8) -> Form
     requires { IsTrue (is_incomplete_sequence (first ∷ [])) }
     ensures { IsForm (first ∷ second ∷ []) result }
@@ -112,6 +116,7 @@ pub(crate) fn of_four(first: u8, second: u8, third: u8, fourth: u8) -> Form
     }
 }
 
+#[inline(always)]
 fn char_of_two(first: u8, second: u8) -> char
     requires first { (194 ≤ first) × (first < 224) }
     requires second { IsTrue (is_in_range (second_byte_min first) (second_byte_max first) second) }
@@ -121,7 +126,19 @@ fn char_of_two(first: u8, second: u8) -> char
     char::from_u32(code).unwrap()
 }
 
-fn char_of_three(first: u8, second: u8, third: u8) -> char
+/// Whether three bytes are a character, of which the first is not the least that begins one of three.
+#[inline(always)]
+pub(crate) fn are_three(first: u8, second: u8, third: u8) -> bool
+    ensures first { result ≡ true → (224 ≤ first) × (first < 240) }
+    ensures second { result ≡ true
+        → IsTrue (is_in_range (second_byte_min first) (second_byte_max first) second) }
+    ensures third { result ≡ true → (128 ≤ third) × (third < 192) }
+{
+    matches!(first, 0xE1..=0xEF) && may_be_second(first, second) && is_continuation(third)
+}
+
+#[inline(always)]
+pub(crate) fn char_of_three(first: u8, second: u8, third: u8) -> char
     requires first { (224 ≤ first) × (first < 240) }
     requires second { IsTrue (is_in_range (second_byte_min first) (second_byte_max first) second) }
     requires third { (128 ≤ third) × (third < 192) }

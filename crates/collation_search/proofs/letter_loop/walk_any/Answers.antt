@@ -1,28 +1,23 @@
-use Rattle.std.proofs.Common.{◌≡◌, ◌∙◌, ℕ, nat_lt, sym, subst}
-use Rattle.nfd_points.specs.Points.{points_from}
-use Rattle.collation_elements.specs.declared.weigher.Weigher.{Weigher}
-use Rattle.collation_elements.specs.Units.{units}
+use Rattle.std.specs.Option.{option_to_list}
+use Rattle.std.proofs.Common.{◌≡◌, ◌∙◌, ap, ap₂}
+use Rattle.collation_elements.specs.declared.settings.Strength.{Strength}
+use Rattle.collation_elements.specs.declared.settings.Variable.{Variable}
 use Rattle.collation_elements.specs.Weighing.{weigher}
-use Rattle.collation_search.specs.declared.walk.Walk.{Walk}
-use Rattle.collation_search.specs.Apart.{HasWalkedOn}
-use Rattle.collation_search.specs.Walks.{standing_of, stands}
-use Rattle.collation_search.proofs.LetterSteps.{stands-same}
+use Rattle.collation_letters.specs.Letters.{flag_after}
+use Rattle.collation_search.proofs.LetterApart.{walked-on}
 use Rattle.collation_search.proofs.letter_loop.walk_any.Goals as goal
 
 pub returns-clause-walked : goal.returns-clause-walked
 returns-clause-walked g c =
     let table = g.W.Weights.table c.args.query.now.table.now in
     let pattern = c.args.query.now.pattern.now in
-    let at : ℕ → Weigher = λ n. weigher pattern.strength pattern.variable (nat_lt 0 n) in
-    let old = c.args.walk.now in
-    let place = c.walk_letter-place in
-    let there = stands place.new.walk place.result.standing in
-    let here : there ≡ stands c.stand.new.self (standing_of c.stand.new.self) = sym c.stand.ensures ∙ sym (stands-same c.stand.new.self) in
-    let walked = place.ensures.walked in (
-      walked.0,
-      walked.1,
-      λ cs h.
-          let us = units table (points_from c.args.start cs) in
-          subst (λ (w : Walk). HasWalkedOn table pattern (at c.args.variable) (stands old (standing_of old)) (at place.result.variable) w us walked.0) here
-          (subst (λ s. HasWalkedOn table pattern (at c.args.variable) (stands old s) (at place.result.variable) there us walked.0) c.standing.ensures (walked.2 cs h)),
+    let after = c.flag_after-after.result in
+    let made : c.restore.result ≡ weigher pattern.strength pattern.variable (flag_after c.args.letter.now.role c.args.weigher.now.after_variable) =
+    c.restore.ensures.value ∙ ap₂ (λ (s : Strength) (v : Variable). weigher s v after) c.strength.ensures c.variable.ensures
+    ∙ ap (weigher pattern.strength pattern.variable) (c.flag_after-after.ensures ∙ ap (flag_after c.args.letter.now.role) c.after_variable.ensures) in
+    let range = option_to_list c.take_letter-range.result in (
+      range,
+      c.call.ensures.called,
+      λ cs h. walked-on c.weighers_go_on.ensures c.laws_of_points.ensures.shifted table pattern c.args.weigher.now c.restore.result c.args.walk.now c.take_letter-range.new.self c.args.start cs c.args.letter.now range
+          c.requires.known.0 c.requires.known.1 h made c.take_letter-range.ensures.walks,
     )

@@ -8,9 +8,10 @@ use Rattle.utf8_cut.specs.Sequences.{SpellsCharacter}
 use Rattle.nfd_points.specs.Points.{points_of, points_from, begins_with_starter}
 use Rattle.collation_elements.specs.Units.{units}
 use Rattle.collation_letters.specs.Letters.{IsLetter}
-use Rattle.collation_search.specs.declared.letter_loop.Place.{Place}
-use Rattle.collation_search.specs.LetterRun.{AreNext, HasGoneOn}
-use Rattle.collation_search.specs.Walks.{passed_at}
+use Rattle.collation_search.specs.declared.walk.Walk.{Walk}
+use Rattle.collation_search.specs.Apart.{HasWalkedOn}
+use Rattle.collation_search.specs.LetterRun.{AreNext}
+use Rattle.collation_search.specs.Walks.{passed_to}
 use Rattle.collation_search.proofs.ApartLaws.{Laws}
 use Rattle.collation_search.proofs.CharacterLemmas.{part-more, one_part, one_taken, chars-len, some-bytes}
 use Rattle.collation_search.proofs.FeedLemmas.{folds-append}
@@ -37,14 +38,14 @@ characters-init g c =
       callable = c.requires.callable;
       right = c.requires.right;
       state = c.requires.state;
-      place = c.requires.place;
       select = refl;
+      room = refl;
       forth = omega arith;
       ends = omega (arith, c.len_utf8-end.ensures.value, c.requires.first.0);
       part = part.0;
       first = ([], part.1);
       letter = subst (λ (cs : List ℕ). IsLetter table pattern cs c.args.from.letter) (sym part.1) c.requires.letter;
-      come = ([], refl, come-none laws table pattern piece c.args.offset c.args.reach c.args.from.next c.args.walk.now c.args.first_place c.requires.first.0 c.requires.first.1 c.requires.begins);
+      come = ([], refl, come-none laws table pattern piece c.args.offset c.args.reach c.args.from.next c.args.weigher.now c.args.walk.now c.requires.first.0 c.requires.first.1 c.requires.begins);
     }
 
 -- the characters of the letter and the next one are one unit
@@ -69,8 +70,8 @@ characters-preserved-then-not-is_next g c =
       callable = i.callable;
       right = (c.in-Some-join.ensures.right, i.right.1);
       state = i.state;
-      place = i.place;
       select = i.select;
+      room = i.room;
       forth = omega (arith, i.forth);
       ends = omega (arith, some.0, long, value, i.ends);
       part = all.0;
@@ -107,7 +108,7 @@ characters-preserved-then-at-due g c =
     let spelled = subst (λ (bs : List ℕ). SpellsCharacter (take (len_utf8 next) bs) next) rest some.1 in
     let part = one_part piece l.end (l.end + n) next (omega (arith, value)) spelled in
     let more = chars (take (l.end - l.at) (drop l.at piece)) in
-    let walked = c.walk_next-place.ensures.walked in
+    let walked = c.walk_letter.ensures.walked in
     let following : AreNext table piece c.args.offset c.args.reach l.at l.end l.c next = record {
       forth = i.forth;
       near = omega (arith, c.if-end-reach.false);
@@ -117,14 +118,14 @@ characters-preserved-then-at-due g c =
       first = i.first;
       ends = c.is_next.ensures.apart c.if-not-is_next.false table pattern (c.args.offset + l.at) more next i.letter c.letter-following.ensures.letter;
     } in
-    let come = come-further laws table pattern piece c.args.offset c.args.reach c.args.from.next l.at l.end l.c next c.args.walk.now l.walk c.walk_next-place.new.walk c.args.first_place l.place c.walk_next-place.result i.come.0 walked.0
+    let come = come-further laws table pattern piece c.args.offset c.args.reach c.args.from.next l.at l.end l.c next c.args.weigher.now l.weigher c.walk_letter.new.weigher c.args.walk.now l.walk c.walk_letter.new.walk i.come.0 walked.0
     i.come.2 following (walked.2 more i.letter) in
     record {
-      callable = c.walk_next-place.ensures.callable;
+      callable = c.walk_letter.ensures.callable;
       right = (c.letter-following.ensures.right, i.right.1);
-      state = c.walk_next-place.ensures.state;
-      place = c.walk_next-place.ensures.place;
-      select = c.walk_next-place.ensures.select ∙ i.select;
+      state = c.walk_letter.ensures.state;
+      select = c.walk_letter.ensures.select ∙ i.select;
+      room = c.walk_letter.ensures.room ∙ i.room;
       forth = omega arith;
       ends = omega (arith, some.0, long, value, i.ends);
       part = part.0;
@@ -132,7 +133,7 @@ characters-preserved-then-at-due g c =
       letter = subst (λ (cs : List ℕ). IsLetter table pattern cs c.letter-following.result) (sym part.1) c.letter-following.ensures.letter;
       come = (
         i.come.0 ++ walked.0,
-        folds-append (λ f range t. goal.F-step g f range.0 range.1 tt t) c.args.sink.now i.come.0 walked.0 l.sink c.walk_next-place.new.sink i.come.1 walked.1,
+        folds-append (λ f range t. goal.F-step g f range.0 range.1 tt t) c.args.sink.now i.come.0 walked.0 l.sink c.walk_letter.new.sink i.come.1 walked.1,
         come,
       );
     }
@@ -163,7 +164,7 @@ skip-skipped-requires-clause-begins g c =
     let spelled = subst (λ (bs : List ℕ). SpellsCharacter (take (len_utf8 next) bs) next) rest some.1 in
     let part = one_part piece l.end (l.end + n) next (omega (arith, value)) spelled in
     let more = chars (take (l.end - l.at) (drop l.at piece)) in
-    let walked = c.walk_next-place.ensures.walked in
+    let walked = c.walk_letter.ensures.walked in
     let following : AreNext table piece c.args.offset c.args.reach l.at l.end l.c next = record {
       forth = i.forth;
       near = omega (arith, c.if-end-reach.false);
@@ -173,7 +174,7 @@ skip-skipped-requires-clause-begins g c =
       first = i.first;
       ends = c.is_next.ensures.apart c.if-not-is_next.false table pattern (c.args.offset + l.at) more next i.letter c.letter-following.ensures.letter;
     } in
-    let come = come-further laws table pattern piece c.args.offset c.args.reach c.args.from.next l.at l.end l.c next c.args.walk.now l.walk c.walk_next-place.new.walk c.args.first_place l.place c.walk_next-place.result i.come.0 walked.0
+    let come = come-further laws table pattern piece c.args.offset c.args.reach c.args.from.next l.at l.end l.c next c.args.weigher.now l.weigher c.walk_letter.new.weigher c.args.walk.now l.walk c.walk_letter.new.walk i.come.0 walked.0
     i.come.2 following (walked.2 more i.letter) in
     let len = chars-len piece l.end (omega (arith, come.within)) come.text in
     subst (λ k. begins_with_starter (points_of (c.args.offset + k) next) ≡ true) len come.apart.next_begins
@@ -210,7 +211,7 @@ characters-preserved-in_default-skipped g c =
     let spelled = subst (λ (bs : List ℕ). SpellsCharacter (take (len_utf8 next) bs) next) rest some.1 in
     let part = one_part piece l.end (l.end + n) next (omega (arith, value)) spelled in
     let more = chars (take (l.end - l.at) (drop l.at piece)) in
-    let walked = c.walk_next-place.ensures.walked in
+    let walked = c.walk_letter.ensures.walked in
     let following : AreNext table piece c.args.offset c.args.reach l.at l.end l.c next = record {
       forth = i.forth;
       near = omega (arith, c.if-end-reach.false);
@@ -220,14 +221,14 @@ characters-preserved-in_default-skipped g c =
       first = i.first;
       ends = c.is_next.ensures.apart c.if-not-is_next.false table pattern (c.args.offset + l.at) more next i.letter c.letter-following.ensures.letter;
     } in
-    let come = come-further laws table pattern piece c.args.offset c.args.reach c.args.from.next l.at l.end l.c next c.args.walk.now l.walk c.walk_next-place.new.walk c.args.first_place l.place c.walk_next-place.result i.come.0 walked.0
+    let come = come-further laws table pattern piece c.args.offset c.args.reach c.args.from.next l.at l.end l.c next c.args.weigher.now l.weigher c.walk_letter.new.weigher c.args.walk.now l.walk c.walk_letter.new.walk i.come.0 walked.0
     i.come.2 following (walked.2 more i.letter) in
     record {
-      callable = c.walk_next-place.ensures.callable;
+      callable = c.walk_letter.ensures.callable;
       right = c.in_default-skipped.ensures.right;
-      state = c.walk_next-place.ensures.state;
-      place = c.walk_next-place.ensures.place;
-      select = c.walk_next-place.ensures.select ∙ i.select;
+      state = c.walk_letter.ensures.state;
+      select = c.walk_letter.ensures.select ∙ i.select;
+      room = c.walk_letter.ensures.room ∙ i.room;
       forth = omega arith;
       ends = omega (arith, some.0, long, value, i.ends);
       part = part.0;
@@ -235,7 +236,7 @@ characters-preserved-in_default-skipped g c =
       letter = subst (λ (cs : List ℕ). IsLetter table pattern cs c.letter-following.result) (sym part.1) c.letter-following.ensures.letter;
       come = (
         i.come.0 ++ walked.0,
-        folds-append (λ f range t. goal.F-step g f range.0 range.1 tt t) c.args.sink.now i.come.0 walked.0 l.sink c.walk_next-place.new.sink i.come.1 walked.1,
+        folds-append (λ f range t. goal.F-step g f range.0 range.1 tt t) c.args.sink.now i.come.0 walked.0 l.sink c.walk_letter.new.sink i.come.1 walked.1,
         come,
       );
     }
@@ -267,7 +268,7 @@ characters-preserved g c =
     let spelled = subst (λ (bs : List ℕ). SpellsCharacter (take (len_utf8 next) bs) next) rest some.1 in
     let part = one_part piece l.end (l.end + n) next (omega (arith, value)) spelled in
     let more = chars (take (l.end - l.at) (drop l.at piece)) in
-    let walked = c.walk_next-place.ensures.walked in
+    let walked = c.walk_letter.ensures.walked in
     let following : AreNext table piece c.args.offset c.args.reach l.at l.end l.c next = record {
       forth = i.forth;
       near = omega (arith, c.if-end-reach.false);
@@ -277,30 +278,32 @@ characters-preserved g c =
       first = i.first;
       ends = c.is_next.ensures.apart c.if-not-is_next.false table pattern (c.args.offset + l.at) more next i.letter c.letter-following.ensures.letter;
     } in
-    let come = come-further laws table pattern piece c.args.offset c.args.reach c.args.from.next l.at l.end l.c next c.args.walk.now l.walk c.walk_next-place.new.walk c.args.first_place l.place c.walk_next-place.result i.come.0 walked.0
+    let come = come-further laws table pattern piece c.args.offset c.args.reach c.args.from.next l.at l.end l.c next c.args.weigher.now l.weigher c.walk_letter.new.weigher c.args.walk.now l.walk c.walk_letter.new.walk i.come.0 walked.0
     i.come.2 following (walked.2 more i.letter) in
     let s = c.in-Some-skipped.skipped in
     let e = c.in-Some-skipped.ensures in
     let start = c.args.offset + l.end in
     let to = l.end + s.end in
     let text : List ℕ = take (length piece - l.end) (drop l.end piece) in
-    let before = c.walk_next-place.result in
-    let place : Place = record { standing = passed_at (start + s.start); variable = 0 } in
-    let walk = c.walk_next-place.new.walk in
+    let weigher = c.walk_letter.new.weigher in
+    let walk = c.walk_letter.new.walk in
+    let now = c.pass_to.new.self in
     let skipped : AreNext table piece c.args.offset c.args.reach l.end to next s.next =
     next-n table piece text c.args.offset c.args.reach l.end next s.end s.next rest (omega (arith, c.if-end-reach.false)) e.reach e.within e.next e.text e.begun e.apart (len_utf8_bounds s.next).0 in
     let count : s.end ≡ to - l.end = omega arith in
     let part' : take s.end text ≡ take (to - l.end) (drop l.end piece) = ap (take s.end) rest ∙ ap (λ k. take k (drop l.end piece)) count in
-    let goes : HasGoneOn table pattern walk before walk place (units table (points_from start (chars (take (to - l.end) (drop l.end piece))))) [] =
-    subst (λ (t : List ℕ). HasGoneOn table pattern walk before walk place (units table (points_from start (chars t))) []) part' (e.walked before (omega (arith, c.if-place-ne0.false)) (omega (arith, c.if-place-ne0-2.false))) in
-    let further = come-further laws table pattern piece c.args.offset c.args.reach c.args.from.next l.end to next s.next c.args.walk.now walk walk c.args.first_place before place (i.come.0 ++ walked.0) [] come skipped goes in
+    let goes : HasWalkedOn table pattern weigher walk weigher now (units table (points_from start (chars (take (to - l.end) (drop l.end piece))))) [] =
+    subst (λ (v : Walk). HasWalkedOn table pattern weigher walk weigher v (units table (points_from start (chars (take (to - l.end) (drop l.end piece))))) []) (sym c.pass_to.ensures)
+    (subst (λ (t : List ℕ). HasWalkedOn table pattern weigher walk weigher (passed_to walk (start + s.start)) (units table (points_from start (chars t))) []) part'
+    (e.walked weigher walk (sym c.after_variable.ensures ∙ c.if-after_variable.false) (omega (arith, c.if-walk-ne0.false)))) in
+    let further = come-further laws table pattern piece c.args.offset c.args.reach c.args.from.next l.end to next s.next c.args.weigher.now weigher weigher c.args.walk.now walk now (i.come.0 ++ walked.0) [] come skipped goes in
     let last = one_part piece to (to + c.len_utf8.result) s.next (omega (arith, c.len_utf8.ensures.value)) skipped.spelled in
     record {
-      callable = c.walk_next-place.ensures.callable;
+      callable = c.walk_letter.ensures.callable;
       right = e.right;
-      state = c.walk_next-place.ensures.state;
-      place = omega arith;
-      select = c.walk_next-place.ensures.select ∙ i.select;
+      state = omega (arith, ap (λ v. v.state) c.pass_to.ensures);
+      select = ap (λ v. v.select) c.pass_to.ensures ∙ c.walk_letter.ensures.select ∙ i.select;
+      room = ap (λ v. v.places.capacity) c.pass_to.ensures ∙ c.walk_letter.ensures.room ∙ i.room;
       forth = omega arith;
       ends = omega (arith, skipped.within, c.len_utf8.ensures.value);
       part = last.0;
@@ -308,8 +311,8 @@ characters-preserved g c =
       letter = subst (λ (cs : List ℕ). IsLetter table pattern cs s.letter) (sym last.1) e.letter;
       come = (
         (i.come.0 ++ walked.0) ++ [],
-        subst (λ (t : List (ℕ × ℕ)). FoldsTo (λ f range t'. goal.F-step g f range.0 range.1 tt t') c.args.sink.now t c.walk_next-place.new.sink) (sym (append-nil (i.come.0 ++ walked.0)))
-            (folds-append (λ f range t. goal.F-step g f range.0 range.1 tt t) c.args.sink.now i.come.0 walked.0 l.sink c.walk_next-place.new.sink i.come.1 walked.1),
+        subst (λ (t : List (ℕ × ℕ)). FoldsTo (λ f range t'. goal.F-step g f range.0 range.1 tt t') c.args.sink.now t c.walk_letter.new.sink) (sym (append-nil (i.come.0 ++ walked.0)))
+            (folds-append (λ f range t. goal.F-step g f range.0 range.1 tt t) c.args.sink.now i.come.0 walked.0 l.sink c.walk_letter.new.sink i.come.1 walked.1),
         further,
       );
     }

@@ -1,9 +1,11 @@
 use Rattle.std.specs.Char.{IsScalar, len_utf8}
-use Rattle.std.proofs.Common.{◌≡◌, ◌∙◌, ℕ, zero, suc, ◌+◌, ◌<◌, nat_lt, true, List, [], ◌∷◌, length, take, drop, get_or, refl, sym, ap, subst, arith}
-use Rattle.std.proofs.lemmas.Bool.{cond-true, lt-ltb}
+use Rattle.std.proofs.Common.{◌≡◌, ◌∙◌, ℕ, zero, suc, ◌+◌, ◌<◌, ◌≤◌, nat_lt, true, List, [], ◌∷◌, length, take, drop, get_or, inl, inr, refl, sym, ap, subst, arith}
+use Rattle.std.proofs.lemmas.Bool.{cases_lt, cond-true, lt-ltb}
 use Rattle.std.proofs.lemmas.Str.{encode_ascii, len_utf8_ascii, IsUtf8-from_ascii, chars-IsAscii}
 use Rattle.utf8_cut.specs.Sequences.{SpellsCharacter}
 use Rattle.collation_letters.proofs.ApartLaws.{Laws}
+use Rattle.collation_skip.specs.declared.classes.Classes.{Classes}
+use Rattle.collation_skip.specs.Blocks.{Passes}
 use Rattle.collation_skip.specs.Passed.{IsPassed}
 use Rattle.collation_skip.proofs.BlockLemmas.{ascii-take, passed-of}
 use Rattle.collation_skip.proofs.AsciiLemmas.{RunLaws, ascii-at}
@@ -22,21 +24,39 @@ spells-ascii : (bytes : List ℕ) (i : ℕ) → i < length bytes → get_or byte
 spells-ascii bytes i less ascii =
     let c = get_or bytes i 0 in (ascii_scalar c ascii, ap (λ n. take n (drop i bytes)) (len_utf8_ascii c ascii) ∙ one-byte bytes i less ∙ sym (encode_ascii c ascii))
 
+-- the byte behind one that passes
+followed : (classes : Classes) (bytes : List ℕ) (total most start : ℕ) → Passes classes bytes total → most ≤ total → (0 < most → total ≤ most → (total < length bytes) × (get_or bytes total 0 < 128)) → start < most →
+    (suc start < length bytes) × (get_or bytes (suc start) 0 < 128)
+followed classes bytes total most start p within behind less = elim (cases_lt (suc start) total) [
+  | inl before ↦ (let long = p.within in omega (arith, before, long), ascii-at classes bytes total (suc start) p before)
+  | inr last ↦
+      let same : total ≡ suc start = omega (arith, last, within, less) in
+      subst (λ n. (n < length bytes) × (get_or bytes n 0 < 128)) same (behind (omega (arith, less)) (omega (arith, last, less)))
+]
+
+pub returns-clause-within : goal.returns-clause-within
+returns-clause-within g c =
+    let piece = c.args.piece.now in
+    let start = c.in_ok-start.start in
+    let next : suc start ≡ start + 1 = omega arith in
+    let behind = followed c.args.classes.now piece c.passed_len-len.result c.followed_len.result start c.passed_len-len.ensures.passes c.followed_len.ensures.within c.followed_len.ensures.followed c.in_ok-start.ensures.within in
+    let one : len_utf8 (get_or piece (start + 1) 0) ≡ 1 = subst (λ i. len_utf8 (get_or piece i 0) ≡ 1) next (len_utf8_ascii (get_or piece (suc start) 0) behind.1) in
+    omega (arith, one, behind.0)
+
 pub returns-clause-next : goal.returns-clause-next
 returns-clause-next g c =
     let p = c.passed_len-len.ensures.passes in
-    let within = c.in_ok-start.ensures.within in
-    let long = p.within in
     let start = c.in_ok-start.start in
     let next : start + 1 ≡ suc start = omega arith in
+    let behind = followed c.args.classes.now c.args.piece.now c.passed_len-len.result c.followed_len.result start p c.followed_len.ensures.within c.followed_len.ensures.followed c.in_ok-start.ensures.within in
     subst (λ i. SpellsCharacter (take (len_utf8 (get_or c.args.piece.now i 0)) (drop i c.args.piece.now)) (get_or c.args.piece.now i 0)) (sym next)
-    (spells-ascii c.args.piece.now (suc start) (omega (arith, within, long)) (ascii-at c.args.classes.now c.args.piece.now c.passed_len-len.result (suc start) p within))
+    (spells-ascii c.args.piece.now (suc start) behind.0 behind.1)
 
 -- what was passed is ASCII
 pub returns-clause-text : goal.returns-clause-text
 returns-clause-text g c =
     let p = c.passed_len-len.ensures.passes in
-    let within = c.in_ok-start.ensures.within in
+    let within : c.in_ok-start.start < c.passed_len-len.result = let less = c.in_ok-start.ensures.within in let most = c.followed_len.ensures.within in omega (arith, less, most) in
     let long = p.within in
     let start = c.in_ok-start.start in
     IsUtf8-from_ascii (take (start + 1) c.args.piece.now) (ascii-take c.args.piece.now (start + 1) (omega (arith, within, long)) (λ i less. ascii-at c.args.classes.now c.args.piece.now c.passed_len-len.result i p (omega (arith, less, within))))
@@ -45,9 +65,11 @@ pub returns-clause-passed : goal.returns-clause-passed
 returns-clause-passed g c = λ at.
     let p = c.passed_len-len.ensures.passes in
     let ok = c.in_ok-start.ensures in
-    let within = ok.within in
-    let long = p.within in
+    let most = c.followed_len.ensures.within in
     let start = c.in_ok-start.start in
+    let within : start < c.passed_len-len.result = let less = ok.within in omega (arith, less, most) in
+    let long = p.within in
+    let behind = followed c.args.classes.now c.args.piece.now c.passed_len-len.result c.followed_len.result start p most c.followed_len.ensures.followed ok.within in
     let piece = c.args.piece.now in
     let table = g.W.Weights.table c.args.table.now in
     let pattern = c.args.pattern.now in
@@ -69,7 +91,7 @@ returns-clause-passed g c = λ at.
       before = c.units_stay_apart.ensures.before;
       goes_on = c.weighers_go_on.ensures;
     } in
-    let passed = passed-of laws c.laws_of_symbols.ensures.listed table pattern c.args.classes.now c.requires.classes piece c.passed_len-len.result start p within c.in_ok-start.field-0-1 ok.letter ok.clean at in
+    let passed = passed-of laws c.laws_of_symbols.ensures.listed table pattern c.args.classes.now c.requires.classes piece c.passed_len-len.result start p within behind.0 behind.1 c.in_ok-start.field-0-1 ok.letter ok.clean at in
     let ascii = ascii-take piece (start + 1) (omega (arith, within, long)) (λ i less. ascii-at c.args.classes.now piece c.passed_len-len.result i p (omega (arith, less, within))) in
     subst (λ (cs : List ℕ). IsPassed table pattern at (at + start) cs (get_or piece (start + 1) 0)) (sym (chars-IsAscii (take (start + 1) piece) ascii))
     (subst (λ n. IsPassed table pattern at (at + start) (take n piece) (get_or piece n 0)) next passed)

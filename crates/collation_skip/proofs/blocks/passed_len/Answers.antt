@@ -4,16 +4,16 @@ use Rattle.collation_skip.specs.declared.classes.Classes.{Classes}
 use Rattle.collation_skip.specs.Blocks.{Passes, PassesBehind}
 use Rattle.collation_skip.proofs.blocks.passed_len.Goals as goal
 
-passes-more : (classes : Classes) (bytes : List ℕ) (len : ℕ) → 1 ≤ len → len + 16 ≤ length bytes → Passes classes bytes len →
-    ((k : ℕ) → k < 16 → PassesBehind classes (get_or bytes (len + k - 1) 0) (get_or bytes (len + k) 0)) → Passes classes bytes (len + 16)
-passes-more classes bytes len some within p block = record {
+passes-more : (classes : Classes) (bytes : List ℕ) (len lanes : ℕ) → 1 ≤ len → len + lanes ≤ length bytes → Passes classes bytes len →
+    ((k : ℕ) → k < lanes → PassesBehind classes (get_or bytes (len + k - 1) 0) (get_or bytes (len + k) 0)) → Passes classes bytes (len + lanes)
+passes-more classes bytes len lanes some within p block = record {
   within = within;
   ascii = λ _. p.ascii some;
   going = λ _. p.going some;
   each = λ i less. at i less;
 }
   where
-    at : (i : ℕ) → suc i < len + 16 → PassesBehind classes (get_or bytes i 0) (get_or bytes (suc i) 0)
+    at : (i : ℕ) → suc i < len + lanes → PassesBehind classes (get_or bytes i 0) (get_or bytes (suc i) 0)
     at i less = elim (cases_lt (suc i) len) [
       | inl before ↦ p.each i before
       | inr behind ↦
@@ -24,13 +24,21 @@ passes-more classes bytes len some within p block = record {
           (subst (λ j. PassesBehind classes (get_or bytes j 0) (get_or bytes (len + k) 0)) last (block k (omega (arith, behind, less))))
     ]
 
+pub returns-then-lanes-lt16-clause-passes : goal.returns-then-lanes-lt16-clause-passes
+returns-then-lanes-lt16-clause-passes c =
+    let i = c.loop-len.invariant in
+    let lanes = c.lanes_that_pass-lanes.ensures.within in
+    let test = c.loop-len-test.true in
+    passes-more c.args.classes.now c.args.piece.now c.loop-len.len c.lanes_that_pass-lanes.result i.some (omega (arith, lanes, test, c.requires)) i.passes c.lanes_that_pass-lanes.ensures.passes
+
 pub loop-len-preserved : goal.loop-len-preserved
 loop-len-preserved c =
     let i = c.loop-len.invariant in
     let some = i.some in
+    let lanes = c.lanes_that_pass-lanes.ensures.within in
     let test = c.loop-len-test.true in
     record {
-      within = omega (arith, test);
-      passes = passes-more c.args.classes.now c.args.piece.now c.loop-len.len some (omega (arith, test, c.requires)) i.passes (c.block_passes.ensures c.if-block_passes.true);
+      within = omega (arith, lanes, test);
+      passes = passes-more c.args.classes.now c.args.piece.now c.loop-len.len c.lanes_that_pass-lanes.result some (omega (arith, lanes, test, c.requires)) i.passes c.lanes_that_pass-lanes.ensures.passes;
       some = omega (arith, some);
     }

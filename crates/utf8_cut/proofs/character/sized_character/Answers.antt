@@ -2,7 +2,7 @@ use Rattle.std.proofs.Common.{[], sym, subst, arith}
 use Rattle.std.proofs.lemmas.List.{nil_from_length}
 use Rattle.std.specs.Str.{StartsWithNoChar}
 use Rattle.utf8_cut.proofs.TableLemmas.{no_char_nil}
-use Rattle.utf8_cut.proofs.CharacterLemmas.{first_whole, first_ill}
+use Rattle.utf8_cut.proofs.CharacterLemmas.{first_whole, first_three, first_ill}
 use Rattle.utf8_cut.proofs.character.sized_character.Goals as goal
 
 pub returns-in-empty-clause-none : goal.returns-in-empty-clause-none
@@ -22,3 +22,9 @@ returns-in-len1-up-clause-len c = (first_whole [] c.args.bytes.now _ c.in-len1-u
 
 pub returns-in-WellFormed-clause-len : goal.returns-in-WellFormed-clause-len
 returns-in-WellFormed-clause-len c = (first_whole [] c.args.bytes.now _ c.in-len1-up.len_at_least c.in-WellFormed.ensures).0
+
+pub returns-in-len3-up-clause-some : goal.returns-in-len3-up-clause-some
+returns-in-len3-up-clause-some c = (first_three c.args.bytes.now _ c.in-len3-up.len_at_least c.char_of_three.ensures).1
+
+pub returns-in-len3-up-clause-len : goal.returns-in-len3-up-clause-len
+returns-in-len3-up-clause-len c = (first_three c.args.bytes.now _ c.in-len3-up.len_at_least c.char_of_three.ensures).0

@@ -6,4 +6,4 @@ pub returns-clause-prints : goal.returns-clause-prints
 returns-clause-prints g c = λ form ranges before f p.
     grown form c.make_room.new.self _ ranges (c.args.start, c.args.end) before _ f _ (c.make_room.ensures.prints form ranges before f p) refl
     (λ h. search rules)
-    (c.push_str.ensures.bytes ∙ ap (λ xs. c.make_room.new.self.waiting.bytes ++ xs) (c.as_str.ensures.value ∙ c.line.ensures)) refl
+    c.print.ensures refl

@@ -4,39 +4,35 @@ use Rattle.collation_elements.specs.declared.keys.Key.{Key}
 use Rattle.collation_elements.specs.declared.keys.Item.{Item}
 use Rattle.collation_elements.specs.declared.keys.Item.TheVariants.{Element}
 use Rattle.collation_letters.specs.Symbols.{AreLastSymbols}
-use Rattle.circular_buffer.specs.Buffer.{keep_last}
-use Rattle.collation_search.specs.declared.walk.KeyPlace.{KeyPlace}
 use Rattle.collation_search.specs.declared.walk.Walk.{Walk}
-use Rattle.collation_search.specs.Walks.{WalksOver, stands}
+use Rattle.collation_search.specs.Walks.{WalksOver}
 use Rattle.collation_search.proofs.WalkSteps.{walks-key}
-use Rattle.collation_search.proofs.LetterSteps.{no-symbol, none-flag, nothing-waits, one-symbol, one-key, walks-none}
+use Rattle.collation_search.proofs.LetterSteps.{no-symbol, nothing-waits, one-symbol, one-key, walks-none}
 use Rattle.collation_search.proofs.walk.Walk.take_symbol.Goals as goal
 
 pub returns-then-symbol-eq-NO_SYMBOL-clause-walks : goal.returns-then-symbol-eq-NO_SYMBOL-clause-walks
 returns-then-symbol-eq-NO_SYMBOL-clause-walks c = λ items ranges keys k h.
     let pattern = c.args.pattern.now.keys in
     let none = c.laws_of_symbols.ensures.none pattern keys (subst (λ l. AreLastSymbols pattern keys l) (no-symbol c.args.symbol c.if-symbol-eq-NO_SYMBOL.true) k) in
-    subst (λ (is : List Item). WalksOver pattern is ranges (stands c.args.self.now c.args.at)) (sym (ap (λ ks. items ++ map (λ key. Element key) ks) none ∙ append-nil items)) h
+    subst (λ (is : List Item). WalksOver pattern is ranges c.args.self.now) (sym (ap (λ ks. items ++ map (λ key. Element key) ks) none ∙ append-nil items)) h
 
-pub returns-then-after-eq0-clause-walks : goal.returns-then-after-eq0-clause-walks
-returns-then-after-eq0-clause-walks c = λ items ranges keys k h.
+pub returns-then-self-eq0-clause-walks : goal.returns-then-self-eq0-clause-walks
+returns-then-self-eq0-clause-walks c = λ items ranges keys k h.
     let pattern = c.args.pattern.now.keys in
     let less : c.args.symbol < 255 = omega (arith, c.ranges.symbol.fits, c.if-symbol-eq-NO_SYMBOL.false) in
     let last = c.laws_of_symbols.ensures.one pattern keys c.args.symbol (subst (λ l. AreLastSymbols pattern keys l) (one-symbol c.args.symbol less) k) in
-    let none = c.if-after-eq0.true in
-    walks-none pattern items ranges keys last.left_out last.key (stands c.args.self.now c.args.at) _ last.keys_are
-    (nothing-waits c.laws_of_symbols.ensures.foreign pattern keys c.args.symbol c.args.at.state last (λ ks key is at. sym none ∙ c.advance.ensures.border ks key is at)) h refl refl none refl refl refl
+    let none = c.if-self-eq0.true in
+    walks-none pattern items ranges keys last.left_out last.key c.args.self.now _ last.keys_are
+    (nothing-waits c.laws_of_symbols.ensures.foreign pattern keys c.args.symbol c.args.self.now.state last (λ ks key is at. sym none ∙ c.advance-self.ensures.border ks key is at)) h refl refl none refl refl refl
 
 pub returns-clause-walks : goal.returns-clause-walks
 returns-clause-walks c = λ items ranges keys k h.
     let pattern = c.args.pattern.now.keys in
     let less : c.args.symbol < 255 = omega (arith, c.ranges.symbol.fits, c.if-symbol-eq-NO_SYMBOL.false) in
     let last = c.laws_of_symbols.ensures.one pattern keys c.args.symbol (subst (λ l. AreLastSymbols pattern keys l) (one-symbol c.args.symbol less) k) in
-    let old : Walk = stands c.args.self.now c.args.at in
-    let walk : Walk = record { state = c.advance.result; places = c.push_back.new.self; start = old.start; has_keys = true; select = old.select; last_end = old.last_end } in
-    subst (λ (is : List Item). WalksOver pattern is ranges walk) (sym (ap (λ (ks : List Key). items ++ map (λ key. Element key) ks) (one-key pattern keys c.args.symbol (λ none. c.if-after-eq0.false (c.advance.ensures.foreign none)) last)))
+    let old = c.args.self.now in
+    let walk : Walk = record { state = c.advance-self.result; places = c.push_back.new.self; start = old.start; has_keys = true; select = old.select; last_end = old.last_end } in
+    subst (λ (is : List Item). WalksOver pattern is ranges walk) (sym (ap (λ (ks : List Key). items ++ map (λ key. Element key) ks) (one-key pattern keys c.args.symbol (λ none. c.if-self-eq0.false (c.advance-self.ensures.foreign none)) last)))
     (subst (λ (t : List (ℕ × ℕ)). WalksOver pattern (items ++ Element last.key ∷ []) t walk) (append-nil ranges)
-    (walks-key pattern items ranges last.key old walk h refl refl (λ ks at. c.advance.ensures.border ks last.key last.symbol_is at)
-    (ap (λ b. b.capacity) c.push_back.ensures.items) refl refl
-    (ap (λ b. b.items) c.push_back.ensures.items
-    ∙ ap (λ b. let place : KeyPlace = record { start = old.start; is_first = b } in keep_last old.places.capacity (old.places.items ++ place ∷ [])) (none-flag c.args.at.keys))))
+    (walks-key pattern items ranges last.key old walk h refl refl (λ ks at. c.advance-self.ensures.border ks last.key last.symbol_is at)
+    (ap (λ b. b.capacity) c.push_back.ensures.items) refl refl (ap (λ b. b.items) c.push_back.ensures.items)))

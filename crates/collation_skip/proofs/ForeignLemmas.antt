@@ -1,0 +1,135 @@
+-- Characters with keys that the pattern does not have, passed by one after another.
+use Rattle.std.specs.Char.{len_utf8}
+use Rattle.std.specs.Str.{chars, IsUtf8}
+use Rattle.std.proofs.Common.{◌≡◌, ◌∙◌, ℕ, zero, suc, ◌+◌, ◌<◌, ◌≤◌, true, false, List, [], ◌∷◌, ◌++◌, length, take, drop, map, filter, Contains, refl, sym, ap, ap₂, subst, arith, append_assoc}
+use Rattle.std.proofs.lemmas.List.{append-nil, length-take-le}
+use Rattle.std.proofs.lemmas.Str.{chars-nil, encodes-chars}
+use Rattle.utf8_cut.specs.Sequences.{SpellsCharacter}
+use Rattle.utf8_cut.proofs.TextLemmas.{text-more, chars-more, one_char}
+use Rattle.nfd_points.specs.Points.{byte_len, points_from, begins_with_starter}
+use Rattle.nfd_points.specs.Laws.{PointsAreShifted}
+use Rattle.nfd_points.proofs.ByteLenLemmas.{byte_len_encoded}
+use Rattle.collation_table.specs.Table.{TableMap}
+use Rattle.collation_elements.specs.declared.keys.Key.{Key}
+use Rattle.collation_elements.specs.declared.keys.Item.{Item}
+use Rattle.collation_elements.specs.declared.keys.Item.TheVariants.{ClusterStart, Element}
+use Rattle.collation_elements.specs.Items.{items as items_of}
+use Rattle.collation_elements.specs.ItemParts.{item_keys}
+use Rattle.collation_elements.specs.Units.{units}
+use Rattle.collation_elements.specs.Weighing.{after_units}
+use Rattle.collation_pattern.specs.Border.{border}
+use Rattle.collation_pattern.specs.Compiled.{Compiled}
+use Rattle.collation_letters.specs.Apart.{IsNext}
+use Rattle.collation_letters.specs.declared.letter.Letter.{Letter}
+use Rattle.collation_letters.specs.Letters.{begins_cluster, is_mark, not_mark, flag_after, IsLetter}
+use Rattle.collation_letters.specs.Symbols.{AreLastSymbols, is_symbol, NothingWaitsBehindForeignKeys, OneSymbolIsOfTheLastKey}
+use Rattle.collation_letters.proofs.ApartLaws.{Laws}
+use Rattle.collation_letters.proofs.ApartLemmas.{from_none, next-more, next-none}
+use Rattle.collation_letters.proofs.LetterApart.{plain-known}
+use Rattle.collation_skip.specs.Blocks.{IsClean}
+use Rattle.collation_skip.specs.Passed.{IsPassed, IsQuiet}
+use Rattle.collation_skip.specs.Reached.{items_from}
+use Rattle.collation_skip.proofs.ItemLemmas.{letter_items, keys-append, keys-letter, quiet-more, later-more}
+use Rattle.collation_skip.proofs.ReachedLemmas.{begins-more, items-more, no-item, none-ends}
+
+pub record ForeignLaws : Type 0 where
+  pub points : Laws
+  pub shifted : PointsAreShifted
+  pub one : OneSymbolIsOfTheLastKey
+  pub foreign : NothingWaitsBehindForeignKeys
+
+-- What is known of some characters before one that follows: no match ends among them, and the whole pattern does not end their keys.
+pub record AreQuiet (table : TableMap) (pattern : Compiled) (start : ℕ) (cs : List ℕ) (c : ℕ) : Type 0 where
+  pub begins : begins_with_starter (points_from start cs) ≡ true
+  pub is_next : IsNext table start cs c
+  pub quiet : IsQuiet pattern.keys (items_from table pattern start cs)
+  pub below : border pattern.keys (item_keys (items_from table pattern start cs)) < length pattern.keys
+  pub later : (at : ℕ) → Contains (items_from table pattern start cs) (ClusterStart at) → start ≤ at
+
+-- no characters
+pub quiet-none : (table : TableMap) (pattern : Compiled) (start c : ℕ) (l : Letter) → 0 < length pattern.keys → IsLetter table pattern (c ∷ []) l → IsClean l → AreQuiet table pattern start [] c
+quiet-none table pattern start c l some h clean =
+    let none : points_from start [] ≡ [] = from_none start in
+    let nothing : items_from table pattern start [] ≡ [] = ap (λ ps. items_of table pattern.strength pattern.variable false (units table ps)) none in
+    let starter : begins_with_starter (points_from 0 (c ∷ [])) ≡ true = (h.known (plain-known l.role clean.0)).starter ∙ ap not_mark clean.0 in
+    let zero : border pattern.keys (item_keys (items_from table pattern start [])) ≡ 0 = ap (λ (l : List Item). border pattern.keys (item_keys l)) nothing ∙ none-ends pattern.keys in
+    record {
+      begins = ap begins_with_starter none;
+      is_next = next-none table start c starter;
+      quiet = λ first after at e. absurd (no-item first after (ClusterStart at) (sym nothing ∙ e));
+      below = omega (arith, zero, some);
+      later = λ at held. let contained = subst (λ (l : List Item). Contains l (ClusterStart at)) nothing held in let less = contained.1 in absurd (omega (arith, less));
+    }
+
+-- where some were passed by
+pub quiet-passed : ForeignLaws → (table : TableMap) (pattern : Compiled) (start last : ℕ) (cs : List ℕ) (c : ℕ) → 0 < length pattern.keys → IsPassed table pattern start last cs c → AreQuiet table pattern start cs c
+quiet-passed laws table pattern start last cs c some p =
+    let opened = p.before ++ ClusterStart last ∷ [] in
+    let all : p.before ++ ClusterStart last ∷ map (λ key. Element key) p.keys ≡ opened ++ letter_items false 0 p.keys = sym (append_assoc p.before (ClusterStart last ∷ []) (map (λ key. Element key) p.keys)) in
+    let earlier : item_keys opened ≡ item_keys p.before = keys-append p.before (ClusterStart last ∷ []) ∙ append-nil (item_keys p.before) in
+    let open_below : border pattern.keys (item_keys opened) < length pattern.keys = subst (λ (ks : List Key). border pattern.keys ks < length pattern.keys) (sym earlier) (p.quiet p.before [] last refl) in
+    let one = laws.one pattern.keys p.keys 0 p.foreign in
+    let keys : item_keys (items_from table pattern start cs) ≡ (item_keys p.before ++ one.left_out) ++ one.key ∷ [] =
+    ap item_keys (p.items ∙ all) ∙ keys-append opened (letter_items false 0 p.keys) ∙ ap₂ (λ (x y : List Key). x ++ y) earlier (keys-letter false 0 p.keys ∙ one.keys_are) ∙ sym (append_assoc (item_keys p.before) one.left_out (one.key ∷ [])) in
+    let zero : border pattern.keys (item_keys (items_from table pattern start cs)) ≡ 0 = ap (border pattern.keys) keys ∙ sym (laws.foreign pattern.keys (item_keys p.before ++ one.left_out) one.key one.symbol_is) in
+    record {
+      begins = p.begins;
+      is_next = p.is_next;
+      quiet = subst (IsQuiet pattern.keys) (sym (p.items ∙ all)) (quiet-more pattern.keys opened false 0 p.keys p.quiet open_below);
+      below = omega (arith, zero, some);
+      later = subst (λ (l : List Item). (at : ℕ) → Contains l (ClusterStart at) → start ≤ at) (sym p.items) (later-more p.before true last p.keys start p.later p.after_start);
+    }
+
+symbols-of : (first second third : ℕ) → first ≡ 255 → second ≡ 255 → third ≡ 0 → filter is_symbol (first ∷ second ∷ third ∷ []) ≡ 0 ∷ []
+symbols-of first second third a b c =
+    ap₂ (λ (x y : ℕ). filter is_symbol (x ∷ y ∷ third ∷ [])) a b ∙ ap (λ x. filter is_symbol (255 ∷ 255 ∷ x ∷ [])) c
+
+-- one character more
+pub passed-one : ForeignLaws → (table : TableMap) (pattern : Compiled) (start : ℕ) (cs : List ℕ) (c next : ℕ) (l : Letter) → AreQuiet table pattern start cs c → IsLetter table pattern (c ∷ []) l → IsClean l →
+    IsNext table (start + byte_len cs) (c ∷ []) next → IsPassed table pattern start (start + byte_len cs) (cs ++ c ∷ []) next
+passed-one laws table pattern start cs c next l q h clean apart =
+    let at = start + byte_len cs in
+    let known = plain-known l.role clean.0 in
+    let plain = h.plain clean.0 in
+    let items = items-more laws.points laws.shifted table pattern start cs c [] l q.is_next known (ap is_mark clean.0) h in
+    let I = items_from table pattern start cs in
+    record {
+      begins = begins-more laws.points table start cs c [] q.begins q.is_next;
+      is_next = next-more laws.points table start c next cs [] (c ∷ []) refl q.is_next apart;
+      before = I;
+      keys = items.keys;
+      items = items.items ∙ ap (λ r. I ++ letter_items (begins_cluster r) at items.keys) clean.0;
+      flag = items.flag ∙ ap (λ r. flag_after r (after_units table pattern.variable false (units table (points_from start cs)))) clean.0;
+      quiet = quiet-more pattern.keys I true at [] q.quiet q.below;
+      later = q.later;
+      after_start = omega arith;
+      foreign = subst (AreLastSymbols pattern.keys items.keys) (symbols-of l.symbols.first l.symbols.second l.symbols.third plain.1.0 plain.1.1 clean.1) items.symbols;
+    }
+
+-- ---- the characters of a piece
+
+bytes-of : (piece : List ℕ) (end : ℕ) → end ≤ length piece → IsUtf8 (take end piece) → byte_len (chars (take end piece)) ≡ end
+bytes-of piece end within text =
+    byte_len_encoded (chars (take end piece)) ∙ ap (λ (l : List ℕ). length l) (encodes-chars (take end piece) text) ∙ length-take-le end piece within
+
+-- what is known of no bytes, or of those that were passed by
+pub quiet-so_far : ForeignLaws → (table : TableMap) (pattern : Compiled) (piece : List ℕ) (end last c at : ℕ) (l : Letter) → 0 < length pattern.keys → IsLetter table pattern (c ∷ []) l → IsClean l →
+    (0 < end → IsPassed table pattern at last (chars (take end piece)) c) → AreQuiet table pattern at (chars (take end piece)) c
+quiet-so_far laws table pattern piece zero last c at l some h clean passed = subst (λ (cs : List ℕ). AreQuiet table pattern at cs c) (sym chars-nil) (quiet-none table pattern at c l some h clean)
+quiet-so_far laws table pattern piece (suc end) last c at l some h clean passed = quiet-passed laws table pattern at last (chars (take (suc end) piece)) c some (passed (omega arith))
+
+-- one character more of a piece, wherever this stands
+pub passed-on : ForeignLaws → (table : TableMap) (pattern : Compiled) (piece : List ℕ) (end len c next at : ℕ) (l : Letter) → end + len ≤ length piece → len ≡ len_utf8 c → IsUtf8 (take end piece) →
+    SpellsCharacter (take (len_utf8 c) (drop end piece)) c → AreQuiet table pattern at (chars (take end piece)) c → IsLetter table pattern (c ∷ []) l → IsClean l →
+    IsNext table (at + end) (c ∷ []) next → IsPassed table pattern at (at + end) (chars (take (end + len) piece)) next
+passed-on laws table pattern piece end len c next at l within same text spelled quiet h clean apart =
+    let cs = chars (take end piece) in
+    let bytes = bytes-of piece end (omega (arith, within)) text in
+    let more : chars (take (end + len) piece) ≡ cs ++ c ∷ [] = chars-more piece end len text ∙ ap (λ (l : List ℕ). cs ++ l) (ap (λ n. chars (take n (drop end piece))) same ∙ (one_char (take (len_utf8 c) (drop end piece)) c spelled).1) in
+    subst (λ (codes : List ℕ). IsPassed table pattern at (at + end) codes next) (sym more)
+    (subst (λ n. IsPassed table pattern at (at + n) (cs ++ c ∷ []) next) bytes
+    (passed-one laws table pattern at cs c next l quiet h clean (subst (λ n. IsNext table (at + n) (c ∷ []) next) (sym bytes) apart)))
+
+pub text-on : (piece : List ℕ) (end len c : ℕ) → len ≡ len_utf8 c → IsUtf8 (take end piece) → SpellsCharacter (take (len_utf8 c) (drop end piece)) c → IsUtf8 (take (end + len) piece)
+text-on piece end len c same text spelled =
+    text-more piece end len text (subst (λ n. IsUtf8 (take n (drop end piece))) (sym same) (one_char (take (len_utf8 c) (drop end piece)) c spelled).0)

@@ -1,0 +1,63 @@
+use Rattle.std.specs.Char.{len_utf8}
+use Rattle.std.specs.Str.{chars}
+use Rattle.std.proofs.Common.{◌∙◌, ℕ, ◌+◌, ◌≤◌, ◌<◌, List, [], ◌∷◌, length, take, drop, sym, ap, subst, arith}
+use Rattle.std.proofs.lemmas.Bool.{eqb-false}
+use Rattle.std.proofs.lemmas.List.{length-drop, take_rest}
+use Rattle.utf8_cut.specs.Sequences.{SpellsCharacter}
+use Rattle.collation_elements.specs.declared.keys.Key.{Key}
+use Rattle.collation_letters.proofs.ApartLaws.{Laws}
+use Rattle.collation_skip.proofs.ForeignLemmas.{ForeignLaws, AreQuiet, quiet-so_far, passed-on, text-on}
+use Rattle.collation_skip.proofs.foreign.pass_foreign.Goals as goal
+
+pub loop-end-preserved : goal.loop-end-preserved
+loop-end-preserved c =
+    let piece = c.args.piece.now in
+    let pattern = c.args.pattern.now in
+    let i = c.loop-end.invariant in
+    let end = c.loop-end.end in
+    let len = c.loop-end.len in
+    let here = c.loop-end.next in
+    let next = c.in-Some.following in
+    let more = c.in-Some.ensures in
+    let rest = take_rest piece (end + len) in
+    let spelled : SpellsCharacter (take (len_utf8 next) (drop (end + len) piece)) next = subst (λ (bs : List ℕ). SpellsCharacter (take (len_utf8 next) bs) next) rest more.some.1 in
+    let fits : len_utf8 next ≤ length (drop (end + len) piece) = subst (λ (bs : List ℕ). len_utf8 next ≤ length bs) rest more.some.0 in
+    let within = i.within in
+    let some : 0 < length pattern.keys =
+    let none = eqb-false (length c.keys.result.now) 0 (sym c.is_empty.ensures ∙ c.if-is_empty.false) in
+    let keys = ap (λ (l : List Key). length l) c.keys.ensures in omega (arith, none, keys) in
+    let points : Laws = record {
+      short = c.laws_of_decompositions.ensures.short;
+      in_order = c.laws_of_decompositions.ensures.in_order;
+      few = c.laws_of_faults.ensures.few;
+      anew = c.laws_of_faults.ensures.anew;
+      bytes = c.laws_of_points.ensures.bytes_of_parts;
+      parts = c.laws_of_points.ensures.parts;
+      at_starters = c.laws_of_ordering.ensures.at_starters;
+      stays = c.laws_of_ordering.ensures.stays;
+    } in
+    let laws : ForeignLaws = record {
+      points = points;
+      shifted = c.laws_of_points.ensures.shifted;
+      one = c.laws_of_symbols.ensures.one;
+      foreign = c.laws_of_symbols.ensures.foreign;
+    } in
+    let clean = c.is_clean-in-loop-end.ensures c.if-is_clean.true in
+    let apart = c.is_next.ensures.apart c.if-not-is_next.false in
+    let letter = c.in-Some-known.ensures in
+    record {
+      within = omega (arith, within, fits, more.len, length-drop (end + len) piece);
+      len = more.len;
+      order = omega arith;
+      reach = omega (arith, c.loop-end-test.true);
+      next = spelled;
+      text = text-on piece end len here i.len i.text i.next;
+      letter = λ table are. letter table pattern are;
+      passed = λ table are _ at.
+          let quiet : AreQuiet table pattern at (chars (take end piece)) here = quiet-so_far laws table pattern piece end (at + c.loop-end.start) here at c.loop-end.letter some (i.letter table are) clean (λ yes. i.passed table are yes at) in
+          passed-on laws table pattern piece end len here next at c.loop-end.letter within i.len i.text i.next quiet (i.letter table are) clean
+          (apart table pattern (at + end) (here ∷ []) next (i.letter table are) (letter table pattern are));
+    }
+
+pub returns-clause-passed : goal.returns-clause-passed
+returns-clause-passed c = λ table are at. c.loop-end.invariant.passed table are (omega (arith, c.if-end-eq0.false)) at
