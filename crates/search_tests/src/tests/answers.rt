@@ -4,26 +4,40 @@
 ghost use Rattle.std.specs.Prelude.{◌<◌};
 
 use super::Range;
-use super::calls::{Query, begin, feed, finish, resume, save, step};
-use super::checks::{ranges_are, words_are};
+use super::calls::{
+    Query, begin, feed, feed_well, finish, put_all, resume, saved, step, step_well,
+};
+use super::checks::{fault_is, ranges_are, words_are};
 use collation_search::{Found, Search, TextFault};
 use collation_table::Weights;
-use std::alloc::{AllocError, Global};
+use std::alloc::Global;
 use std::process::Abort;
-use std::test::Fail;
 
 /// The ranges of a text, and its fault.
 pub(super) type Answered = (Vec<Range>, Option<TextFault>);
 
 /// Ends the text: all of its ranges, of which these were handed out before, and its fault.
 pub(super) fn end<W: Weights>(
+    rt: &impl Abort,
     search: Search<'_, W>,
     mut ranges: Vec<Range>,
-) -> Result<Answered, AllocError> {
+) -> Answered {
     let mut found = Found::new();
     let fault = finish(search, &mut found).err();
-    ranges.extend_from_slice(found.as_slice())?;
-    Ok((ranges, fault))
+    put_all(rt, &mut ranges, found.as_slice());
+    (ranges, fault)
+}
+
+/// The answer of a row is this.
+pub(super) fn answered_is(
+    rt: &impl Abort,
+    got: &Answered,
+    ranges: &[Range],
+    fault: Option<TextFault>,
+    row: &str,
+) {
+    ranges_are(rt, &got.0, ranges, row);
+    fault_is(rt, got.1, fault, row);
 }
 
 /// What a search answers of a text that is fed in pieces of this many bytes.
@@ -33,36 +47,47 @@ pub(super) fn fed<W: Weights>(
     query: &Query<'_, W>,
     text: &[u8],
     size: usize,
-) -> Result<Answered, AllocError>
+) -> Answered
     requires { 0 < size }
 {
-    let mut search = begin(alloc, query)?;
+    let mut search = begin(rt, alloc, query);
     let mut ranges = Vec::new(alloc);
     for piece in text.chunks(size) {
         if feed(rt, &mut search, piece, &mut ranges).is_err() {
             break;
         }
     }
-    end(search, ranges)
+    end(rt, search, ranges)
 }
 
-/// What a search answers of a text whose bytes come one by one.
-pub(super) fn stepped<W: Weights>(
-    alloc: Global,
-    query: &Query<'_, W>,
-    text: &[u8],
-) -> Result<Answered, AllocError> {
-    let mut search = begin(alloc, query)?;
-    let mut ranges = Vec::new(alloc);
+/// Takes bytes one by one, up to a fault: the ranges that are handed out are put behind the others.
+fn step_on<W: Weights>(
+    rt: &impl Abort,
+    search: &mut Search<'_, W>,
+    bytes: &[u8],
+    ranges: &mut Vec<Range>,
+) {
     let mut found = Found::new();
-    for byte in text {
-        let taken = step(&mut search, *byte, &mut found);
-        ranges.extend_from_slice(found.as_slice())?;
+    for byte in bytes {
+        let taken = step(search, *byte, &mut found);
+        put_all(rt, ranges, found.as_slice());
         if taken.is_err() {
             break;
         }
     }
-    end(search, ranges)
+}
+
+/// What a search answers of a text whose bytes come one by one.
+pub(super) fn stepped<W: Weights>(
+    rt: &impl Abort,
+    alloc: Global,
+    query: &Query<'_, W>,
+    text: &[u8],
+) -> Answered {
+    let mut search = begin(rt, alloc, query);
+    let mut ranges = Vec::new(alloc);
+    step_on(rt, &mut search, text, &mut ranges);
+    end(rt, search, ranges)
 }
 
 /// What a search answers of a text in pieces of this size, saved, dropped and resumed after each, and how many words the greatest
@@ -73,21 +98,63 @@ pub(super) fn resumed<W: Weights>(
     query: &Query<'_, W>,
     text: &[u8],
     size: usize,
-) -> Result<(Answered, usize), Fail>
+) -> (Answered, usize)
     requires { 0 < size }
 {
-    let mut search = begin(alloc, query)?;
+    let mut words = saved(rt, alloc, &begin(rt, alloc, query));
     let mut ranges = Vec::new(alloc);
-    let mut words = Vec::new(alloc);
     let mut most_words = 0;
     for piece in text.chunks(size) {
-        let _fault = feed(rt, &mut search, piece, &mut ranges);
-        words.clear();
-        save(&search, &mut words)?;
+        words = words_after(rt, alloc, query, &words, piece, &mut ranges);
         most_words = most_words.max(words.len());
-        search = resume(alloc, query, &words)?;
     }
-    Ok((end(search, ranges)?, most_words))
+    (
+        end(rt, resume(rt, alloc, query, &words), ranges),
+        most_words,
+    )
+}
+
+/// The words after a piece more, of a search that is resumed from those before it and dropped after it. Its fault is passed over, for
+/// the end answers it again.
+fn words_after<W: Weights>(
+    rt: &impl Abort,
+    alloc: Global,
+    query: &Query<'_, W>,
+    words: &[u64],
+    piece: &[u8],
+    ranges: &mut Vec<Range>,
+) -> Vec<u64> {
+    let mut search = resume(rt, alloc, query, words);
+    let _fault = feed(rt, &mut search, piece, ranges);
+    saved(rt, alloc, &search)
+}
+
+/// The words of the state of a search that was fed these bytes, whose faults are passed over.
+fn state_fed<W: Weights>(
+    rt: &impl Abort,
+    alloc: Global,
+    query: &Query<'_, W>,
+    bytes: &[u8],
+) -> Vec<u64> {
+    let mut search = begin(rt, alloc, query);
+    let mut ranges = Vec::new(alloc);
+    let _fault = feed(rt, &mut search, bytes, &mut ranges);
+    saved(rt, alloc, &search)
+}
+
+/// The words of the state of a search that took these bytes one by one, whose faults are passed over.
+fn state_stepped<W: Weights>(
+    rt: &impl Abort,
+    alloc: Global,
+    query: &Query<'_, W>,
+    bytes: &[u8],
+) -> Vec<u64> {
+    let mut search = begin(rt, alloc, query);
+    let mut found = Found::new();
+    for byte in bytes {
+        let _fault = step(&mut search, *byte, &mut found);
+    }
+    saved(rt, alloc, &search)
 }
 
 /// The words of the state of a search after some bytes, whose faults are passed over: those that steps leave, and so does a feed.
@@ -96,21 +163,40 @@ pub(super) fn state_after<W: Weights>(
     alloc: Global,
     query: &Query<'_, W>,
     bytes: &[u8],
-) -> Result<Vec<u64>, Fail> {
-    let mut fed = begin(alloc, query)?;
-    let mut ranges = Vec::with_capacity(alloc, 8)?;
-    let _fault = feed(rt, &mut fed, bytes, &mut ranges);
-    let mut words = Vec::new(alloc);
-    save(&fed, &mut words)?;
-    let mut stepped = begin(alloc, query)?;
+) -> Vec<u64> {
+    let words = state_fed(rt, alloc, query, bytes);
+    words_are(rt, &words, &state_stepped(rt, alloc, query, bytes));
+    words
+}
+
+/// Takes bytes without a fault one by one: the ranges that are handed out are put behind the others.
+fn step_well_on<W: Weights>(
+    rt: &impl Abort,
+    search: &mut Search<'_, W>,
+    bytes: &[u8],
+    ranges: &mut Vec<Range>,
+) {
     let mut found = Found::new();
     for byte in bytes {
-        let _fault = step(&mut stepped, *byte, &mut found);
+        step_well(rt, search, *byte, &mut found);
+        put_all(rt, ranges, found.as_slice());
     }
-    let mut words_of_steps = Vec::new(alloc);
-    save(&stepped, &mut words_of_steps)?;
-    words_are(rt, &words, &words_of_steps);
-    Ok(words)
+}
+
+/// Feeds a piece to one search, hands its bytes to the other one by one, and compares the ranges so far and the words of the states.
+fn compare_piece<W: Weights>(
+    rt: &impl Abort,
+    alloc: Global,
+    fed: &mut Search<'_, W>,
+    stepped: &mut Search<'_, W>,
+    piece: &[u8],
+    ranges: &mut Vec<Range>,
+    want: &mut Vec<Range>,
+) {
+    feed_well(rt, fed, piece, ranges);
+    step_well_on(rt, stepped, piece, want);
+    ranges_are(rt, ranges.as_slice(), want.as_slice(), "steps");
+    words_are(rt, &saved(rt, alloc, fed), &saved(rt, alloc, stepped));
 }
 
 /// Compares what a search leaves that is fed pieces of this many bytes with what one leaves that takes a byte at a time: after each
@@ -121,26 +207,23 @@ pub(super) fn compare_with_steps<W: Weights>(
     query: &Query<'_, W>,
     text: &[u8],
     size: usize,
-) -> Result<usize, Fail>
+) -> usize
     requires { 0 < size }
 {
-    let mut fed = begin(alloc, query)?;
-    let mut stepped = begin(alloc, query)?;
+    let mut fed = begin(rt, alloc, query);
+    let mut stepped = begin(rt, alloc, query);
     let mut ranges = Vec::new(alloc);
     let mut want = Vec::new(alloc);
-    let mut found = Found::new();
     for piece in text.chunks(size) {
-        feed(rt, &mut fed, piece, &mut ranges)?;
-        for byte in piece {
-            step(&mut stepped, *byte, &mut found)?;
-            want.extend_from_slice(found.as_slice())?;
-        }
-        ranges_are(rt, &ranges, &want, "steps");
-        let mut words = Vec::new(alloc);
-        let mut want_words = Vec::new(alloc);
-        save(&fed, &mut words)?;
-        save(&stepped, &mut want_words)?;
-        words_are(rt, &words, &want_words);
+        compare_piece(
+            rt,
+            alloc,
+            &mut fed,
+            &mut stepped,
+            piece,
+            &mut ranges,
+            &mut want,
+        );
     }
-    Ok(want.len())
+    want.len()
 }

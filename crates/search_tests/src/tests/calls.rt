@@ -1,5 +1,7 @@
 //! The calls that the tests make, each in a function of its own that promises nothing, for any table. The contracts of a search are
-//! long: so a proof meets each of them once, and not at each use.
+//! long: so a proof meets each of them once, and not at each use. Where a test goes on only if a call succeeds, the function stops the
+//! test itself: with each `?` a proof goes through everything that the caller has to drop there. What may be refused and is looked at
+//! has a function whose name begins with `try`.
 
 use super::Range;
 use collation_elements::{Strength, Variable};
@@ -10,7 +12,6 @@ use collation_search::{
 use collation_table::{PlainTable, Table, Weights};
 use std::alloc::{AllocError, Global};
 use std::process::Abort;
-use std::test::Fail;
 
 /// What a search is made for.
 #[derive(Drop)]
@@ -29,29 +30,43 @@ pub(super) fn for_all<'a, W: Weights>(table: &'a W, pattern: &'a Pattern) -> Que
     }
 }
 
+/// A query for these matches.
+pub(super) fn query_for<'a, W: Weights>(
+    table: &'a W,
+    pattern: &'a Pattern,
+    select: Select,
+) -> Query<'a, W> {
+    Query {
+        table,
+        pattern,
+        select,
+    }
+}
+
 /// The table of these lines.
-pub(super) fn read(alloc: Global, lines: &str) -> Result<Table, Fail> {
-    Ok(Table::read(alloc, lines.as_bytes())?)
+pub(super) fn read(rt: &impl Abort, alloc: Global, lines: &str) -> Table {
+    Table::read(alloc, lines.as_bytes()).expect(rt, "the table")
 }
 
 /// The same table, whose rows stand in an ordered map.
-pub(super) fn read_plain(alloc: Global, lines: &str) -> Result<PlainTable, Fail> {
-    Ok(PlainTable::read(alloc, lines.as_bytes())?)
+pub(super) fn read_plain(rt: &impl Abort, alloc: Global, lines: &str) -> PlainTable {
+    PlainTable::read(alloc, lines.as_bytes()).expect(rt, "the plain table")
 }
 
 /// The pattern of these letters.
 pub(super) fn compile<W: Weights>(
+    rt: &impl Abort,
     alloc: Global,
     table: &W,
     letters: &str,
     strength: Strength,
     variable: Variable,
-) -> Result<Pattern, Fail> {
-    Ok(Pattern::compile(alloc, table, letters, strength, variable)?)
+) -> Pattern {
+    Pattern::compile(alloc, table, letters, strength, variable).expect(rt, "the pattern")
 }
 
-/// A new search.
-pub(super) fn begin<'a, W: Weights>(
+/// A new search, unless memory is refused.
+pub(super) fn try_begin<'a, W: Weights>(
     alloc: Global,
     query: &Query<'a, W>,
 ) -> Result<Search<'a, W>, AllocError> {
@@ -61,8 +76,17 @@ pub(super) fn begin<'a, W: Weights>(
     }
 }
 
-/// A search that goes on from the words of a state.
-pub(super) fn resume<'a, W: Weights>(
+/// A new search.
+pub(super) fn begin<'a, W: Weights>(
+    rt: &impl Abort,
+    alloc: Global,
+    query: &Query<'a, W>,
+) -> Search<'a, W> {
+    try_begin(alloc, query).expect(rt, "a search")
+}
+
+/// A search that goes on from the words of a state, unless they are refused.
+pub(super) fn try_resume<'a, W: Weights>(
     alloc: Global,
     query: &Query<'a, W>,
     words: &[u64],
@@ -73,6 +97,16 @@ pub(super) fn resume<'a, W: Weights>(
             Search::resume_with(alloc, query.table, query.pattern, query.select, words)
         }
     }
+}
+
+/// A search that goes on from the words of a state.
+pub(super) fn resume<'a, W: Weights>(
+    rt: &impl Abort,
+    alloc: Global,
+    query: &Query<'a, W>,
+    words: &[u64],
+) -> Search<'a, W> {
+    try_resume(alloc, query, words).expect(rt, "a resumed search")
 }
 
 /// Feeds a piece, and puts the ranges that are handed out behind the others.
@@ -90,6 +124,16 @@ pub(super) fn feed<W: Weights>(
     )
 }
 
+/// Feeds a piece without a fault.
+pub(super) fn feed_well<W: Weights>(
+    rt: &impl Abort,
+    search: &mut Search<'_, W>,
+    piece: &[u8],
+    ranges: &mut Vec<Range>,
+) {
+    feed(rt, search, piece, ranges).expect(rt, "no fault of a piece");
+}
+
 /// Takes a byte: the ranges that are handed out.
 pub(super) fn step<W: Weights>(
     search: &mut Search<'_, W>,
@@ -97,6 +141,16 @@ pub(super) fn step<W: Weights>(
     found: &mut Found,
 ) -> Result<(), TextFault> {
     search.step(byte, found)
+}
+
+/// Takes a byte that is at no fault.
+pub(super) fn step_well<W: Weights>(
+    rt: &impl Abort,
+    search: &mut Search<'_, W>,
+    byte: u8,
+    found: &mut Found,
+) {
+    step(search, byte, found).expect(rt, "no fault of a byte");
 }
 
 /// Ends the text: the ranges that are handed out.
@@ -117,12 +171,47 @@ pub(super) fn reported<W: Weights>(search: &Search<'_, W>) -> Option<TextFault> 
     search.reported()
 }
 
-/// Puts the words of the state behind the others.
-pub(super) fn save<W: Weights>(
+/// Puts the words of the state behind the others, unless memory is refused.
+pub(super) fn try_save<W: Weights>(
     search: &Search<'_, W>,
     words: &mut Vec<u64>,
 ) -> Result<(), AllocError> {
     search.save(words)
+}
+
+/// The words of the state.
+pub(super) fn saved<W: Weights>(
+    rt: &impl Abort,
+    alloc: Global,
+    search: &Search<'_, W>,
+) -> Vec<u64> {
+    let mut words = Vec::new(alloc);
+    try_save(search, &mut words).expect(rt, "the words");
+    words
+}
+
+/// Puts ranges behind the others.
+pub(super) fn put_all(rt: &impl Abort, ranges: &mut Vec<Range>, more: &[Range]) {
+    ranges.extend_from_slice(more).expect(rt, "memory");
+}
+
+/// Puts bytes behind the others.
+pub(super) fn put_bytes(rt: &impl Abort, bytes: &mut Vec<u8>, more: &[u8]) {
+    bytes.extend_from_slice(more).expect(rt, "memory");
+}
+
+/// A text so many times in a row.
+pub(super) fn repeated(rt: &impl Abort, alloc: Global, text: &str, count: usize) -> String {
+    text.repeat(alloc, count).expect(rt, "memory")
+}
+
+/// These texts, one behind the other.
+pub(super) fn joined(rt: &impl Abort, alloc: Global, texts: &[&str]) -> String {
+    let mut all = String::new(alloc);
+    for text in texts {
+        all.push_str(*text).expect(rt, "memory");
+    }
+    all
 }
 
 /// The first range of a text that is held whole.
@@ -140,7 +229,7 @@ pub(super) fn in_pieces<W: Weights>(
     alloc: Global,
     query: &Query<'_, W>,
     pieces: &[&[u8]],
-) -> Result<(Vec<Range>, PiecesSearched), AllocError> {
+) -> (Vec<Range>, PiecesSearched) {
     let mut ranges = Vec::new(alloc);
     let told = search_in_pieces(
         alloc,
@@ -151,6 +240,7 @@ pub(super) fn in_pieces<W: Weights>(
         &mut |start, end| {
             ranges.push((start, end)).expect(rt, "memory");
         },
-    )?;
-    Ok((ranges, told))
+    )
+    .expect(rt, "the pieces");
+    (ranges, told)
 }

@@ -1,46 +1,53 @@
 //! Letters, which are taken at once: what a search leaves is what steps leave.
 
-use super::answers::{compare_with_steps, fed, stepped};
-use super::calls::{Query, compile, for_all, read};
-use super::checks::{count_is, fault_is, ranges_are};
+use super::answers::{answered_is, compare_with_steps, fed, stepped};
+use super::calls::{Query, compile, for_all, joined, put_bytes, query_for, read, repeated};
+use super::checks::{count_is, fault_is};
 use super::{KEPT, ONE, SHIFTED, TABLE, THREE};
 use collation_elements::{Strength, Variable};
 use collation_search::Select;
+use collation_table::{Table, Weights};
 use std::alloc::Global;
 use std::process::Abort;
-use std::test::Fail;
 
 /// Letters, a contraction, a variable element and characters without a row.
 const LETTERS: [u8; 12] = *b"ach aA-bu\na\0";
 
-/// Runs of 0 to 200 characters in turn, with a letter and a mark that are no ASCII after each, the first of them at each offset
-/// of a block.
-#[test]
-fn runs_of_each_length_at_each_offset(rt: HostRuntime) -> Result<(), Fail> {
-    let table = read(rt.alloc(), TABLE)?;
-    let pattern = compile(rt.alloc(), &table, "aa", ONE, SHIFTED)?;
-    let query = for_all(&table, &pattern);
-    let mut runs = Vec::new(rt.alloc());
+/// Runs of 0 to 200 characters in turn, with a letter and a mark that are no ASCII after each.
+fn runs_of_each_length(rt: &impl Abort, alloc: Global) -> Vec<u8> {
+    let mut runs = Vec::new(alloc);
     for len in 0..=200usize {
         for i in 0..len {
-            runs.push(LETTERS[i % 12])?;
+            runs.push(LETTERS[i % 12]).expect(rt, "memory");
         }
-        runs.extend_from_slice(b"\xc3\xa9a\xcc\x81")?;
+        put_bytes(rt, &mut runs, b"\xc3\xa9a\xcc\x81");
     }
+    runs
+}
+
+/// Compares the ranges of a text that is fed as one piece with those of steps.
+fn compare_whole(rt: &impl Abort, alloc: Global, query: &Query<'_, Table>, text: &[u8]) {
+    let whole = fed(rt, alloc, query, text, usize::MAX);
+    let steps = stepped(rt, alloc, query, text);
+    assert!(rt; whole.0.len() > 1_600);
+    answered_is(rt, &whole, &steps.0, None, "whole");
+    fault_is(rt, steps.1, None, "steps");
+}
+
+/// Runs of 0 to 200 characters, the first of them at each offset of a block.
+#[test]
+fn runs_of_each_length_at_each_offset(rt: HostRuntime) {
+    let table = read(&rt, rt.alloc(), TABLE);
+    let pattern = compile(&rt, rt.alloc(), &table, "aa", ONE, SHIFTED);
+    let query = for_all(&table, &pattern);
+    let runs = runs_of_each_length(&rt, rt.alloc());
     for before in 0..32usize {
+        let letters = repeated(&rt, rt.alloc(), "a", before);
         let mut text = Vec::new(rt.alloc());
-        for _ in 0..before {
-            text.push(b'a')?;
-        }
-        text.extend_from_slice(runs.as_slice())?;
-        let whole = fed(&rt, rt.alloc(), &query, text.as_slice(), usize::MAX)?;
-        let steps = stepped(rt.alloc(), &query, text.as_slice())?;
-        assert!(rt; whole.0.len() > 1_600);
-        ranges_are(&rt, &whole.0, &steps.0, "steps");
-        fault_is(&rt, whole.1, None, "whole");
-        fault_is(&rt, steps.1, None, "steps");
+        put_bytes(&rt, &mut text, letters.as_bytes());
+        put_bytes(&rt, &mut text, &runs);
+        compare_whole(&rt, rt.alloc(), &query, &text);
     }
-    Ok(())
 }
 
 /// Rows with a string of three code points, so that two points stay in the window.
@@ -95,71 +102,70 @@ const LINES: &str =
 /// `tools/compare/states.py` says.
 type Case<'a> = (&'a str, Strength, Variable, Select, usize);
 
-/// However a text is cut into pieces, at the end of each the ranges so far and the words of the state are those of steps. The table
-/// has these lines and then those.
-fn compare(
+/// However a text is cut into pieces, at the end of each the ranges so far and the words of the state are those of steps.
+fn compare_case<W: Weights>(
     rt: &impl Abort,
     alloc: Global,
-    lines: &str,
-    more_lines: &str,
-    text: &str,
-    cases: &[Case<'_>],
-) -> Result<(), Fail> {
-    let mut rows = lines.to_owned(alloc)?;
-    rows.push_str(more_lines)?;
-    let table = read(alloc, &rows)?;
-    for (letters, strength, variable, select, want) in cases {
-        let pattern = compile(alloc, &table, letters, *strength, *variable)?;
-        let query = Query {
-            table: &table,
-            pattern: &pattern,
-            select: *select,
-        };
-        for size in 1..=71usize {
-            let size = if size == 71 { usize::MAX } else { size };
-            let count = compare_with_steps(rt, alloc, &query, text.as_bytes(), size)?;
-            count_is(rt, count, *want);
-        }
+    table: &W,
+    text: &[u8],
+    case: &Case<'_>,
+) {
+    let (letters, strength, variable, select, want) = *case;
+    let pattern = compile(rt, alloc, table, letters, strength, variable);
+    let query = query_for(table, &pattern, select);
+    for size in 1..=71usize {
+        let size = if size == 71 { usize::MAX } else { size };
+        count_is(rt, compare_with_steps(rt, alloc, &query, text, size), want);
     }
-    Ok(())
 }
+
+/// Compares each case. The table has these lines and then those.
+fn compare(rt: &impl Abort, alloc: Global, lines: [&str; 2], text: &str, cases: &[Case<'_>]) {
+    let table = read(rt, alloc, &joined(rt, alloc, &lines));
+    for case in cases {
+        compare_case(rt, alloc, &table, text.as_bytes(), case);
+    }
+}
+
+const OF_ASCII: [Case; 5] = [
+    ("a", THREE, KEPT, Select::All, 39),
+    ("a a", ONE, SHIFTED, Select::All, 18),
+    ("aab", ONE, KEPT, Select::All, 6),
+    ("ch", ONE, KEPT, Select::All, 8),
+    ("b a", THREE, SHIFTED, Select::All, 6),
+];
+
+const OF_LONE_ROWS: [Case; 5] = [
+    ("a", THREE, KEPT, Select::All, 39),
+    ("a a", ONE, SHIFTED, Select::All, 12),
+    ("aab", ONE, KEPT, Select::All, 3),
+    ("ch", ONE, KEPT, Select::All, 8),
+    ("b a", THREE, SHIFTED, Select::All, 6),
+];
+
+const PAST_ASCII: [Case; 9] = [
+    ("e", ONE, KEPT, Select::All, 25),
+    ("\u{e9}", THREE, KEPT, Select::All, 8),
+    ("ae", ONE, SHIFTED, Select::All, 7),
+    ("a", ONE, KEPT, Select::Chain, 24),
+    ("\u{3b1}", ONE, KEPT, Select::All, 2),
+    ("\u{1f80}", ONE, KEPT, Select::All, 8),
+    ("a\u{327}\u{308}\u{301}", THREE, KEPT, Select::All, 2),
+    ("resume", ONE, KEPT, Select::All, 1),
+    ("bees", ONE, KEPT, Select::All, 1),
+];
 
 /// Patterns of one key and of several, with letters that begin a contraction and with none, in tables whose longest string has three
 /// code points, two, and one.
 #[test]
-fn pieces_of_ascii_leave_what_steps_leave(rt: HostRuntime) -> Result<(), Fail> {
-    let cases: [Case; 5] = [
-        ("a", THREE, KEPT, Select::All, 39),
-        ("a a", ONE, SHIFTED, Select::All, 18),
-        ("aab", ONE, KEPT, Select::All, 6),
-        ("ch", ONE, KEPT, Select::All, 8),
-        ("b a", THREE, SHIFTED, Select::All, 6),
-    ];
-    let of_lone_rows: [Case; 5] = [
-        ("a", THREE, KEPT, Select::All, 39),
-        ("a a", ONE, SHIFTED, Select::All, 12),
-        ("aab", ONE, KEPT, Select::All, 3),
-        ("ch", ONE, KEPT, Select::All, 8),
-        ("b a", THREE, SHIFTED, Select::All, 6),
-    ];
-    let text = LINE.repeat(rt.alloc(), 3)?;
-    compare(&rt, rt.alloc(), TABLE, LONGER_ROWS, &text, &cases)?;
-    compare(&rt, rt.alloc(), TABLE, "", &text, &cases)?;
-    compare(&rt, rt.alloc(), LONE_ROWS, "", &text, &of_lone_rows)
+fn pieces_of_ascii_leave_what_steps_leave(rt: HostRuntime) {
+    let text = repeated(&rt, rt.alloc(), LINE, 3);
+    compare(&rt, rt.alloc(), [TABLE, LONGER_ROWS], &text, &OF_ASCII);
+    compare(&rt, rt.alloc(), [TABLE, ""], &text, &OF_ASCII);
+    compare(&rt, rt.alloc(), [LONE_ROWS, ""], &text, &OF_LONE_ROWS);
 }
 
 #[test]
-fn pieces_past_ascii_leave_what_steps_leave(rt: HostRuntime) -> Result<(), Fail> {
-    let cases: [Case; 9] = [
-        ("e", ONE, KEPT, Select::All, 25),
-        ("\u{e9}", THREE, KEPT, Select::All, 8),
-        ("ae", ONE, SHIFTED, Select::All, 7),
-        ("a", ONE, KEPT, Select::Chain, 24),
-        ("\u{3b1}", ONE, KEPT, Select::All, 2),
-        ("\u{1f80}", ONE, KEPT, Select::All, 8),
-        ("a\u{327}\u{308}\u{301}", THREE, KEPT, Select::All, 2),
-        ("resume", ONE, KEPT, Select::All, 1),
-        ("bees", ONE, KEPT, Select::All, 1),
-    ];
-    compare(&rt, rt.alloc(), TABLE, MORE_ROWS, LINES, &cases)
+fn pieces_past_ascii_leave_what_steps_leave(rt: HostRuntime) {
+    compare(&rt, rt.alloc(), [TABLE, MORE_ROWS], LINES, &PAST_ASCII);
 }

@@ -3,14 +3,13 @@
 
 ghost use Rattle.std.specs.Prelude.{◌<◌};
 
-use super::answers::{fed, resumed};
-use super::calls::{compile, for_all, read};
-use super::checks::{count_is, fault_is, ranges_are, ranges_follow};
+use super::answers::{answered_is, fed, resumed};
+use super::calls::{compile, for_all, joined, read, repeated};
+use super::checks::{count_is, fault_is, ranges_follow};
 use super::{KEPT, Range, SHIFTED, TABLE, THREE};
 use collation_elements::Variable;
 use std::alloc::Global;
 use std::process::Abort;
-use std::test::Fail;
 
 /// Compares the ranges of a text fed in pieces of 4,096 bytes, and in pieces of this size between which the search is saved, dropped
 /// and resumed. It answers how many records of four words the greatest state between two of these has.
@@ -22,76 +21,62 @@ fn compare(
     text: &str,
     size: usize,
     ranges: &[Range],
-) -> Result<usize, Fail>
+) -> usize
     requires { 0 < size }
 {
-    let table = read(alloc, TABLE)?;
-    let pattern = compile(alloc, &table, letters, THREE, variable)?;
+    let table = read(rt, alloc, TABLE);
+    let pattern = compile(rt, alloc, &table, letters, THREE, variable);
     let query = for_all(&table, &pattern);
-    let whole = fed(rt, alloc, &query, text.as_bytes(), 4096)?;
-    ranges_are(rt, &whole.0, ranges, "whole");
-    fault_is(rt, whole.1, None, "whole");
-    let (again, most_words) = resumed(rt, alloc, &query, text.as_bytes(), size)?;
-    ranges_are(rt, &again.0, ranges, "resumed");
-    fault_is(rt, again.1, None, "resumed");
+    let whole = fed(rt, alloc, &query, text.as_bytes(), 4096);
+    answered_is(rt, &whole, ranges, None, "whole");
+    let (again, most_words) = resumed(rt, alloc, &query, text.as_bytes(), size);
+    answered_is(rt, &again, ranges, None, "resumed");
     count_is(rt, most_words % 4, 0);
-    Ok(most_words / 4)
+    most_words / 4
 }
 
 /// `aa` in a million letters `a`, with a search that is saved, dropped and resumed after each of them: one run, of which each letter is
 /// taken by a search that begins with the words that the one before it left.
 #[test]
-fn million_letters_resumed_after_each(rt: HostRuntime) -> Result<(), Fail> {
+fn million_letters_resumed_after_each(rt: HostRuntime) {
     let alloc = rt.alloc();
-    let table = read(alloc, TABLE)?;
-    let pattern = compile(alloc, &table, "aa", THREE, KEPT)?;
-    let text = "a".repeat(alloc, 1_000_000)?;
+    let table = read(&rt, alloc, TABLE);
+    let pattern = compile(&rt, alloc, &table, "aa", THREE, KEPT);
+    let text = repeated(&rt, alloc, "a", 1_000_000);
     let query = for_all(&table, &pattern);
-    let ((ranges, fault), most_words) = resumed(&rt, alloc, &query, text.as_bytes(), 1)?;
+    let ((ranges, fault), most_words) = resumed(&rt, alloc, &query, text.as_bytes(), 1);
     count_is(&rt, ranges.len(), 999_999);
     ranges_follow(&rt, &ranges, 2, 1);
     fault_is(&rt, fault, None, "a million letters");
     assert!(rt; most_words / 4 <= 39);
     count_is(&rt, most_words, 8 * 4);
-    Ok(())
 }
 
 #[test]
-fn million_soft_hyphens(rt: HostRuntime) -> Result<(), Fail> {
-    let mut text = "a".to_owned(rt.alloc())?;
-    text.push_str(&"\u{ad}".repeat(rt.alloc(), 1_000_000)?)?;
-    let records = compare(&rt, rt.alloc(), "a", KEPT, &text, 101, &[(0, 2_000_001)])?;
+fn million_soft_hyphens(rt: HostRuntime) {
+    let hyphens = repeated(&rt, rt.alloc(), "\u{ad}", 1_000_000);
+    let text = joined(&rt, rt.alloc(), &["a", hyphens.as_str()]);
+    let records = compare(&rt, rt.alloc(), "a", KEPT, &text, 101, &[(0, 2_000_001)]);
     assert!(rt; records <= 38);
     count_is(&rt, records, 7);
-    Ok(())
 }
 
 #[test]
-fn million_spaces(rt: HostRuntime) -> Result<(), Fail> {
-    let mut text = "a".to_owned(rt.alloc())?;
-    text.push_str(&" ".repeat(rt.alloc(), 1_000_000)?)?;
-    text.push_str("b")?;
-    let records = compare(
-        &rt,
-        rt.alloc(),
-        "ab",
-        SHIFTED,
-        &text,
-        101,
-        &[(0, 1_000_002)],
-    )?;
+fn million_spaces(rt: HostRuntime) {
+    let spaces = repeated(&rt, rt.alloc(), " ", 1_000_000);
+    let text = joined(&rt, rt.alloc(), &["a", spaces.as_str(), "b"]);
+    let want = [(0, 1_000_002)];
+    let records = compare(&rt, rt.alloc(), "ab", SHIFTED, &text, 101, &want);
     assert!(rt; records <= 39);
     count_is(&rt, records, 7);
-    Ok(())
 }
 
 #[test]
-fn pattern_of_the_most_bytes(rt: HostRuntime) -> Result<(), Fail> {
-    let letters = "a".repeat(rt.alloc(), 65_536)?;
-    let text = "a".repeat(rt.alloc(), 65_537)?;
+fn pattern_of_the_most_bytes(rt: HostRuntime) {
+    let letters = repeated(&rt, rt.alloc(), "a", 65_536);
+    let text = repeated(&rt, rt.alloc(), "a", 65_537);
     let want = [(0, 65_536), (1, 65_537)];
-    let records = compare(&rt, rt.alloc(), &letters, KEPT, &text, 4096, &want)?;
+    let records = compare(&rt, rt.alloc(), &letters, KEPT, &text, 4096, &want);
     assert!(rt; records <= 65_573);
     count_is(&rt, records, 65_542);
-    Ok(())
 }

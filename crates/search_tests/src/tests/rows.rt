@@ -1,13 +1,13 @@
 //! Worked rows: what a search answers of small texts, by either table, however their bytes come.
 
-use super::answers::{fed, resumed, stepped};
-use super::calls::{Query, compile, first_range, read, read_plain};
-use super::checks::{fault_is, first_is, kind_is, ranges_are};
+use super::answers::{answered_is, fed, resumed, stepped};
+use super::calls::{compile, first_range, joined, query_for, read, read_plain, repeated};
+use super::checks::{first_is, kind_is};
 use super::{KEPT, ONE, Range, SHIFTED, TABLE, THREE, TWO};
 use collation_elements::{Strength, Variable};
 use collation_pattern::Pattern;
 use collation_search::{Select, TextFault};
-use collation_table::Weights;
+use collation_table::{Table, Weights};
 use std::alloc::Global;
 use std::process::Abort;
 use std::test::Fail;
@@ -39,8 +39,8 @@ const BLOCKED: &[u8] = b"u\xcc\x80\xcc\x81";
 
 const OPEN: &[u8] = b"u\xcc\xa7\xcc\x81";
 
-const ROWS: [Row; 48] = [
-    // accents
+/// Rows of accents.
+const ACCENTS: [Row; 10] = [
     (ALL, ONE, KEPT, "resume", COMPOSED, &[(0, 8)], None),
     (ALL, TWO, KEPT, "resume", COMPOSED, &[], None),
     (
@@ -59,7 +59,10 @@ const ROWS: [Row; 48] = [
     (ALL, TWO, KEPT, "a", b"a\xe2\x83\x9db", &[], None),
     (ALL, TWO, SHIFTED, "a", b"a-\xe2\x83\x9d", &[(0, 1)], None),
     (ALL, TWO, SHIFTED, "a\u{20dd}", b"a-\xe2\x83\x9d", &[], None),
-    // letters
+];
+
+/// Rows of letters.
+const LETTERS: [Row; 15] = [
     (ALL, THREE, KEPT, "a", b"", &[], None),
     (ALL, ONE, KEPT, "aab", b"aabaab", &[(0, 3), (3, 6)], None),
     (ALL, THREE, KEPT, "aa", b"aaa", &[(0, 2), (1, 3)], None),
@@ -75,7 +78,10 @@ const ROWS: [Row; 48] = [
     (ALL, THREE, KEPT, "b", b"ab", &[(1, 2)], None),
     (ALL, THREE, KEPT, "c", b"ab", &[], None),
     (ALL, THREE, KEPT, "c", b"", &[], None),
-    // contractions
+];
+
+/// Rows of contractions.
+const CONTRACTIONS: [Row; 7] = [
     (ALL, THREE, KEPT, "c", b"ch", &[], None),
     (ALL, THREE, KEPT, "h", b"ch", &[], None),
     (ALL, ONE, KEPT, "ch", b"c\xc2\xadh", &[], None),
@@ -83,7 +89,10 @@ const ROWS: [Row; 48] = [
     (ALL, TWO, KEPT, "\u{fa}", OPEN, &[], None),
     (ALL, ONE, KEPT, "\u{fa}", BLOCKED, &[], None),
     (ALL, ONE, KEPT, "u", BLOCKED, &[(0, 5)], None),
-    // syllables and ideographs
+];
+
+/// Rows of syllables and ideographs.
+const SYLLABLES: [Row; 5] = [
     (ALL, THREE, KEPT, "\u{ac01}", JAMO, &[(0, 9)], None),
     (ALL, THREE, KEPT, "\u{1100}", b"\xea\xb0\x81", &[], None),
     (
@@ -97,7 +106,10 @@ const ROWS: [Row; 48] = [
     ),
     (ALL, TWO, KEPT, "\u{4e00}", b"\xe2\xbc\x80", &[(0, 3)], None),
     (ALL, THREE, KEPT, "\u{4e00}", b"\xe2\xbc\x80", &[], None),
-    // faults of bytes
+];
+
+/// Rows of faults of bytes.
+const FAULTS: [Row; 4] = [
     (ALL, THREE, KEPT, "a", b"ab \xff", &[(0, 1)], Some((31, 3))),
     (ALL, THREE, KEPT, "b", b"ab\xc3", &[], Some((31, 2))),
     (ALL, THREE, KEPT, "a", b"a\xe2\x82", &[], Some((31, 1))),
@@ -110,7 +122,10 @@ const ROWS: [Row; 48] = [
         &[(0, 1)],
         Some((31, 2)),
     ),
-    // chains
+];
+
+/// Rows of chains.
+const CHAINS: [Row; 7] = [
     (CHAIN, THREE, KEPT, "aa", b"aaa", &[(0, 2)], None),
     (CHAIN, THREE, KEPT, "aa", b"aaaa", &[(0, 2), (2, 4)], None),
     (
@@ -146,117 +161,150 @@ const ROWS: [Row; 48] = [
 
 /// Compares what a search answers of a row, whose text comes whole, in pieces of one to three bytes, and byte by byte, and with the
 /// search resumed after every byte. Of all matches the first one is found in the text as a whole too, or else the fault.
-fn compare<W: Weights>(
-    rt: &impl Abort,
-    alloc: Global,
-    table: &W,
-    row: &Row<'_>,
-) -> Result<(), Fail> {
+fn compare<W: Weights>(rt: &impl Abort, alloc: Global, table: &W, row: &Row<'_>) {
     let (select, strength, variable, letters, text, ranges, fault) = *row;
-    let pattern = compile(alloc, table, letters, strength, variable)?;
-    let query = Query {
-        table,
-        pattern: &pattern,
-        select,
-    };
+    let pattern = compile(rt, alloc, table, letters, strength, variable);
+    let query = query_for(table, &pattern, select);
     let want = fault.map(|(kind, offset)| TextFault { kind, offset });
     for size in [1, 2, 3, usize::MAX] {
-        let pieces = fed(rt, alloc, &query, text, size)?;
-        ranges_are(rt, &pieces.0, ranges, letters);
-        fault_is(rt, pieces.1, want, letters);
+        let pieces = fed(rt, alloc, &query, text, size);
+        answered_is(rt, &pieces, ranges, want, letters);
     }
-    let bytes = stepped(alloc, &query, text)?;
-    ranges_are(rt, &bytes.0, ranges, letters);
-    fault_is(rt, bytes.1, want, letters);
-    let (again, _most_words) = resumed(rt, alloc, &query, text, 1)?;
-    ranges_are(rt, &again.0, ranges, letters);
-    fault_is(rt, again.1, want, letters);
+    let bytes = stepped(rt, alloc, &query, text);
+    answered_is(rt, &bytes, ranges, want, letters);
+    let (again, _most_words) = resumed(rt, alloc, &query, text, 1);
+    answered_is(rt, &again, ranges, want, letters);
     if select == Select::All {
-        let first = match (ranges.first(), want) {
-            (Some(range), _) => Ok(Some(*range)),
-            (None, Some(fault)) => Err(fault),
-            (None, None) => Ok(None),
-        };
+        let first = first_of(ranges, want);
         first_is(rt, first_range(alloc, &query, text), first, letters);
     }
-    Ok(())
+}
+
+/// The first of these ranges, or else this fault.
+fn first_of(ranges: &[Range], fault: Option<TextFault>) -> Result<Option<Range>, TextFault> {
+    match (ranges.first(), fault) {
+        (Some(range), _) => Ok(Some(*range)),
+        (None, Some(fault)) => Err(fault),
+        (None, None) => Ok(None),
+    }
+}
+
+/// Compares each of some rows.
+fn compare_each<W: Weights>(rt: &impl Abort, alloc: Global, table: &W, rows: &[Row<'_>]) {
+    for row in rows {
+        compare(rt, alloc, table, row);
+    }
 }
 
 /// Compares each of some rows, by either table.
-fn compare_all(rt: &impl Abort, alloc: Global, rows: &[Row<'_>]) -> Result<(), Fail> {
-    let table = read(alloc, TABLE)?;
-    let plain = read_plain(alloc, TABLE)?;
-    for row in rows {
-        compare(rt, alloc, &table, row)?;
-        compare(rt, alloc, &plain, row)?;
-    }
-    Ok(())
+fn compare_all(rt: &impl Abort, alloc: Global, rows: &[Row<'_>]) {
+    compare_each(rt, alloc, &read(rt, alloc, TABLE), rows);
+    compare_each(rt, alloc, &read_plain(rt, alloc, TABLE), rows);
+}
+
+/// Compares the rows of letters and accents. Each list stands in a function with few others, for a proof goes through its rows.
+fn compare_letters(rt: &impl Abort, alloc: Global) {
+    compare_all(rt, alloc, &LETTERS);
+}
+
+fn compare_accents(rt: &impl Abort, alloc: Global) {
+    compare_all(rt, alloc, &ACCENTS);
+}
+
+fn compare_contractions(rt: &impl Abort, alloc: Global) {
+    compare_all(rt, alloc, &CONTRACTIONS);
+}
+
+fn compare_syllables(rt: &impl Abort, alloc: Global) {
+    compare_all(rt, alloc, &SYLLABLES);
+}
+
+fn compare_faults(rt: &impl Abort, alloc: Global) {
+    compare_all(rt, alloc, &FAULTS);
+}
+
+fn compare_chains(rt: &impl Abort, alloc: Global) {
+    compare_all(rt, alloc, &CHAINS);
 }
 
 #[test]
-fn worked_rows(rt: HostRuntime) -> Result<(), Fail> {
-    compare_all(&rt, rt.alloc(), &ROWS)
+fn worked_rows(rt: HostRuntime) {
+    compare_accents(&rt, rt.alloc());
+    compare_letters(&rt, rt.alloc());
+    compare_contractions(&rt, rt.alloc());
+    compare_syllables(&rt, rt.alloc());
+    compare_faults(&rt, rt.alloc());
+    compare_chains(&rt, rt.alloc());
 }
 
-/// A letter and so many marks after it.
-fn marked(alloc: Global, letter: &str, mark: &str, count: usize) -> Result<String, Fail> {
-    let mut text = letter.to_owned(alloc)?;
-    for _ in 0..count {
-        text.push_str(mark)?;
-    }
-    Ok(text)
+/// Letters and so many marks after them, a strength, a pattern, the ranges, and the kind and the offset of the fault.
+type Marked<'a> = (
+    &'a str,
+    &'a str,
+    usize,
+    Strength,
+    &'a str,
+    &'a [Range],
+    Option<(u8, u64)>,
+);
+
+const MARKED: [Marked; 5] = [
+    ("e", "\u{301}", 30, ONE, "e", &[(0, 61)], None),
+    ("e", "\u{301}", 31, ONE, "e", &[], Some((32, 61))),
+    ("a", "\u{f73}", 15, THREE, "a", &[], None),
+    ("a", "\u{f73}", 16, THREE, "a", &[], Some((32, 46))),
+    (
+        "aaae",
+        "\u{301}",
+        31,
+        THREE,
+        "aa",
+        &[(0, 2), (1, 3)],
+        Some((32, 64)),
+    ),
+];
+
+/// Compares a row of letters and marks after them.
+fn compare_marked(rt: &impl Abort, alloc: Global, row: &Marked<'_>) {
+    let (letters, mark, marks, strength, pattern, ranges, fault) = *row;
+    let marks = repeated(rt, alloc, mark, marks);
+    let text = joined(rt, alloc, &[letters, marks.as_str()]);
+    let row = (ALL, strength, KEPT, pattern, text.as_bytes(), ranges, fault);
+    compare_all(rt, alloc, &[row]);
 }
 
 #[test]
-fn runs_of_non_starters(rt: HostRuntime) -> Result<(), Fail> {
-    let thirty = marked(rt.alloc(), "e", "\u{301}", 30)?;
-    let more = marked(rt.alloc(), "e", "\u{301}", 31)?;
-    let pairs = marked(rt.alloc(), "a", "\u{f73}", 15)?;
-    let more_pairs = marked(rt.alloc(), "a", "\u{f73}", 16)?;
-    let after = marked(rt.alloc(), "aaae", "\u{301}", 31)?;
-    let rows: [Row; 5] = [
-        (ALL, ONE, KEPT, "e", thirty.as_bytes(), &[(0, 61)], None),
-        (ALL, ONE, KEPT, "e", more.as_bytes(), &[], Some((32, 61))),
-        (ALL, THREE, KEPT, "a", pairs.as_bytes(), &[], None),
-        (
-            ALL,
-            THREE,
-            KEPT,
-            "a",
-            more_pairs.as_bytes(),
-            &[],
-            Some((32, 46)),
-        ),
-        (
-            ALL,
-            THREE,
-            KEPT,
-            "aa",
-            after.as_bytes(),
-            &[(0, 2), (1, 3)],
-            Some((32, 64)),
-        ),
-    ];
-    compare_all(&rt, rt.alloc(), &rows)
+fn runs_of_non_starters(rt: HostRuntime) {
+    for row in &MARKED {
+        compare_marked(&rt, rt.alloc(), row);
+    }
+}
+
+/// Compares the kind of the fault of a pattern.
+fn compare_refused(
+    rt: &impl Abort,
+    alloc: Global,
+    table: &Table,
+    strength: Strength,
+    variable: Variable,
+    letters: &str,
+    kind: u8,
+) {
+    let compiled = Pattern::compile(alloc, table, letters, strength, variable);
+    kind_is(rt, compiled.err().map(|fault| fault.kind), Some(kind));
 }
 
 #[test]
-fn patterns_that_are_refused(rt: HostRuntime) -> Result<(), Fail> {
-    let table = read(rt.alloc(), TABLE)?;
-    let marks = "\u{301}".repeat(rt.alloc(), 31)?;
-    let letters = "a".repeat(rt.alloc(), 65_537)?;
-    let rows = [
-        (THREE, SHIFTED, " ", 22),
-        (THREE, KEPT, "", 22),
-        (ONE, KEPT, "\u{301}", 22),
-        (THREE, KEPT, marks.as_str(), 23),
-        (THREE, KEPT, letters.as_str(), 21),
-    ];
-    for (strength, variable, pattern, kind) in rows {
-        let compiled = Pattern::compile(rt.alloc(), &table, pattern, strength, variable);
-        kind_is(&rt, compiled.err().map(|fault| fault.kind), Some(kind));
-    }
-    Ok(())
+fn patterns_that_are_refused(rt: HostRuntime) {
+    let alloc = rt.alloc();
+    let table = read(&rt, alloc, TABLE);
+    let marks = repeated(&rt, alloc, "\u{301}", 31);
+    let letters = repeated(&rt, alloc, "a", 65_537);
+    compare_refused(&rt, alloc, &table, THREE, SHIFTED, " ", 22);
+    compare_refused(&rt, alloc, &table, THREE, KEPT, "", 22);
+    compare_refused(&rt, alloc, &table, ONE, KEPT, "\u{301}", 22);
+    compare_refused(&rt, alloc, &table, THREE, KEPT, &marks, 23);
+    compare_refused(&rt, alloc, &table, THREE, KEPT, &letters, 21);
 }
 
 #[test]
