@@ -4,8 +4,8 @@
 
 COLFIND is the built program, TESTS are built test programs (crates/NAME/out/NAME_tests). The answers allowed of the program are
 that of ample memory, and fault 14, 24 or 36 at 0 with nothing printed. Of the tests those are run that are made for it: all of
-collation_table, where each file is read again after a refusal, and those that name refusals. A test may pass, or end with the
-error of a refusal that met the test itself; nothing else.
+collation_table, where each file is read again after a refusal, and those that name refusals. A test may pass, or be
+stopped by a refusal that met the test itself, or end with its error; nothing else.
 """
 
 import os
@@ -20,7 +20,7 @@ FOLDER = os.path.dirname(os.path.abspath(__file__))
 LETTERS = os.path.join(FOLDER, "..", "..", "docs", "example", "letters.txt")
 REFUSALS = {b"colfind: fault %d at 0\n" % kind for kind in (14, 24, 36)}
 REFUSED_TEST = re.compile(
-    rb"\s*error: (.*Alloc(Error|Failed).*|TableFault \{ line: 0, kind: 14 \}|PatternFault \{ kind: 24 \}|StateFault \{ kind: 53 \}"
+    rb"\s*[a-z ]+: (.*Alloc(Error|Failed).*|TableFault \{ line: 0, kind: 14 \}|PatternFault \{ kind: 24 \}|StateFault \{ kind: 53 \}"
     rb"|TextFault \{ kind: 36, offset: 0 \}|Kind\(OutOfMemory\))\n"
 )
 MOST_SECONDS = 60  # of one run, and of all runs of one test
@@ -141,7 +141,8 @@ def judge(answer):
     status, printed, complained = answer
     if status == 0 and b"test result: ok" in printed:
         return "passed"
-    if status == 101 and REFUSED_TEST.match(complained) and b"its result gives status" in complained:
+    is_ended = b"its result gives status" in complained or b"was killed by signal 6" in complained
+    if status == 101 and REFUSED_TEST.match(complained) and is_ended:
         return "ended by the refusal"
     return "wrong"
 
