@@ -3,6 +3,7 @@ pub mod ByteLemmas
 pub mod SearchAnswers
 pub mod SearchBegins
 pub mod FeedLemmas
+pub mod FirstLemmas
 pub mod PieceLemmas
 pub mod UnderWay
 pub mod WorkedStatesAfterLemmas
@@ -16,7 +17,6 @@ pub mod SavedWalk
 pub mod SavedState
 pub mod RestoredState
 pub mod ResumeLemmas
-pub mod IndexLemmas
 pub mod CharactersTaken
 pub mod ApartLaws
 pub mod ApartLemmas

@@ -3,7 +3,7 @@ use Rattle.std.specs.Prelude.{All as AllOf, Contains, [], ◌∷◌, ◌++◌}
 use Rattle.std.specs.Str.{chars, is_utf8}
 use Rattle.std.specs.Str.Lossy.{utf8_valid_len}
 use Rattle.std.specs.Char.{encode_utf8}
-use Rattle.std.proofs.Common.{◌≡◌, ℕ, false, List, Option, Some, None, Result, refl, sym, ap, ◌∙◌, subst, arith, inl, inr}
+use Rattle.std.proofs.Common.{◌≡◌, ℕ, false, List, Option, Some, None, Result, Err, refl, sym, ap, ◌∙◌, subst, arith, inl, inr}
 use Rattle.utf8_cut.specs.State.{StandsFor}
 use Rattle.utf8_cut.specs.Value.{CutState}
 use Rattle.nfd_points.specs.declared.points.Point.{Point}
@@ -20,7 +20,7 @@ use Rattle.collation_states.specs.StateTests.{state_fault}
 use Rattle.collation_states.specs.Reading.{state_in}
 use Rattle.collation_states.specs.Laws.{MayBeHeld}
 use Rattle.collation_search.specs.declared.search.Search.{Search}
-use Rattle.collation_search.specs.Resuming.{AreSaved, AreSavedAfter, GoesOn, KeepsSaved, IsRestored}
+use Rattle.collation_search.specs.Resuming.{AreSaved, AreSavedAfter, GoesOn, KeepsSaved, AcceptsSaved, IsRestored}
 use Rattle.collation_search.specs.Search.{sought, HasSearched}
 use Rattle.collation_search.specs.Searching.{Searched}
 use Rattle.collation_search.specs.State.{sizes_of, open_state, state_of}
@@ -88,6 +88,16 @@ keeps-saved laws result s all kind fault = record {
       let no : None ≡ Some kind = sym (accepted-of laws s (open_state s.pattern saved.cut saved.finder) all o.of) ∙ fault in cc;
   reported = λ saved f a. let no : None ≡ Some kind = sym (accepted-of laws s (reported f) all (reported-of saved s all f a)) ∙ fault in cc;
 }
+
+-- so they are accepted where no memory is asked for
+pub accepts-saved : {W : Type 0} {G : Ghosts W} (laws : SavedLaws) (result : Result (Unit {0}) StateFault) (s : Sought) (all : List ℕ) (kind : ℕ) → state_fault (sizes_of s) all ≡ Some kind → AcceptsSaved G result s all
+accepts-saved {W} {G} laws result s all kind fault =
+    let refused : Result (Search W G) StateFault = Err (record { kind = 0 }) in
+    let never = keeps-saved laws refused s all kind fault in
+    record {
+      searched = λ saved taken handed a. let no : 0 ≡ 53 = never.searched saved taken handed a in absurd (omega (arith, no));
+      reported = λ saved g a. let no : 0 ≡ 53 = never.reported saved g a in absurd (omega (arith, no));
+    }
 
 -- ---- a new search
 

@@ -1,5 +1,5 @@
 -- What resuming a search from words means.
-use Rattle.std.specs.Prelude.{◌≡◌, ◌⊎◌, ℕ, ◌+◌, false, List, length, Option, None, Some, Result, IfErr}
+use Rattle.std.specs.Prelude.{◌≡◌, ◌⊎◌, ℕ, ◌+◌, false, List, length, Option, None, Some, Result, Ok, IfErr}
 use Rattle.nfd_points.specs.declared.limits.TheConstants.{MOST_GIVEN}
 use Rattle.collation_table.specs.Table.{longest_mapped}
 use Rattle.collation_table.specs.declared.lookup.Weights.{Ghosts}
@@ -37,6 +37,11 @@ BeginsWithFault {W} {G} resumed fault = resumed.fault ≡ fault
 pub record KeepsSaved {W : Type 0} {G : Ghosts W} (result : Result (Search W G) StateFault) (s : Sought) (words : List ℕ) : Type 0 where
   pub searched : (saved : Search W G) (taken : List ℕ) (handed : List (ℕ × ℕ)) → AreSaved saved s words taken handed → IfErr result (λ f. f.kind ≡ 53)
   pub reported : (saved : Search W G) (fault : TextFault) → AreSavedAfter saved s words fault → IfErr result (λ f. f.kind ≡ 53)
+
+-- What a search saved is not refused where no memory is asked for.
+pub record AcceptsSaved {W : Type 0} (G : Ghosts W) (result : Result (Unit {0}) StateFault) (s : Sought) (words : List ℕ) : Type 0 where
+  pub searched : (saved : Search W G) (taken : List ℕ) (handed : List (ℕ × ℕ)) → AreSaved saved s words taken handed → result ≡ Ok tt
+  pub reported : (saved : Search W G) (fault : TextFault) → AreSavedAfter saved s words fault → result ≡ Ok tt
 
 -- Words are refused for the first test that they fail, or, where they are a state, for want of memory.
 abbrev pub IsRefused : Sizes → List ℕ → ℕ → Type 0

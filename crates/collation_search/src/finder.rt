@@ -41,6 +41,7 @@ pub(crate) struct Finder {
     ghost sound: { All IsSoundPoint window.points },
     ghost short_runs: { has_short_runs 0 (code_points window.points) ≡ true },
     ghost state: { walk.state ≤ pattern_len },
+    ghost room: { walk.places.capacity ≡ pattern_len },
 }
 
 impl Finder {

@@ -13,6 +13,7 @@
 //! one contract: a text in any pieces, with a search that is saved, dropped and resumed after each.
 #![tactic(auto)]
 
+mod again;
 mod feed;
 mod finder;
 mod indexing;

@@ -67,6 +67,7 @@ fn walk_over(walk: &mut Walk, pattern: &Pattern, items: &[Item], found: &mut Fou
     ensures few { array_vec_len found.new ≤ array_vec_len found.old + length (item_starts items.now) }
     ensures state { walk.new.state ≤ length pattern.now.keys }
     ensures select { walk.new.select ≡ walk.old.select }
+    ensures room { walk.new.places.capacity ≡ walk.old.places.capacity }
 {
     for item in items {
         let range = walk.take(pattern, *item);
@@ -84,6 +85,7 @@ fn walk_start(walk: &mut Walk, pattern: &Pattern, start: Option<u64>, found: &mu
     ensures few { array_vec_len found.new ≤ array_vec_len found.old + 1 }
     ensures state { walk.new.state ≤ length pattern.now.keys }
     ensures select { walk.new.select ≡ walk.old.select }
+    ensures room { walk.new.places.capacity ≡ walk.old.places.capacity }
 {
     if let Some(start) = start {
         let range = walk.take(pattern, Item::ClusterStart(start));
@@ -99,6 +101,7 @@ fn walk_key(walk: &mut Walk, pattern: &Pattern, key: Option<Key>)
         → WalksOver pattern.now.keys (before ++ map (λ k. Item.Element k) (option_to_list key)) ranges walk.new }
     ensures state { walk.new.state ≤ length pattern.now.keys }
     ensures select { walk.new.select ≡ walk.old.select }
+    ensures room { walk.new.places.capacity ≡ walk.old.places.capacity }
 {
     if let Some(key) = key {
         walk.take(pattern, Item::Element(key));
@@ -127,6 +130,7 @@ fn take_long(
     ensures few { array_vec_len found.new ≤ array_vec_len found.old + 1 }
     ensures state { walk.new.state ≤ length pattern.now.keys }
     ensures select { walk.new.select ≡ walk.old.select }
+    ensures room { walk.new.places.capacity ≡ walk.old.places.capacity }
 {
     weigher.take(&unit, items);
     walk_over(walk, pattern, items.as_slice(), found);
@@ -153,6 +157,7 @@ fn take_unit(
     ensures few { array_vec_len found.new ≤ array_vec_len found.old + 1 }
     ensures state { walk.new.state ≤ length pattern.now.keys }
     ensures select { walk.new.select ≡ walk.old.select }
+    ensures room { walk.new.places.capacity ≡ walk.old.places.capacity }
 {
     match weigher.take_short(&unit) {
         Some(short) => {
@@ -191,6 +196,7 @@ pub(crate) fn cut_units<W: Weights>(
     ensures left { window.old.has_ended ≡ false → window.new.points ≡ left_points (W.table table.now) window.old.points }
     ensures state { walk.new.state ≤ length pattern.now.keys }
     ensures select { walk.new.select ≡ walk.old.select }
+    ensures room { walk.new.places.capacity ≡ walk.old.places.capacity }
 {
     decided_units_stay();
     while let Some(unit) = window.next_unit(table) {

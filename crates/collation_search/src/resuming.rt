@@ -53,13 +53,13 @@ impl Finder {
 }
 
 impl<'a, W: Weights> Search<'a, W> {
-    ghost use Rattle.std.specs.Prelude.{◌≡◌, ℕ, ◌*◌, ◌≤◌, List, [], length, IfOk, OnOk, IfErr, None};
+    ghost use Rattle.std.specs.Prelude.{◌≡◌, ℕ, ◌*◌, ◌≤◌, List, [], length, IfOk, OnOk, OnErr, IfErr, None, Some};
     ghost use Rattle.collation_matches.specs.declared.select.Select.TheVariants.{All as AllRanges};
     ghost use Rattle.collation_states.specs.StateTests.{state_fault};
     ghost use Rattle.collation_states.specs.Reading.{state_in, Says};
     ghost use Rattle.collation_search.specs.Search.{sought, HasSearched};
     ghost use Rattle.collation_search.specs.State.{sizes_of};
-    ghost use Rattle.collation_search.specs.Resuming.{GoesOn, BeginsWithFault, IsRefused, KeepsSaved};
+    ghost use Rattle.collation_search.specs.Resuming.{GoesOn, BeginsWithFault, IsRefused, KeepsSaved, AcceptsSaved};
 
     /// The search for all minimal matches that goes on from a state, as [`Search::resume_with`] gives it.
     ///
@@ -109,28 +109,57 @@ impl<'a, W: Weights> Search<'a, W> {
         laws_of_states();
         whole_characters_are_the_longest_text();
         let state = read(&sizes(table, pattern, select), words)?;
-        let search = Search::new_with(alloc, table, pattern, select)?;
-        Ok(search.at(alloc, &state))
+        let mut search = Search::new_with(alloc, table, pattern, select)?;
+        search.go_on_from(&state);
+        Ok(search)
     }
 
-    /// This search, which is new, at what a state says.
-    fn at(self, alloc: Global, state: &ReadState) -> Self
-        requires new { HasSearched self [] [] }
-        requires few_places { length state.now.places.now ≤ 4 * (sizes_of (sought self)).pattern_len }
-        requires few_points { length state.now.window.items ≤ (sizes_of (sought self)).longest_key }
-        ensures goes_on { (words : List ℕ) → Says state.now (state_in (sought self.entry).select words) → GoesOn result (sought self.entry) words }
-        ensures begins { BeginsWithFault result state.now.fault }
+    /// Goes on from a state as [`Search::resume_with`] does, in place of the text before, also after a fault. What was found out of
+    /// characters stays, so that they are found sooner. No memory is taken.
+    ///
+    /// # Errors
+    ///
+    /// 51 and 52 as [`Search::resume_with`] answers them. Then the search is as it was.
+    pub fn resume_from(&mut self, words: &[u64]) -> Result<(), StateFault>
+        ensures goes_on { OnOk result (GoesOn self.new (sought self.old) words.now) }
+        ensures begins { OnOk result (BeginsWithFault self.new (state_in (sought self.old).select words.now).fault) }
+        ensures accepted { OnOk result (state_fault (sizes_of (sought self.old)) words.now ≡ None) }
+        ensures refused { IfErr result (λ f. state_fault (sizes_of (sought self.old)) words.now ≡ Some f.kind) }
+        ensures kept { AcceptsSaved W.Weights result (sought self.old) words.now }
+        ensures unchanged { OnErr result (self.new ≡ self.old) }
     {
         clusters_are_parts();
         laws_of_points();
         laws_of_reordering();
         laws_of_states();
         whole_characters_are_the_longest_text();
-        let mut search = self;
-        let pattern = search.query.pattern;
-        search.cut = Cut::restore(state.taken, state.held.as_slice());
-        search.finder.go_on_from(alloc, pattern, state);
-        search.fault = state.fault;
-        search
+        let sizes = sizes(
+            self.query.table,
+            self.query.pattern,
+            self.finder.walk.select,
+        );
+        let state = read(&sizes, words)?;
+        self.begin_again();
+        self.go_on_from(&state);
+        Ok(())
+    }
+
+    /// Goes on from what a state says, where it is at the beginning of a text.
+    fn go_on_from(&mut self, state: &ReadState)
+        requires new { HasSearched self.old [] [] }
+        requires few_places { length state.now.places.now ≤ 4 * (sizes_of (sought self.old)).pattern_len }
+        requires few_points { length state.now.window.items ≤ (sizes_of (sought self.old)).longest_key }
+        ensures goes_on { (words : List ℕ) → Says state.now (state_in (sought self.old).select words) → GoesOn self.new (sought self.old) words }
+        ensures begins { BeginsWithFault self.new state.now.fault }
+    {
+        clusters_are_parts();
+        laws_of_points();
+        laws_of_reordering();
+        laws_of_states();
+        whole_characters_are_the_longest_text();
+        let pattern = self.query.pattern;
+        self.cut = Cut::restore(state.taken, state.held.as_slice());
+        self.finder.go_on_from(self.cache.alloc, pattern, state);
+        self.fault = state.fault;
     }
 }

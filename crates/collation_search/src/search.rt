@@ -236,24 +236,38 @@ impl<'a, W: Weights> Search<'a, W> {
         ensures again { (f : TextFault) → HasReported self.entry f → (result ≡ Err f) × (found.new.items ≡ []) }
         ensures memory { IfErr result (λ f. f.kind ≡ 35 → HasReported self.entry f) }
     {
+        let mut search = self;
+        search.end_text(found)
+    }
+
+    /// Ends the text, after which nothing is asked of the search but to begin again: `found` is emptied, and then holds the rest of the
+    /// ranges.
+    ///
+    /// # Errors
+    ///
+    /// Those of [`Search::finish`].
+    pub(crate) fn end_text(&mut self, found: &mut Found) -> Result<(), TextFault>
+        ensures good { (text u : List ℕ) (handed : List _) → IsCompiledFrom (sought self.old) text → HasSearched self.old u handed
+            → OnOk result (answer_to (sought self.old) text u ≡ record { ranges = handed ++ found.new.items; fault = None }) }
+        ensures bad { (text u : List ℕ) (handed : List _) → IsCompiledFrom (sought self.old) text → HasSearched self.old u handed
+            → IfErr result (λ f. answer_to (sought self.old) text u ≡ record { ranges = handed ++ found.new.items; fault = Some f }) }
+        ensures again { (f : TextFault) → HasReported self.old f → (result ≡ Err f) × (found.new.items ≡ []) }
+        ensures memory { IfErr result (λ f. f.kind ≡ 35 → HasReported self.old f) }
+        ensures sought { sought self.new ≡ sought self.old }
+    {
         matches_by_clusters(self.query.table);
         whole_characters_are_the_longest_text();
         found.clear();
-        let Search {
-            query,
-            cut,
-            mut finder,
-            fault,
-            ..
-        } = self;
-        if let Some(fault) = fault {
+        if let Some(fault) = self.fault {
             return Err(fault);
         }
-        finder.end(query.table, query.pattern, found);
-        match cut.finish() {
+        let table = self.query.table;
+        let pattern = self.query.pattern;
+        self.finder.end_text(table, pattern, found);
+        match self.cut.finish() {
             None => {
-                let end = cut.count();
-                finder.last(query.pattern, end, found);
+                let end = self.cut.count();
+                self.finder.last(pattern, end, found);
                 Ok(())
             }
             Some(offset) => Err(TextFault {

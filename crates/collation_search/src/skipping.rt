@@ -23,6 +23,8 @@ pub(crate) struct Cache {
     pub(crate) skip: Skip,
     /// How many bytes are walked over before text is passed by: few where that was worth it, more where it was not.
     pub(crate) hold: usize,
+    /// The allocator of the search.
+    pub(crate) alloc: Global,
 }
 
 impl Cache {
@@ -56,6 +58,7 @@ impl Cache {
             letters: Letters::new(alloc, table)?,
             skip: Skip::new(alloc),
             hold: FEWEST_HELD,
+            alloc,
         })
     }
 

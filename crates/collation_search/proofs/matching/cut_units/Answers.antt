@@ -46,6 +46,7 @@ loop-unit-preserved g c =
           ∙ c.loop-unit.invariant.left goes_on;
       state = c.take_unit.ensures.state;
       select = c.take_unit.ensures.select ∙ c.loop-unit.invariant.select;
+      room = c.take_unit.ensures.room ∙ c.loop-unit.invariant.room;
     }
 
 pub loop-unit-init : goal.loop-unit-init
@@ -60,6 +61,7 @@ loop-unit-init g c = record {
   left = λ goes_on. refl;
   state = c.requires.state;
   select = refl;
+  room = refl;
 }
 
 pub returns-clause-kept : goal.returns-clause-kept

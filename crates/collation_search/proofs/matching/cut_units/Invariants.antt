@@ -23,6 +23,7 @@ invariant-loop-unit g l = record {
       → left_points (g.W.Weights.table l.table) l.window.points ≡ left_points (g.W.Weights.table l.table) l.initial.window.points;
   state : l.walk.state ≤ length l.pattern.keys;
   select : l.walk.select ≡ l.initial.walk.select;
+  room : l.walk.places.capacity ≡ l.initial.walk.places.capacity;
 }
 
 abbrev pub decreases-loop-unit : goal.decreases-loop-unit

@@ -37,6 +37,7 @@ loop-item-preserved c =
           omega (arith, few_at_start x c.take-range.result c.take-range.ensures.at_start, c.loop-item.invariant.few, sum, starts);
       state = c.take-range.ensures.within;
       select = c.take-range.ensures.select ∙ c.loop-item.invariant.select;
+      room = c.take-range.ensures.room ∙ c.loop-item.invariant.room;
     }
 
 pub returns-clause-stands : goal.returns-clause-stands

@@ -12,4 +12,5 @@ invariant-loop-item l = record {
   few : length l.found.items ≤ length l.initial.found.items + length (item_starts (take l.item-index l.items));
   state : l.walk.state ≤ length l.pattern.keys;
   select : l.walk.select ≡ l.initial.walk.select;
+  room : l.walk.places.capacity ≡ l.initial.walk.places.capacity;
 }

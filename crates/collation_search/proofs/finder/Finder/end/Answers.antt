@@ -24,6 +24,7 @@ invariant_of-self g c =
       sound = All-same IsSoundPoint _ _ none (All-nil IsSoundPoint);
       short_runs = ap (λ ps. has_short_runs 0 (code_points ps)) none;
       state = omega (arith, c.cut_units.ensures.state, c.requires.pattern_len);
+      room = c.cut_units.ensures.room ∙ c.args.self.now.room;
     }
 
 pub returns-clause-walked : goal.returns-clause-walked

@@ -31,6 +31,7 @@ invariant_of-self-2 g c =
       sound = all-among IsSoundPoint c.push_points.new.window.points c.cut_units.new.window.points sound c.cut_units.ensures.kept;
       short_runs = c.cut_units.ensures.short sound short;
       state = omega (arith, c.cut_units.ensures.state, c.requires.pattern_len);
+      room = c.cut_units.ensures.room ∙ c.args.self.now.room;
     }
 
 pub returns-clause-stands : goal.returns-clause-stands

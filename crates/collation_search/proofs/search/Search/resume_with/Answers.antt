@@ -32,4 +32,4 @@ returns-clause-goes_on g c =
     let same = c.in_ok-search.ensures.sought in
     let select = ap (λ (r : Sizes). r.select) c.sizes.ensures ∙ sym (ap (λ (t : Sought). t.select) same) in
     let says = subst (λ (x : Select). Says c.in_ok-state.state (state_in x words)) select c.in_ok-state.ensures.says in
-    subst (λ (t : Sought). GoesOn c.at.result t words) same (c.at.ensures.goes_on words says)
+    subst (λ (t : Sought). GoesOn c.go_on_from.new.self t words) same (c.go_on_from.ensures.goes_on words says)

@@ -10,28 +10,28 @@ use Rattle.collation_matches.specs.Sought.{answer_to}
 use Rattle.collation_matches.specs.Selecting.{selected}
 use Rattle.collation_matches.proofs.TextCheckLemmas.{good_end, cut_end, whole_of_good, first_fault-at}
 use Rattle.collation_search.proofs.SearchAnswers.{answer-good, answer-at_fault, items_in}
-use Rattle.collation_search.proofs.search.Search.finish.Goals as goal
+use Rattle.collation_search.proofs.search.Search.end_text.Goals as goal
 
 pub returns-in-None-clause-good : goal.returns-in-None-clause-good
 returns-in-None-clause-good g c = λ text u handed compiled h.
-    let s = sought c.args.self in
+    let s = sought c.args.self.now in
     let none = c.in-None.ensures.stands_for u (characters u) h.cut_stands in
     let good = good_end u h.open_bytes none in
-    let walked = c.end.ensures.ended (chars (whole u)) handed h.found in
+    let walked = c.end_text.ensures.ended (chars (whole u)) handed h.found in
     answer-good s c.matches_by_clusters.ensures.matches c.matches_by_clusters.ensures.items text u (handed ++ c.last.new.found.items) c.count-end.result
     compiled h.some_key (c.whole_characters_are_the_longest_text.ensures.text u) (whole_of_good u h.open_bytes good) (c.count-end.ensures.stands_for u (characters u) h.cut_stands) good
     (c.last.ensures (items_in s (whole u)) handed walked
-    ∙ ap (λ select. selected select (found s.pattern.keys (clusters_from text_begin (items_in s (whole u))) c.count-end.result)) c.end.ensures.select)
+    ∙ ap (λ select. selected select (found s.pattern.keys (clusters_from text_begin (items_in s (whole u))) c.count-end.result)) c.end_text.ensures.select)
 
-pub returns-clause-bad : goal.returns-clause-bad
-returns-clause-bad g c = λ text u handed compiled h.
-    let s = sought c.args.self in
+pub returns-in-Some-finish-clause-bad : goal.returns-in-Some-finish-clause-bad
+returns-in-Some-finish-clause-bad g c = λ text u handed compiled h.
+    let s = sought c.args.self.now in
     let cut = c.in-Some-finish.ensures.stands_for u (characters u) h.cut_stands in
     let within = c.whole_characters_are_the_longest_text.ensures.within u in
     let bad = sym (cut_end u c.in-Some-finish.offset h.open_bytes within cut) in
-    let walked = c.end.ensures.ended (chars (whole u)) handed h.found in
+    let walked = c.end_text.ensures.ended (chars (whole u)) handed h.found in
     let all = append-nil u in
-    let answered = answer-at_fault s c.matches_by_clusters.ensures.settled c.matches_by_clusters.ensures.items text u [] (handed ++ c.end.new.found.items) c.end.new.self.walk
-    (record { kind = 31; offset = c.in-Some-finish.offset }) c.end.ensures.select compiled h.some_key (c.whole_characters_are_the_longest_text.ensures.text u) within walked (ap fault all ∙ bad)
+    let answered = answer-at_fault s c.matches_by_clusters.ensures.settled c.matches_by_clusters.ensures.items text u [] (handed ++ c.end_text.new.found.items) c.end_text.new.self.walk
+    (record { kind = 31; offset = c.in-Some-finish.offset }) c.end_text.ensures.select compiled h.some_key (c.whole_characters_are_the_longest_text.ensures.text u) within walked (ap fault all ∙ bad)
     (first_fault-at u c.in-Some-finish.offset cut) in
     ap (answer_to s text) (sym all) ∙ answered

@@ -1,4 +1,4 @@
--- A new search at what a state says.
+-- A search at what a state says.
 use Rattle.std.proofs.Common.{◌≡◌, ◌∙◌, ◌+◌, Bool, false, List, refl, sym, ap, ap₂}
 use Rattle.nfd_points.specs.declared.limits.TheConstants.{MOST_GIVEN}
 use Rattle.nfd_points.specs.declared.points.Point.{Point}
@@ -11,15 +11,15 @@ use Rattle.collation_search.specs.Resuming.{IsRestored}
 use Rattle.collation_search.specs.Search.{sought}
 use Rattle.collation_search.proofs.SavedState.{SavedLaws}
 use Rattle.collation_search.proofs.ResumeLemmas.{new-window, goes-on}
-use Rattle.collation_search.proofs.search.Search.at.Goals as goal
+use Rattle.collation_search.proofs.search.Search.go_on_from.Goals as goal
 
 pub go_on_from-requires-clause-empty : goal.go_on_from-requires-clause-empty
-go_on_from-requires-clause-empty g c = new-window c.args.self c.requires.new
+go_on_from-requires-clause-empty g c = new-window c.args.self.now c.requires.new
 
 pub returns-clause-goes_on : goal.returns-clause-goes_on
 returns-clause-goes_on g c = λ words says.
-    let s = sought c.args.self in
-    let old = c.args.self in
+    let s = sought c.args.self.now in
+    let old = c.args.self.now in
     let f = c.go_on_from.ensures in
     let room = old.finder.capacity ∙ ap (λ n. n + MOST_GIVEN) (old.longest ∙ old.query.longest) in
     let restored : IsRestored s (state_in s.select words) c.go_on_from.new.self = record {
@@ -47,4 +47,4 @@ returns-clause-goes_on g c = λ words says.
     let same = ap (λ (x : Select). let u : Sought = record { table = s.table; pattern = s.pattern; select = x } in u) f.select in
     let value : c.as_slice.result.now ≡ c.args.state.now.held.items = c.as_slice.ensures.value in
     goes-on laws _ s words (state_in s.select words) refl same says.fault restored
-    (λ cut bytes given stands good held count. c.restore-search.ensures.stands_for cut bytes given stands good (held ∙ sym says.held ∙ sym value) (count ∙ sym says.taken))
+    (λ cut bytes given stands good held count. c.restore-self.ensures.stands_for cut bytes given stands good (held ∙ sym says.held ∙ sym value) (count ∙ sym says.taken))

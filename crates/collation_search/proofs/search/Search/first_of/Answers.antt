@@ -1,0 +1,69 @@
+use Rattle.std.proofs.Common.{◌≡◌, ◌∙◌, ℕ, List, [], ◌++◌, length, slice_get, Option, Some, Result, Ok, Err, sym, ap, subst, arith}
+use Rattle.std.proofs.lemmas.Bool.{eqb-true}
+use Rattle.std.proofs.lemmas.List.{append-nil, nil_from_length}
+use Rattle.collation_matches.specs.declared.faults.TextFault.{TextFault}
+use Rattle.collation_matches.specs.Sought.{Sought, IsCompiledFrom}
+use Rattle.collation_search.specs.Feeding.{fault_of}
+use Rattle.collation_search.specs.Indexing.{range_or_fault}
+use Rattle.collation_search.specs.Search.{HasSearched, sought}
+use Rattle.collation_search.proofs.FirstLemmas.{first_to, next-piece, first-fed, fault-fed, none-fed, first-ended}
+use Rattle.collation_search.proofs.search.Search.first_of.Goals as goal
+
+abbrev ok_of : Option (ℕ × ℕ) → Result (Option (ℕ × ℕ)) TextFault
+ok_of range = Ok range
+
+pub returns-in-Err-clause-first : goal.returns-in-Err-clause-first
+returns-in-Err-clause-first g c = λ p compiled.
+    let i = c.loop-rest.invariant in
+    let fed = c.feed_first.ensures.fed in
+    let piece = c.split_at.result.0.now in
+    let later = c.split_at.result.1.now in
+    let all = next-piece c.args.text.now i.taken.0 c.loop-rest.rest.now c.min.result piece later i.taken.1 c.split_at.ensures.front c.split_at.ensures.back in
+    let answered = fault-fed c.loop-rest.self c.feed_first.new.self p i.taken.0 piece later fed.1 fed.0 c.in-Err.fault fed.2 i.taken.2
+    (subst (λ (t : Sought). IsCompiledFrom t p) (sym i.same) compiled) (sym fed.3 ∙ c.in-Err.is) in
+    subst (λ (text : List ℕ). Err c.in-Err.fault ≡ first_to (sought c.args.self.now) p text) (sym all)
+    (subst (λ (s : Sought). Err c.in-Err.fault ≡ first_to s p ((i.taken.0 ++ piece) ++ later)) i.same answered)
+
+pub returns-in-Ok-Some-clause-first : goal.returns-in-Ok-Some-clause-first
+returns-in-Ok-Some-clause-first g c = λ p compiled.
+    let i = c.loop-rest.invariant in
+    let fed = c.feed_first.ensures.fed in
+    let piece = c.split_at.result.0.now in
+    let later = c.split_at.result.1.now in
+    let range = c.in-Ok-Some.range in
+    let all = next-piece c.args.text.now i.taken.0 c.loop-rest.rest.now c.min.result piece later i.taken.1 c.split_at.ensures.front c.split_at.ensures.back in
+    let answered = first-fed c.loop-rest.self c.feed_first.new.self p i.taken.0 piece later fed.1 fed.0 range fed.2 i.taken.2
+    (subst (λ (t : Sought). IsCompiledFrom t p) (sym i.same) compiled) c.has_handed_out.ensures.begins (sym fed.3 ∙ c.in-Ok-Some.is ∙ ap ok_of c.in-Ok-Some.field-0-is) in
+    subst (λ (text : List ℕ). Ok (Some range) ≡ first_to (sought c.args.self.now) p text) (sym all)
+    (subst (λ (s : Sought). Ok (Some range) ≡ first_to s p ((i.taken.0 ++ piece) ++ later)) i.same answered)
+
+pub loop-rest-preserved : goal.loop-rest-preserved
+loop-rest-preserved g c =
+    let i = c.loop-rest.invariant in
+    let fed = c.feed_first.ensures.fed in
+    let piece = c.split_at.result.0.now in
+    record {
+      some = omega (arith, c.min-len.ensures, i.some);
+      few = omega (arith, c.min-len.ensures);
+      same = fed.2.same_sought ∙ i.same;
+      taken = (
+        i.taken.0 ++ piece,
+        next-piece c.args.text.now i.taken.0 c.loop-rest.rest.now c.min.result piece c.split_at.result.1.now i.taken.1 c.split_at.ensures.front c.split_at.ensures.back,
+        none-fed c.loop-rest.self c.feed_first.new.self i.taken.0 piece fed.1 fed.0 fed.2 i.taken.2 (sym fed.3 ∙ c.in-Ok-None.is ∙ ap ok_of c.in-Ok-None.field-0-is),
+      );
+    }
+
+pub returns-clause-first : goal.returns-clause-first
+returns-clause-first g c = λ p compiled.
+    let i = c.loop-rest.invariant in
+    let text = c.args.text.now in
+    let ended = c.end_text-ended.ensures in
+    let found = c.end_text-ended.new.found.items in
+    let none : c.loop-rest.rest.now ≡ [] = nil_from_length c.loop-rest.rest.now (eqb-true (length c.loop-rest.rest.now) 0 (sym c.is_empty.ensures ∙ c.loop-rest-test.false)) in
+    let all : i.taken.0 ≡ text = sym (i.taken.1 ∙ ap (λ t. i.taken.0 ++ t) none ∙ append-nil i.taken.0) in
+    let taken = subst (λ (u : List ℕ). HasSearched c.loop-rest.self u []) all i.taken.2 in
+    let here = subst (λ (t : Sought). IsCompiledFrom t p) (sym i.same) compiled in
+    let first : c.copied.result ≡ slice_get found 0 = c.copied.ensures ∙ c.first.ensures.value ∙ ap (λ (rs : List (ℕ × ℕ)). slice_get rs 0) c.as_slice.ensures.value in
+    let answered = first-ended (sought c.loop-rest.self) p text c.end_text-ended.result found (ended.good p text [] here taken) (ended.bad p text [] here taken) in
+    subst (λ (s : Sought). c.range_or_fault.result ≡ first_to s p text) i.same
+    (c.range_or_fault.ensures ∙ ap (λ (o : Option (ℕ × ℕ)). range_or_fault o (fault_of c.end_text-ended.result)) first ∙ answered)

@@ -1,0 +1,35 @@
+-- What a search saved is no words with a fault, and a state that was read is gone on from.
+use Rattle.std.proofs.Common.{◌∙◌, sym, ap, subst}
+use Rattle.collation_matches.specs.declared.select.Select.{Select}
+use Rattle.collation_matches.specs.Sought.{Sought}
+use Rattle.collation_states.specs.declared.states.Sizes.{Sizes}
+use Rattle.collation_states.specs.StateTests.{state_fault}
+use Rattle.collation_states.specs.Reading.{state_in, Says}
+use Rattle.collation_search.specs.Resuming.{GoesOn}
+use Rattle.collation_search.specs.Search.{sought}
+use Rattle.collation_search.proofs.SavedState.{SavedLaws}
+use Rattle.collation_search.proofs.ResumeLemmas.{accepts-saved}
+use Rattle.collation_search.proofs.search.Search.resume_from.Goals as goal
+
+pub returns-in_err-state-clause-kept : goal.returns-in_err-state-clause-kept
+returns-in_err-state-clause-kept g c =
+    let laws : SavedLaws = record {
+      boundaries = c.clusters_are_parts.ensures.boundaries;
+      text = c.whole_characters_are_the_longest_text.ensures.text;
+      within = c.whole_characters_are_the_longest_text.ensures.within;
+      offsets = c.laws_of_points.ensures.offsets;
+      others = c.laws_of_reordering.ensures.others;
+      decomposed = c.laws_of_points.ensures.decomposed;
+      accepted = c.laws_of_states.ensures.accepted;
+      back = c.laws_of_states.ensures.back;
+    } in
+    let words = c.args.words.now in
+    accepts-saved laws _ (sought c.args.self.now) words _ (sym (ap (λ (r : Sizes). state_fault r words) c.sizes-sizes.ensures) ∙ c.in_err-state.ensures.refused)
+
+pub returns-clause-goes_on : goal.returns-clause-goes_on
+returns-clause-goes_on g c =
+    let words = c.args.words.now in
+    let same = c.begin_again.ensures.sought in
+    let select = ap (λ (r : Sizes). r.select) c.sizes-sizes.ensures ∙ sym (ap (λ (t : Sought). t.select) same) in
+    let says = subst (λ (x : Select). Says c.in_ok-state.state (state_in x words)) select c.in_ok-state.ensures.says in
+    subst (λ (t : Sought). GoesOn c.go_on_from.new.self t words) same (c.go_on_from.ensures.goes_on words says)
