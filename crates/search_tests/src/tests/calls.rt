@@ -223,6 +223,32 @@ pub(super) fn first_range<W: Weights>(
     index(alloc, query.table, query.pattern, text)
 }
 
+/// The same by a search that was made before, which is then at the beginning of a text again.
+pub(super) fn first_in<W: Weights>(
+    search: &mut Search<'_, W>,
+    text: &[u8],
+) -> Result<Option<Range>, TextFault> {
+    search.first_in(text)
+}
+
+/// Ends the text: the ranges that are handed out. The search is then at the beginning of another text.
+pub(super) fn finish_text<W: Weights>(
+    search: &mut Search<'_, W>,
+    found: &mut Found,
+) -> Result<(), TextFault> {
+    search.finish_text(found)
+}
+
+/// Gives the text up, and goes to the beginning of another one.
+pub(super) fn begin_again<W: Weights>(search: &mut Search<'_, W>) {
+    search.begin_again();
+}
+
+/// Goes on from the words of a state: the kind of the fault for which they are refused.
+pub(super) fn resume_from<W: Weights>(search: &mut Search<'_, W>, words: &[u64]) -> Option<u8> {
+    search.resume_from(words).err().map(|fault| fault.kind)
+}
+
 /// The ranges of a text in pieces, and what is reported beside them, by a search that is saved and resumed after each.
 pub(super) fn in_pieces<W: Weights>(
     rt: &impl Abort,

@@ -1,12 +1,15 @@
 //! Worked rows: what a search answers of small texts, by either table, however their bytes come.
 
 use super::answers::{answered_is, fed, resumed, stepped};
-use super::calls::{compile, first_range, joined, query_for, read, read_plain, repeated};
-use super::checks::{first_is, kind_is};
+use super::calls::{
+    begin, begin_again, compile, feed, finish_text, first_in, first_range, joined, put_all,
+    query_for, read, read_plain, repeated, resume_from, saved,
+};
+use super::checks::{fault_is, first_is, kind_is, ranges_are};
 use super::{KEPT, ONE, Range, SHIFTED, TABLE, THREE, TWO};
 use collation_elements::{Strength, Variable};
 use collation_pattern::Pattern;
-use collation_search::{Select, TextFault};
+use collation_search::{Found, Search, Select, TextFault};
 use collation_table::{Table, Weights};
 use std::alloc::Global;
 use std::process::Abort;
@@ -189,10 +192,69 @@ fn first_of(ranges: &[Range], fault: Option<TextFault>) -> Result<Option<Range>,
     }
 }
 
+/// Compares what one search answers of a row, asked for the first range, then for all ranges, then amid the text from its words, each
+/// twice, so that it begins again after a range, at the end, after a fault and amid a text.
+fn compare_again<W: Weights>(rt: &impl Abort, alloc: Global, table: &W, row: &Row<'_>) {
+    let (select, strength, variable, letters, text, ranges, fault) = *row;
+    let pattern = compile(rt, alloc, table, letters, strength, variable);
+    let mut search = begin(rt, alloc, &query_for(table, &pattern, select));
+    let first = first_of(
+        ranges,
+        fault.map(|(kind, offset)| TextFault { kind, offset }),
+    );
+    for _ in 0..2 {
+        first_is(rt, first_in(&mut search, text), first, letters);
+        ask_again(rt, alloc, &mut search, row);
+        ask_amid(rt, alloc, &mut search, row);
+    }
+}
+
+/// Compares all ranges of a row by a search that is at the beginning of a text, and is then at the beginning of one again.
+fn ask_again<W: Weights>(
+    rt: &impl Abort,
+    alloc: Global,
+    search: &mut Search<'_, W>,
+    row: &Row<'_>,
+) {
+    let mut got = Vec::new(alloc);
+    let _fault = feed(rt, search, row.4, &mut got);
+    end_again(rt, search, &mut got, row);
+}
+
+/// The same, where the search gives the text up in its middle and goes on there from its words. Words that are no state leave it as it is.
+fn ask_amid<W: Weights>(rt: &impl Abort, alloc: Global, search: &mut Search<'_, W>, row: &Row<'_>) {
+    let (before, behind) = row.4.split_at(row.4.len() / 2);
+    let mut got = Vec::new(alloc);
+    let _fault = feed(rt, search, before, &mut got);
+    let words = saved(rt, alloc, search);
+    begin_again(search);
+    kind_is(rt, resume_from(search, &[1]), Some(51));
+    kind_is(rt, resume_from(search, &words), None);
+    let _fault = feed(rt, search, behind, &mut got);
+    end_again(rt, search, &mut got, row);
+}
+
+/// Ends the text of a row, of which these ranges were handed out: the ranges and the fault are those of the row.
+fn end_again<W: Weights>(
+    rt: &impl Abort,
+    search: &mut Search<'_, W>,
+    got: &mut Vec<Range>,
+    row: &Row<'_>,
+) {
+    let (_select, _strength, _variable, letters, _text, ranges, fault) = *row;
+    let mut found = Found::new();
+    let ended = finish_text(search, &mut found);
+    put_all(rt, got, found.as_slice());
+    let want = fault.map(|(kind, offset)| TextFault { kind, offset });
+    ranges_are(rt, got, ranges, letters);
+    fault_is(rt, ended.err(), want, letters);
+}
+
 /// Compares each of some rows.
 fn compare_each<W: Weights>(rt: &impl Abort, alloc: Global, table: &W, rows: &[Row<'_>]) {
     for row in rows {
         compare(rt, alloc, table, row);
+        compare_again(rt, alloc, table, row);
     }
 }
 
