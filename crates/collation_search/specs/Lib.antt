@@ -15,3 +15,4 @@ pub mod WorkedStatesAfter
 pub mod Apart
 pub mod LetterRun
 pub mod Caches
+pub mod Parking

@@ -20,6 +20,7 @@ mod indexing;
 mod letter_loop;
 mod letter_run;
 mod matching;
+mod parking;
 mod pieces;
 mod resuming;
 mod resuming_walk;
@@ -31,6 +32,7 @@ pub mod worked;
 
 pub use crate::indexing::index;
 pub use crate::matching::{Found, MOST_FOUND};
+pub use crate::parking::Parked;
 pub use crate::pieces::{PiecesSearched, search_in_pieces};
 pub use crate::search::{MOST_BYTES, Search};
 pub use collation_matches::{Select, TextFault};
