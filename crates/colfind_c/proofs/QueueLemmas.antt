@@ -1,0 +1,20 @@
+-- Ranges that were taken from the front of a queue, and those that are left.
+use Rattle.std.proofs.Common.{◌≡◌, ℕ, ◌+◌, List, [], ◌++◌, length, take, drop, sym, ap, ◌∙◌, arith}
+use Rattle.std.proofs.lemmas.List.{take-append-drop, drop-drop, map-append, take-append-le, take_all}
+use Rattle.std.proofs.Math.ListN.{drop_of_length-le}
+use Rattle.colfind_c.specs.declared.queue.Range.{Range}
+use Rattle.colfind_c.specs.Queues.{pairs}
+
+pub taken_and_left : (items out written : List Range) (at n : ℕ) → length written ≡ n → written ≡ take n (drop at items)
+    → pairs (drop at items) ≡ pairs (take n (written ++ drop n out)) ++ pairs (drop (at + n) items)
+taken_and_left items out written at n len is =
+    let whole : take n (written ++ drop n out) ≡ written = take-append-le n written (drop n out) (omega (arith, len)) ∙ take_all n written (omega (arith, len)) in
+    ap pairs (sym (take-append-drop n (drop at items))) ∙ map-append (λ r. (r.start, r.end)) (take n (drop at items)) (drop n (drop at items))
+    ∙ ap (λ xs. pairs xs ++ pairs (drop n (drop at items))) (sym is ∙ sym whole)
+    ∙ ap (λ xs. pairs (take n (written ++ drop n out)) ++ pairs xs) (drop-drop n at items)
+
+-- the same, where all were taken
+pub taken_and_none : (items out written rest : List Range) (at n : ℕ) → length written ≡ n → written ≡ take n (drop at items) → at + n ≡ length items → rest ≡ []
+    → pairs (drop at items) ≡ pairs (take n (written ++ drop n out)) ++ pairs rest
+taken_and_none items out written rest at n len is all none = taken_and_left items out written at n len is
+    ∙ ap (λ xs. pairs (take n (written ++ drop n out)) ++ pairs xs) (drop_of_length-le items (omega (arith, all)) ∙ sym none)

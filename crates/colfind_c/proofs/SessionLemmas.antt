@@ -1,0 +1,283 @@
+-- A session before and after a call of its search.
+use Rattle.std.proofs.Common.{◌≡◌, ◌∙◌, ℕ, ◌+◌, ◌≤◌, List, [], ◌++◌, length, min, take, drop, refl, sym, ap, subst, append_assoc, append-nil, take-add, arith, false, Some, None}
+use Rattle.std.proofs.lemmas.List.{take-append-drop}
+use Rattle.std.specs.Prelude.{Result, Ok, Err, Option, IsSome, is_some, MatchResult}
+use Rattle.std.specs.Arc.{arc_value}
+use Rattle.collation_table.specs.declared.table.Table.{Table}
+use Rattle.collation_table.specs.contracts.table.TableWeights.TheImpl.{ghosts as weights}
+use Rattle.collation_matches.specs.declared.faults.TextFault.{TextFault}
+use Rattle.collation_matches.specs.declared.select.Select.{Select}
+use Rattle.collation_matches.specs.Sought.{Sought, IsCompiledFrom, answer_to, settled_in}
+use Rattle.collation_matches.specs.GoodPrefix.{whole}
+use Rattle.collation_search.specs.declared.parking.Parked.{Parked}
+use Rattle.collation_search.specs.Parking.{IsFor, HasParked, parked_select, parked_words}
+use Rattle.colfind_c.specs.declared.owned.Query.{Query}
+use Rattle.colfind_c.specs.declared.owned.Session.{Session}
+use Rattle.colfind_c.specs.declared.queue.Queue.{Queue}
+use Rattle.colfind_c.specs.declared.queue.Range.{Range}
+use Rattle.colfind_c.specs.declared.outcome.Outcome.{Outcome}
+use Rattle.colfind_c.specs.declared.outcome.Outcome.TheVariants.{Good, Table as TableFile, Pattern, Text, State, NoMemory, Partly, WrongHandle, Ended, Short, BadArgument, Lost}
+use Rattle.colfind_c.specs.Queries.{table_of, sought_with}
+use Rattle.colfind_c.specs.Queues.{pairs, waiting, Waits}
+use Rattle.colfind_c.specs.Parkings.{FeedsParked, FinishesParked}
+use Rattle.colfind_c.specs.Sessions.{sought_of, HasFed, KeepsFed, FeedsSession, FeedsPart, FinishesSession, StopsSession, SavesSession, TakesRanges}
+
+abbrev value_or : Parked → Option Parked → Parked
+value_or p None = p
+value_or p (Some x) = x
+
+pub same_value : (p x : Parked) → Some p ≡ Some x → p ≡ x
+same_value p x e = ap (value_or p) e
+
+abbrev IsGood : Outcome → Type 0
+IsGood Good = Unit {0}
+IsGood _ = ⊥
+
+-- what is looked for, seen through the references
+pub seen_with : (q x : Query) (t : Table) (select : Select) → x ≡ q → t ≡ arc_value x.table
+    → (let r : Sought = record { table = weights.table t; pattern = x.pattern; select = select } in r) ≡ sought_with q select
+seen_with q x t select eq et = ap (λ (y : Table). let r : Sought = record { table = weights.table y; pattern = x.pattern; select = select } in r) et
+    ∙ ap (λ (y : Query). let r : Sought = record { table = table_of y; pattern = y.pattern; select = select } in r) eq
+
+-- a session of which nothing has changed but the room of its queue
+module _ (old new : Session) (eq : new.query ≡ old.query) (es : new.select ≡ old.select) where
+  pub same_sought : sought_of new ≡ sought_of old
+  same_sought = ap (λ x. sought_with (arc_value x) new.select) eq ∙ ap (λ x. sought_with (arc_value old.query) x) es
+
+  pub still_fed : new.parked ≡ old.parked → (new.queue.lost ≡ old.queue.lost) × (waiting new.queue ≡ waiting old.queue)
+      → (u : List ℕ) (given : List (ℕ × ℕ)) → HasFed old u given → HasFed new u given
+  still_fed ep kept u given h = record {
+    parked = h.parked;
+    held = ep ∙ h.held;
+    kept = kept.0 ∙ h.kept;
+    stands = subst (λ z. HasParked z h.parked u (given ++ waiting new.queue)) (sym same_sought) (subst (λ xs. HasParked (sought_of old) h.parked u (given ++ xs)) (sym kept.1) h.stands);
+  }
+
+  pub finish_refused : new.parked ≡ old.parked → (new.queue.lost ≡ old.queue.lost) × (waiting new.queue ≡ waiting old.queue) → FinishesSession old NoMemory new
+  finish_refused ep kept = record { finished = still_fed ep kept; same = same_sought }
+
+  pub stop_refused : new.parked ≡ old.parked → (new.queue.lost ≡ old.queue.lost) × (waiting new.queue ≡ waiting old.queue) → StopsSession old NoMemory new
+  stop_refused ep kept = record { stopped = still_fed ep kept; same = same_sought }
+
+  pub part_refused : (part : List ℕ) (before : ℕ) → new.parked ≡ old.parked → (new.queue.lost ≡ old.queue.lost) × (waiting new.queue ≡ waiting old.queue) → FeedsPart old part before (Partly before) new
+  part_refused part before ep kept = record { fed = (refl, still_fed ep kept); same = same_sought }
+
+  -- ranges were taken from the front of its queue
+  pub taken : (room count : ℕ) (out : List Range) → new.parked ≡ old.parked → new.queue.lost ≡ old.queue.lost → count ≡ min room (length (waiting old.queue))
+      → waiting old.queue ≡ pairs (take count out) ++ waiting new.queue → TakesRanges old room count out new
+  taken room count out ep lost most oldest = record {
+    most = most;
+    oldest = oldest;
+    given = λ u given h. record {
+      parked = h.parked;
+      held = ep ∙ h.held;
+      kept = lost ∙ h.kept;
+      stands = subst (λ z. HasParked z h.parked u ((given ++ pairs (take count out)) ++ waiting new.queue)) (sym same_sought)
+          (subst (λ xs. HasParked (sought_of old) h.parked u xs) (ap (λ xs. given ++ xs) oldest ∙ sym (append_assoc given (pairs (take count out)) (waiting new.queue))) h.stands);
+    };
+    same = same_sought;
+  }
+
+-- what its search was made for, seen through the references
+module _ (s : Session) (p : Parked) (q : Query) (t : Table) (is : s.parked ≡ Some p) (eq : q ≡ arc_value s.query) (et : t ≡ arc_value q.table) where
+  pub fits_at : IsFor (weights.table t) q.pattern p
+  fits_at = subst (λ x. IsFor (weights.table x) q.pattern p) (sym et) (subst (λ x. IsFor (table_of x) x.pattern p) (sym eq) (s.fits p is).0)
+
+  pub fits_again : (p2 : Parked) → IsFor (weights.table t) q.pattern p2 → parked_select p2 ≡ parked_select p
+      → (x : Parked) → Some p2 ≡ Some x → IsFor (table_of (arc_value s.query)) (arc_value s.query).pattern x × (parked_select x ≡ s.select)
+  fits_again p2 fit sel x e = let same = same_value p2 x e in (
+    subst (λ y. IsFor (table_of (arc_value s.query)) (arc_value s.query).pattern y) same (subst (λ y. IsFor (table_of y) y.pattern p2) eq (subst (λ y. IsFor (weights.table y) q.pattern p2) et fit)),
+    ap parked_select (sym same) ∙ (sel ∙ (s.fits p is).1),
+  )
+
+  abbrev pub seen : Sought
+  seen = record { table = weights.table t; pattern = q.pattern; select = parked_select p }
+
+  seen_is : seen ≡ sought_of s
+  seen_is = ap (λ (y : Table). let r : Sought = record { table = weights.table y; pattern = q.pattern; select = parked_select p } in r) et
+      ∙ (ap (λ (y : Query). let r : Sought = record { table = table_of y; pattern = y.pattern; select = parked_select p } in r) eq
+      ∙ ap (λ z. let r : Sought = record { table = table_of (arc_value s.query); pattern = (arc_value s.query).pattern; select = z } in r) (s.fits p is).1)
+
+  -- what was fed is what its search has parked
+  parked_has : (u : List ℕ) (given : List (ℕ × ℕ)) → HasFed s u given → HasParked seen p u (given ++ waiting s.queue)
+  parked_has u given h = subst (λ z. HasParked z p u (given ++ waiting s.queue)) (sym seen_is)
+      (subst (λ x. HasParked (sought_of s) x u (given ++ waiting s.queue)) (same_value h.parked p (sym h.held ∙ is)) h.stands)
+
+  module _ (queue1 queue2 : Queue) (found : List (ℕ × ℕ)) (kept : (queue1.lost ≡ s.queue.lost) × (waiting queue1 ≡ waiting s.queue))
+      (put : (before : List (ℕ × ℕ)) → Waits queue1 before → Waits queue2 (before ++ found)) (good : queue2.lost ≡ false) where
+    waits_after : (given : List (ℕ × ℕ)) → (given ++ waiting s.queue) ++ found ≡ given ++ waiting queue2
+    waits_after given = append_assoc given (waiting s.queue) found ∙ ap (λ xs. given ++ xs) (sym ((put (waiting s.queue) (record { kept = λ _. kept.1 })).kept good))
+
+    pub session_fed : (part : List ℕ) (before : ℕ) (r : Result (Unit {0}) TextFault) (p2 : Parked) (new : Session) → FeedsParked seen p part r found p2
+        → new.query ≡ s.query → new.select ≡ s.select → new.parked ≡ Some p2 → new.queue ≡ queue2
+        → MatchResult r (λ _. FeedsPart s part before Good new) (λ f. FeedsPart s part before (Text f) new)
+    session_fed part before (Ok a) p2 new fed eq es ep e2 = let same : sought_of new ≡ sought_of s = same_sought s new eq es in record {
+      fed = (
+        ap is_some ep,
+        λ u given h. record {
+          parked = p2;
+          held = ep;
+          kept = ap (λ x. x.lost) e2 ∙ good;
+          stands = subst (λ z. HasParked z p2 (u ++ part) (given ++ waiting new.queue)) (seen_is ∙ sym same)
+              (subst (λ xs. HasParked seen p2 (u ++ part) xs) (waits_after given ∙ ap (λ x. given ++ waiting x) (sym e2)) (fed.stands u (given ++ waiting s.queue) (parked_has u given h)));
+        },
+      );
+      same = same;
+    }
+    session_fed part before (Err f) p2 new fed eq es ep e2 = record {
+      fed = λ more text u given compiled h.
+          subst (λ bytes. answer_to (sought_of s) text bytes ≡ record { ranges = given ++ waiting new.queue; fault = Some f }) (append_assoc u part more)
+          (subst (λ z. answer_to z text ((u ++ part) ++ more) ≡ record { ranges = given ++ waiting new.queue; fault = Some f }) seen_is
+          (subst (λ xs. answer_to seen text ((u ++ part) ++ more) ≡ record { ranges = xs; fault = Some f }) (waits_after given ∙ ap (λ x. given ++ waiting x) (sym e2))
+          (fed.answer text u more (given ++ waiting s.queue) (subst (λ z. IsCompiledFrom z text) (sym seen_is) compiled) (parked_has u given h))));
+      same = same_sought s new eq es;
+    }
+
+    answered : (fault : Option TextFault) (new : Session) (text u : List ℕ) (given : List (ℕ × ℕ)) → new.queue ≡ queue2
+        → answer_to seen text u ≡ record { ranges = (given ++ waiting s.queue) ++ found; fault = fault }
+        → answer_to (sought_of s) text (u ++ []) ≡ record { ranges = given ++ waiting new.queue; fault = fault }
+    answered fault new text u given e2 is =
+        subst (λ bytes. answer_to (sought_of s) text bytes ≡ record { ranges = given ++ waiting new.queue; fault = fault }) (sym (append-nil u))
+        (subst (λ z. answer_to z text u ≡ record { ranges = given ++ waiting new.queue; fault = fault }) seen_is
+        (subst (λ xs. answer_to seen text u ≡ record { ranges = xs; fault = fault }) (waits_after given ∙ ap (λ x. given ++ waiting x) (sym e2)) is))
+
+    pub session_finished : (r : Result (Unit {0}) TextFault) (new : Session) → FinishesParked seen p r found
+        → new.query ≡ s.query → new.select ≡ s.select → new.parked ≡ None → new.queue ≡ queue2
+        → MatchResult r (λ _. FinishesSession s Good new) (λ f. FinishesSession s (Text f) new)
+    session_finished (Ok a) new done eq es ep e2 = record {
+      finished = (
+        ep,
+        λ text u given compiled h. answered None new text u given e2
+            (done.good text u (given ++ waiting s.queue) (subst (λ z. IsCompiledFrom z text) (sym seen_is) compiled) (parked_has u given h)),
+      );
+      same = same_sought s new eq es;
+    }
+    session_finished (Err f) new done eq es ep e2 = record {
+      finished = (
+        ep,
+        λ text u given compiled h. answered (Some f) new text u given e2
+            (done.bad text u (given ++ waiting s.queue) (subst (λ z. IsCompiledFrom z text) (sym seen_is) compiled) (parked_has u given h)),
+      );
+      same = same_sought s new eq es;
+    }
+
+    pub session_stopped : (new : Session)
+        → ((text u : List ℕ) (handed : List (ℕ × ℕ)) → IsCompiledFrom seen text → HasParked seen p u handed → handed ++ found ≡ settled_in seen text (whole u))
+        → new.query ≡ s.query → new.select ≡ s.select → new.parked ≡ None → new.queue ≡ queue2 → StopsSession s Good new
+    session_stopped new done eq es ep e2 = record {
+      stopped = (
+        ep,
+        λ text u given compiled h.
+            subst (λ z. given ++ waiting new.queue ≡ settled_in z text (whole u)) seen_is
+            (subst (λ xs. xs ≡ settled_in seen text (whole u)) (waits_after given ∙ ap (λ x. given ++ waiting x) (sym e2))
+            (done text u (given ++ waiting s.queue) (subst (λ z. IsCompiledFrom z text) (sym seen_is) compiled) (parked_has u given h))),
+      );
+      same = same_sought s new eq es;
+    }
+
+  -- a search that was saved has parked what it had
+  pub session_saved : (p2 : Parked) (new : Session)
+      → ((u : List ℕ) (handed : List (ℕ × ℕ)) → HasParked seen p u handed → HasParked seen p2 u handed)
+      → new.query ≡ s.query → new.select ≡ s.select → new.parked ≡ Some p2 → new.queue ≡ s.queue → KeepsFed s new
+  session_saved p2 new kept eq es ep e2 u given h = record {
+    parked = p2;
+    held = ep;
+    kept = ap (λ x. x.lost) e2 ∙ h.kept;
+    stands = subst (λ z. HasParked z p2 u (given ++ waiting new.queue)) (seen_is ∙ sym (same_sought s new eq es))
+        (subst (λ x. HasParked seen p2 u (given ++ waiting x)) (sym e2) (kept u (given ++ waiting s.queue) (parked_has u given h)));
+  }
+
+  pub session_words : (words : List ℕ) → words ≡ parked_words seen p → (parked : Parked) → s.parked ≡ Some parked → words ≡ parked_words (sought_of s) parked
+  session_words words e parked held = e ∙ ap (λ z. parked_words z p) seen_is ∙ ap (λ x. parked_words (sought_of s) x) (same_value p parked (sym is ∙ held))
+
+  pub session_saves : (words : List ℕ) (p2 : Parked) (new : Session) → words ≡ parked_words seen p
+      → ((u : List ℕ) (handed : List (ℕ × ℕ)) → HasParked seen p u handed → HasParked seen p2 u handed)
+      → new.query ≡ s.query → new.select ≡ s.select → new.parked ≡ Some p2 → new.queue ≡ s.queue → SavesSession s Good words new
+  session_saves words p2 new e kept eq es ep e2 = record { saved = (session_words words e, session_saved p2 new kept eq es ep e2); same = same_sought s new eq es }
+
+  pub save_refused : (words : List ℕ) (p2 : Parked) (new : Session)
+      → ((u : List ℕ) (handed : List (ℕ × ℕ)) → HasParked seen p u handed → HasParked seen p2 u handed)
+      → new.query ≡ s.query → new.select ≡ s.select → new.parked ≡ Some p2 → new.queue ≡ s.queue → SavesSession s NoMemory words new
+  save_refused words p2 new kept eq es ep e2 = record { saved = session_saved p2 new kept eq es ep e2; same = same_sought s new eq es }
+
+-- ---- the parts of a piece
+
+-- so many bytes of a piece were taken
+pub record HasBegun (old : Session) (piece : List ℕ) (at : ℕ) (new : Session) : Type 0 where
+  pub within : at ≤ length piece
+  pub going : IsSome new.parked
+  pub fed : (u : List ℕ) (given : List (ℕ × ℕ)) → HasFed old u given → HasFed new (u ++ take at piece) given
+  pub same : sought_of new ≡ sought_of old
+
+module _ (old here : Session) (piece : List ℕ) (at : ℕ) (begun : HasBegun old piece at here) where
+  compiled_here : (text : List ℕ) → IsCompiledFrom (sought_of old) text → IsCompiledFrom (sought_of here) text
+  compiled_here text c = subst (λ z. IsCompiledFrom z text) (sym begun.same) c
+
+  whole_piece : (part rest : List ℕ) → drop at piece ≡ part ++ rest → take at piece ++ (part ++ rest) ≡ piece
+  whole_piece part rest e = ap (λ xs. take at piece ++ xs) (sym e) ∙ take-append-drop at piece
+
+  -- the bytes of a text of which a part is searched
+  part_bytes : (u part rest more : List ℕ) → drop at piece ≡ part ++ rest → (u ++ take at piece) ++ (part ++ (rest ++ more)) ≡ u ++ (piece ++ more)
+  part_bytes u part rest more e = append_assoc u (take at piece) (part ++ (rest ++ more)) ∙ ap (λ xs. u ++ xs)
+      (ap (λ xs. take at piece ++ xs) (sym (append_assoc part rest more)) ∙ (sym (append_assoc (take at piece) (part ++ rest) more) ∙ ap (λ xs. xs ++ more) (whole_piece part rest e)))
+
+  -- a part of the piece that is not taken well ends the call
+  pub part_failed : (part rest : List ℕ) → drop at piece ≡ part ++ rest → (outcome : Outcome) (new : Session) → FeedsPart here part at outcome new
+      → (outcome ≡ Good → ⊥) → FeedsSession old piece outcome new
+  part_failed part rest e Good new fed bad = absurd (bad refl)
+  part_failed part rest e (Text f) new fed bad = record {
+    fed = λ more text u given compiled h.
+        subst (λ bytes. answer_to (sought_of old) text bytes ≡ record { ranges = given ++ waiting new.queue; fault = Some f }) (part_bytes u part rest more e)
+        (subst (λ z. answer_to z text ((u ++ take at piece) ++ (part ++ (rest ++ more))) ≡ record { ranges = given ++ waiting new.queue; fault = Some f }) begun.same
+        (fed.fed (rest ++ more) text (u ++ take at piece) given (compiled_here text compiled) (begun.fed u given h)));
+    same = fed.same ∙ begun.same;
+  }
+  part_failed part rest e (Partly n) new fed bad = record {
+    fed = λ u given h. subst (λ k. HasFed new (u ++ take k piece) given) (sym fed.fed.0) (fed.fed.1 (u ++ take at piece) given (begun.fed u given h));
+    same = fed.same ∙ begun.same;
+  }
+  part_failed part rest e Lost new fed bad = record { fed = tt; same = fed.same ∙ begun.same }
+  part_failed part rest e Ended new fed bad = absurd fed.fed
+  part_failed part rest e NoMemory new fed bad = absurd fed.fed
+  part_failed part rest e WrongHandle new fed bad = absurd fed.fed
+  part_failed part rest e BadArgument new fed bad = absurd fed.fed
+  part_failed part rest e (Short n) new fed bad = absurd fed.fed
+  part_failed part rest e (State f) new fed bad = absurd fed.fed
+  part_failed part rest e (Pattern f) new fed bad = absurd fed.fed
+  part_failed part rest e (TableFile f) new fed bad = absurd fed.fed
+
+  -- after the last part the piece is taken
+  pub part_last : (part : List ℕ) → drop at piece ≡ part → (outcome : Outcome) (new : Session) → FeedsPart here part at outcome new → FeedsSession old piece outcome new
+  part_last part e Good new fed = record {
+    fed = λ u given h. subst (λ bytes. HasFed new bytes given) (append_assoc u (take at piece) part ∙ ap (λ xs. u ++ xs) (ap (λ xs. take at piece ++ xs) (sym e) ∙ take-append-drop at piece))
+        (fed.fed.1 (u ++ take at piece) given (begun.fed u given h));
+    same = fed.same ∙ begun.same;
+  }
+  part_last part e (Text f) new fed = part_failed part [] (e ∙ sym (append-nil part)) (Text f) new fed (λ is. absurd (subst IsGood (sym is) tt))
+  part_last part e (Partly n) new fed = part_failed part [] (e ∙ sym (append-nil part)) (Partly n) new fed (λ is. absurd (subst IsGood (sym is) tt))
+  part_last part e Lost new fed = part_failed part [] (e ∙ sym (append-nil part)) Lost new fed (λ is. absurd (subst IsGood (sym is) tt))
+  part_last part e Ended new fed = part_failed part [] (e ∙ sym (append-nil part)) Ended new fed (λ is. absurd (subst IsGood (sym is) tt))
+  part_last part e NoMemory new fed = part_failed part [] (e ∙ sym (append-nil part)) NoMemory new fed (λ is. absurd (subst IsGood (sym is) tt))
+  part_last part e WrongHandle new fed = part_failed part [] (e ∙ sym (append-nil part)) WrongHandle new fed (λ is. absurd (subst IsGood (sym is) tt))
+  part_last part e BadArgument new fed = part_failed part [] (e ∙ sym (append-nil part)) BadArgument new fed (λ is. absurd (subst IsGood (sym is) tt))
+  part_last part e (Short n) new fed = part_failed part [] (e ∙ sym (append-nil part)) (Short n) new fed (λ is. absurd (subst IsGood (sym is) tt))
+  part_last part e (State f) new fed = part_failed part [] (e ∙ sym (append-nil part)) (State f) new fed (λ is. absurd (subst IsGood (sym is) tt))
+  part_last part e (Pattern f) new fed = part_failed part [] (e ∙ sym (append-nil part)) (Pattern f) new fed (λ is. absurd (subst IsGood (sym is) tt))
+  part_last part e (TableFile f) new fed = part_failed part [] (e ∙ sym (append-nil part)) (TableFile f) new fed (λ is. absurd (subst IsGood (sym is) tt))
+
+  pub part_taken : (n : ℕ) (part : List ℕ) → part ≡ take n (drop at piece) → at + n ≤ length piece → (new : Session) → FeedsPart here part at Good new → HasBegun old piece (at + n) new
+  part_taken n part e le new fed = record {
+    within = le;
+    going = fed.fed.0;
+    fed = λ u given h. subst (λ bytes. HasFed new bytes given) (append_assoc u (take at piece) part ∙ ap (λ xs. u ++ xs) (ap (λ xs. take at piece ++ xs) e ∙ sym (take-add at n piece)))
+        (fed.fed.1 (u ++ take at piece) given (begun.fed u given h));
+    same = fed.same ∙ begun.same;
+  }
+
+pub begins : (s : Session) (piece : List ℕ) → IsSome s.parked → HasBegun s piece 0 s
+begins s piece going = record {
+  within = omega (arith);
+  going = going;
+  fed = λ u given h. subst (λ bytes. HasFed s bytes given) (sym (append-nil u)) h;
+  same = refl;
+}

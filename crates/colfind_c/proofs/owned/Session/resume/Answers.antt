@@ -1,0 +1,19 @@
+use Rattle.std.proofs.Common.{◌∙◌, ◌++◌, append-nil, ap, refl, sym, subst}
+use Rattle.std.specs.Arc.{arc_value}
+use Rattle.collation_search.specs.Parking.{HasParked}
+use Rattle.colfind_c.specs.Queries.{sought_with}
+use Rattle.colfind_c.proofs.SessionLemmas.{seen_with}
+use Rattle.colfind_c.proofs.owned.Session.resume.Goals as goal
+
+pub returns-clause-goes_on : goal.returns-clause-goes_on
+returns-clause-goes_on c =
+    let seen = seen_with (arc_value c.args.query) c.deref-looked_for.result.now c.deref.result.now c.args.select c.deref-looked_for.ensures c.deref.ensures in let goes = c.in_ok-search.ensures.goes_on in record {
+      stands = λ saved u handed is. record {
+        parked = c.park-parked.result;
+        held = refl;
+        kept = c.new.ensures.empty.0;
+        stands = subst (λ xs. HasParked (sought_with (arc_value c.args.query) c.args.select) c.park-parked.result u xs) (sym (append-nil handed) ∙ ap (λ xs. handed ++ xs) (sym c.new.ensures.empty.1))
+            (subst (λ z. HasParked z c.park-parked.result u handed) (goes.same ∙ seen) (c.park-parked.ensures.stands u handed (goes.stands saved u handed (is.0 ∙ sym seen, is.1, is.2))));
+      };
+      same = refl;
+    }

@@ -1,0 +1,13 @@
+use Rattle.std.proofs.Common.{◌∙◌, ◌≡◌, ◌++◌, ap, subst}
+use Rattle.std.specs.Prelude.{OnOk}
+use Rattle.collation_search.specs.Parking.{HasParked, parked_words}
+use Rattle.colfind_c.proofs.ParkedLemmas.{taken_up}
+use Rattle.colfind_c.proofs.parked.save_parked.Goals as goal
+
+pub returns-clause-saved : goal.returns-clause-saved
+returns-clause-saved g c = subst (λ xs. OnOk c.save-saved.result (c.save-saved.new.words.items ≡ c.args.words.now.items ++ xs))
+    (c.unpark-search.ensures.words ∙ ap (λ z. parked_words z c.args.parked) c.unpark-search.ensures.sought) c.save-saved.ensures.saved
+
+pub returns-clause-kept : goal.returns-clause-kept
+returns-clause-kept g c = λ u handed h. subst (λ z. HasParked z c.park.result u handed) c.unpark-search.ensures.sought
+    (c.park.ensures.stands u handed (taken_up _ c.args.parked c.unpark-search.result c.unpark-search.ensures.sought c.unpark-search.ensures.stands u handed h))

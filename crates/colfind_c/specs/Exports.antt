@@ -1,0 +1,168 @@
+-- What the calls of the library do, over what a handle held before and holds after them.
+use Rattle.std.specs.Prelude.{◌≡◌, ◌⊎◌, ◌≢◌, ℕ, ◌==◌, List, [], ◌++◌, length, drop, if◌then◌else◌, Option, None, Some, Result, Ok, Err, MatchResult}
+use Rattle.std.specs.Str.{IsUtf8}
+use Rattle.std.specs.Arc.{arc_value}
+use Rattle.std.specs.declared.alloc.Global.{Global}
+use Rattle.std_alloc.specs.declared.arc.Arc.{Arc}
+use Rattle.collation_table.specs.declared.table.Table.{Table}
+use Rattle.collation_table.specs.contracts.table.TableWeights.TheImpl.{ghosts as weights}
+use Rattle.collation_table.specs.Faults.{tailored_map, tailored_fault, IsFaultOrAllocationRefused}
+use Rattle.collation_elements.specs.declared.settings.Strength.{Strength}
+use Rattle.collation_elements.specs.declared.settings.Strength.TheVariants.{One, Two, Three}
+use Rattle.collation_elements.specs.declared.settings.Variable.{Variable}
+use Rattle.collation_elements.specs.declared.settings.Variable.TheVariants.{NonIgnorable, Shifted}
+use Rattle.collation_pattern.specs.Compiled.{IsCompiledWith}
+use Rattle.collation_pattern.specs.PatternFaults.{pattern_fault}
+use Rattle.collation_matches.specs.declared.select.Select.{Select}
+use Rattle.collation_matches.specs.declared.select.Select.TheVariants.{All, Chain}
+use Rattle.collation_matches.specs.Sought.{IsCompiledFrom, answer_to}
+use Rattle.collation_search.specs.Indexing.{IsFirstOf}
+use Rattle.collation_search.specs.Resuming.{IsRefused}
+use Rattle.collation_search.specs.State.{sizes_of}
+use Rattle.colfind_c.specs.declared.owned.Query.{Query}
+use Rattle.colfind_c.specs.declared.owned.Session.{Session}
+use Rattle.colfind_c.specs.declared.owned.Owned.{Owned}
+use Rattle.colfind_c.specs.declared.owned.Owned.TheVariants.{Table as ATable, Pattern as APattern, Search as ASearch}
+use Rattle.colfind_c.specs.declared.outcome.Outcome.{Outcome}
+use Rattle.colfind_c.specs.declared.outcome.Outcome.TheVariants.{Good, Table as InTable, Pattern as InPattern, Text, State, NoMemory, WrongHandle, BadArgument, Short}
+use Rattle.colfind_c.specs.declared.outcome.Status.{Status}
+use Rattle.colfind_c.specs.declared.exports.First.{First}
+use Rattle.colfind_c.specs.declared.queue.Range.{Range}
+use Rattle.colfind_c.specs.Queries.{sought_with}
+use Rattle.colfind_c.specs.Queues.{waiting}
+use Rattle.colfind_c.specs.Sessions.{sought_of, HasFed, ResumesSession, TakesRanges, SavesSession}
+use Rattle.colfind_c.specs.Statuses.{status_of}
+
+-- the status says that the call has ended so
+abbrev pub Says : Status → (Outcome → Type 0) → Type 0
+Says status C = (outcome : Outcome) × (status ≡ status_of outcome) × C outcome
+
+-- ---- which handle a call is for: another one is a wrong handle
+
+abbrev pub OfTable : (Table → Outcome → Type 0) → Option Owned → Outcome → Type 0
+OfTable C (Some (ATable t)) outcome = C (arc_value t) outcome
+OfTable C other outcome = outcome ≡ WrongHandle
+
+abbrev pub OfPattern : (Query → Outcome → Type 0) → Option Owned → Outcome → Type 0
+OfPattern C (Some (APattern q)) outcome = C (arc_value q) outcome
+OfPattern C other outcome = outcome ≡ WrongHandle
+
+-- a search that a handle holds is another one after the call; what else it holds stays
+abbrev pub OfSearch : (Session → Outcome → Session → Type 0) → Option Owned → Outcome → Option Owned → Type 0
+OfSearch C (Some (ASearch old)) outcome after = (new : Session) × (after ≡ Some (ASearch new)) × C old outcome new
+OfSearch C other outcome after = (outcome ≡ WrongHandle) × (after ≡ other)
+
+-- ---- what is shared, given and compiled within a call
+
+-- the table or the pattern that a handle holds, once more
+abbrev pub SharesTable : Option Owned → Result (Arc Table Global) Outcome → Type 0
+SharesTable (Some (ATable t)) result = MatchResult result (λ shared. arc_value shared ≡ arc_value t) (λ how. how ≡ NoMemory)
+SharesTable other result = result ≡ Err WrongHandle
+
+abbrev pub SharesQuery : Option Owned → Result (Arc Query Global) Outcome → Type 0
+SharesQuery (Some (APattern q)) result = MatchResult result (λ shared. arc_value shared ≡ arc_value q) (λ how. how ≡ NoMemory)
+SharesQuery other result = result ≡ Err WrongHandle
+
+-- a handle got a value, or memory was refused and it is as it was
+abbrev pub IsGiven : Owned → Outcome → Option Owned → Option Owned → Type 0
+IsGiven owned Good before after = after ≡ Some owned
+IsGiven owned NoMemory before after = after ≡ before
+IsGiven owned _ before after = ⊥
+
+abbrev pub GivesTable : Table → Outcome → Option Owned → Option Owned → Type 0
+GivesTable table Good before (Some (ATable shared)) = arc_value shared ≡ table
+GivesTable table NoMemory before after = after ≡ before
+GivesTable table _ before after = ⊥
+
+abbrev pub GivesPattern : Query → Outcome → Option Owned → Option Owned → Type 0
+GivesPattern q Good before (Some (APattern shared)) = arc_value shared ≡ q
+GivesPattern q NoMemory before after = after ≡ before
+GivesPattern q _ before after = ⊥
+
+-- ---- what a call makes
+
+abbrev pub strength_for : ℕ → Option Strength
+strength_for n = if n == 1 then Some One else if n == 2 then Some Two else if n == 3 then Some Three else None
+
+abbrev pub variable_for : ℕ → Option Variable
+variable_for n = if n == 0 then Some NonIgnorable else if n == 1 then Some Shifted else None
+
+abbrev pub select_for : ℕ → Option Select
+select_for n = if n == 0 then Some All else if n == 1 then Some Chain else None
+
+-- a table of these files, or the first fault of them, and then the handle is as it was
+abbrev pub MakesTable : List ℕ → List ℕ → Outcome → Option Owned → Option Owned → Type 0
+MakesTable base tailor Good before (Some (ATable t)) = weights.table (arc_value t) ≡ tailored_map base tailor
+MakesTable base tailor (InTable f) before after = (after ≡ before) × IsFaultOrAllocationRefused (tailored_fault base tailor) f
+MakesTable base tailor NoMemory before after = after ≡ before
+MakesTable base tailor _ before after = ⊥
+
+-- a pattern that is compiled from this text with this table, or why it is not, and then the handle is as it was
+abbrev pub MakesPattern : Table → List ℕ → ℕ → ℕ → Outcome → Option Owned → Option Owned → Type 0
+MakesPattern table text strength variable Good before (Some (APattern q)) = (arc_value (arc_value q).table ≡ table) × IsCompiledWith (weights.table table) (arc_value q).pattern text
+    × (strength_for strength ≡ Some (arc_value q).pattern.strength) × (variable_for variable ≡ Some (arc_value q).pattern.variable)
+MakesPattern table text strength variable (InPattern f) before after = (after ≡ before) × ((s : Strength) → (v : Variable) → strength_for strength ≡ Some s → variable_for variable ≡ Some v
+    → f.kind ≢ 24 → pattern_fault (weights.table table) s v text ≡ Some f.kind)
+MakesPattern table text strength variable BadArgument before after = (after ≡ before) × ((strength_for strength ≡ None) ⊎ ((variable_for variable ≡ None) ⊎ (IsUtf8 text → ⊥)))
+MakesPattern table text strength variable NoMemory before after = after ≡ before
+MakesPattern table text strength variable _ before after = ⊥
+
+-- the same before a handle gets it
+abbrev pub IsCompiled : Table → List ℕ → ℕ → ℕ → Result Query Outcome → Type 0
+IsCompiled table text strength variable (Ok q) = (arc_value q.table ≡ table) × IsCompiledWith (weights.table table) q.pattern text
+    × (strength_for strength ≡ Some q.pattern.strength) × (variable_for variable ≡ Some q.pattern.variable)
+IsCompiled table text strength variable (Err how) = MakesPattern table text strength variable how None None
+
+-- a search at the beginning of a text
+abbrev pub StartsSearch : Query → ℕ → Outcome → Option Owned → Option Owned → Type 0
+StartsSearch q select Good before (Some (ASearch s)) = HasFed s [] [] × (sought_of s ≡ sought_with q s.select) × (select_for select ≡ Some s.select)
+StartsSearch q select BadArgument before after = (after ≡ before) × (select_for select ≡ None)
+StartsSearch q select NoMemory before after = after ≡ before
+StartsSearch q select _ before after = ⊥
+
+-- a search that goes on from words, or the first test that they fail
+abbrev pub GoesOnFrom : Query → ℕ → List ℕ → Outcome → Option Owned → Option Owned → Type 0
+GoesOnFrom q select words Good before (Some (ASearch s)) = ResumesSession (sought_with q s.select) words s × (select_for select ≡ Some s.select)
+GoesOnFrom q select words (State f) before after = (after ≡ before) × ((s : Select) → select_for select ≡ Some s → IsRefused (sizes_of (sought_with q s)) words f.kind)
+GoesOnFrom q select words BadArgument before after = (after ≡ before) × (select_for select ≡ None)
+GoesOnFrom q select words NoMemory before after = after ≡ before
+GoesOnFrom q select words _ before after = ⊥
+
+-- ---- what a call answers
+
+-- the first range of a text, with the fault that stands before it or where there is none
+abbrev pub AnswersFirst : Query → List ℕ → Option (ℕ × ℕ) → Outcome → Type 0
+AnswersFirst q text range Good = (p : List ℕ) → IsCompiledFrom (sought_with q All) p → IsFirstOf (answer_to (sought_with q All) p text) (Ok range)
+AnswersFirst q text range (Text f) = (range ≡ None) × ((p : List ℕ) → IsCompiledFrom (sought_with q All) p → IsFirstOf (answer_to (sought_with q All) p text) (Err f))
+AnswersFirst q text range NoMemory = range ≡ None
+AnswersFirst q text range _ = ⊥
+
+-- the range that C gets, if it gets one
+abbrev pub first_of : First → Option (ℕ × ℕ)
+first_of first = if first.is_found == 1 then Some (first.range.start, first.range.end) else None
+
+-- how many ranges wait
+abbrev pub pending : Option Owned → ℕ
+pending (Some (ASearch s)) = length (waiting s.queue)
+pending other = 0
+
+-- the oldest ranges go to the buffer; a handle that holds no search has none
+abbrev pub TakesOldest : Option Owned → ℕ → ℕ → List Range → Option Owned → Type 0
+TakesOldest (Some (ASearch old)) room count out after = (new : Session) × (after ≡ Some (ASearch new)) × TakesRanges old room count out new
+TakesOldest other room count out after = (count ≡ 0) × (after ≡ other)
+
+-- the words go to the front of the buffer, which is else as it was; where they have no room none of it changes
+abbrev pub Writes : List ℕ → List ℕ → List ℕ → Outcome → ℕ → Type 0
+Writes before words after Good count = (after ≡ words ++ drop (length words) before) × (count ≡ length words)
+Writes before words after (Short n) count = (after ≡ before) × (n ≡ length words) × (count ≡ length words)
+Writes before words after _ count = after ≡ before
+
+-- what became of a search that was saved: where its words have no room it is saved all the same, and stays as it was
+abbrev pub saving : Outcome → Outcome
+saving (Short n) = Good
+saving outcome = outcome
+
+pub record SavesInto (before after : List ℕ) (count : ℕ) (old : Session) (outcome : Outcome) (new : Session) : Type 0 where
+  pub words : List ℕ
+  pub saved : SavesSession old (saving outcome) words new
+  pub written : Writes before words after outcome count

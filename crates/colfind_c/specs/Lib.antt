@@ -1,0 +1,7 @@
+pub mod Handles
+pub mod Queues
+pub mod Queries
+pub mod Statuses
+pub mod Parkings
+pub mod Sessions
+pub mod Exports

@@ -1,0 +1,39 @@
+//! What a handle holds.
+
+ghost use Rattle.std.specs.Prelude.{◌≡◌};
+ghost use Rattle.std.specs.Arc.{arc_value};
+ghost use Rattle.std.specs.Option.{ForSome};
+ghost use Rattle.colfind_c.specs.Queries.{table_of};
+ghost use Rattle.collation_search.specs.Parking.{IsFor, parked_select};
+
+use crate::queue::Queue;
+use collation_pattern::Pattern;
+use collation_search::{Parked, Select};
+use collation_table::Table;
+use std::sync::Arc;
+
+/// A pattern, and the table with which it was compiled.
+#[derive(Drop)]
+pub struct Query {
+    pub(crate) table: Arc<Table>,
+    pub(crate) pattern: Pattern,
+}
+
+/// A search between two calls.
+#[derive(Drop)]
+pub struct Session {
+    pub(crate) query: Arc<Query>,
+    pub(crate) select: Select,
+    /// The search, until it was finished or stopped.
+    pub(crate) parked: Option<Parked>,
+    pub(crate) queue: Queue,
+    ghost fits: { ForSome parked (λ p. IsFor (table_of (arc_value query)) (arc_value query).pattern p × (parked_select p ≡ select)) },
+}
+
+/// What a handle holds: a table, a pattern or a search.
+#[derive(Drop)]
+pub enum Owned {
+    Table(Arc<Table>),
+    Pattern(Arc<Query>),
+    Search(Session),
+}

@@ -1,0 +1,198 @@
+//! A search that C feeds, piece by piece.
+
+use crate::outcome::Outcome;
+use crate::owned::{Query, Session};
+use crate::parked::{feed_parked, finish_parked, save_parked, stop_parked};
+use crate::queue::{Queue, Range};
+use collation_search::{MOST_FOUND, Search, Select, StateFault};
+use std::alloc::{AllocError, Global};
+use std::mem::replace;
+use std::sync::Arc;
+
+/// How many bytes of a piece are searched at a time. A byte ends at most one range, and those that a search can hold back from before are
+/// fewer than `MOST_FOUND`, so there is room for all.
+const PART_LEN: usize = 16384;
+
+impl Session {
+    ghost use Rattle.std.specs.Prelude.{◌≡◌, ◌≤◌, [], length, IfOk, IfErr, IsSome};
+    ghost use Rattle.std.specs.Arc.{arc_value};
+    ghost use Rattle.collation_search.specs.State.{sizes_of};
+    ghost use Rattle.collation_search.specs.Resuming.{IsRefused};
+    ghost use Rattle.colfind_c.specs.Queries.{sought_with};
+    ghost use Rattle.colfind_c.specs.Sessions.{sought_of, HasFed, FeedsSession, FeedsPart, FinishesSession, StopsSession, ResumesSession, SavesSession, TakesRanges};
+
+    /// A search at the beginning of a text.
+    ///
+    /// # Errors
+    ///
+    /// Only where memory was refused.
+    pub(crate) fn new(
+        alloc: Global,
+        query: Arc<Query>,
+        select: Select,
+    ) -> Result<Session, AllocError>
+        ensures begun { IfOk result (λ s. HasFed s [] []) }
+        ensures sought { IfOk result (λ s. sought_of s ≡ sought_with (arc_value query) select) }
+    {
+        let looked_for = &*query;
+        let search = Search::new_with(alloc, &*looked_for.table, &looked_for.pattern, select)?;
+        let parked = search.park();
+        Ok(Session {
+            query,
+            select,
+            parked: Some(parked),
+            queue: Queue::new(alloc),
+        })
+    }
+
+    /// Takes a piece of the text, in parts for whose ranges there is room before they are searched.
+    pub(crate) fn feed(&mut self, piece: &[u8]) -> Outcome
+        ensures fed { FeedsSession self.old piece.now result self.new }
+    {
+        if self.parked.is_none() {
+            return Outcome::Ended;
+        }
+        let mut at = 0usize;
+        while piece.len() - at > PART_LEN {
+            match self.feed_part(&piece[at..at + PART_LEN], at) {
+                Outcome::Good => at += PART_LEN,
+                failed => return failed,
+            }
+        }
+        self.feed_part(&piece[at..], at)
+    }
+
+    /// Takes a part of a piece, before which so many bytes of the piece were taken.
+    fn feed_part(&mut self, part: &[u8], before: usize) -> Outcome
+        requires few { length part.now ≤ PART_LEN }
+        requires open { IsSome self.old.parked }
+        ensures fed { FeedsPart self.old part.now before result self.new }
+    {
+        if self.queue.reserve(part.len() + MOST_FOUND).is_err() {
+            return Outcome::Partly(before as u64);
+        }
+        let Some(parked) = replace(&mut self.parked, None) else {
+            unreachable!()
+        };
+        let query = &*self.query;
+        let (fed, parked) = feed_parked(
+            &*query.table,
+            &query.pattern,
+            parked,
+            part,
+            &mut self.queue,
+        );
+        if self.queue.lost {
+            return Outcome::Lost;
+        }
+        self.parked = Some(parked);
+        match fed {
+            Ok(()) => Outcome::Good,
+            Err(fault) => Outcome::Text(fault),
+        }
+    }
+
+    /// Ends the text.
+    pub(crate) fn finish(&mut self) -> Outcome
+        ensures finished { FinishesSession self.old result self.new }
+    {
+        if self.parked.is_none() {
+            return Outcome::Ended;
+        }
+        if self.queue.reserve(MOST_FOUND).is_err() {
+            return Outcome::NoMemory;
+        }
+        let Some(parked) = replace(&mut self.parked, None) else {
+            unreachable!()
+        };
+        let query = &*self.query;
+        let ended = finish_parked(&*query.table, &query.pattern, parked, &mut self.queue);
+        if self.queue.lost {
+            return Outcome::Lost;
+        }
+        match ended {
+            Ok(()) => Outcome::Good,
+            Err(fault) => Outcome::Text(fault),
+        }
+    }
+
+    /// Gives the text up.
+    pub(crate) fn stop(&mut self) -> Outcome
+        ensures stopped { StopsSession self.old result self.new }
+    {
+        if self.parked.is_none() {
+            return Outcome::Ended;
+        }
+        if self.queue.reserve(MOST_FOUND).is_err() {
+            return Outcome::NoMemory;
+        }
+        let Some(parked) = replace(&mut self.parked, None) else {
+            unreachable!()
+        };
+        let query = &*self.query;
+        stop_parked(&*query.table, &query.pattern, parked, &mut self.queue);
+        if self.queue.lost {
+            return Outcome::Lost;
+        }
+        Outcome::Good
+    }
+
+    /// Takes ranges that wait, the oldest first: how many.
+    pub(crate) fn take(&mut self, out: &mut [Range]) -> usize
+        ensures taken { TakesRanges self.old (length out.old) result out.new self.new }
+        ensures len { length out.new ≡ length out.old }
+    {
+        self.queue.take(out)
+    }
+
+    /// The search that goes on from words.
+    ///
+    /// # Errors
+    ///
+    /// Those of `Search::resume_with`.
+    pub(crate) fn resume(
+        alloc: Global,
+        query: Arc<Query>,
+        select: Select,
+        words: &[u64],
+    ) -> Result<Session, StateFault>
+        ensures goes_on { IfOk result (ResumesSession (sought_with (arc_value query) select) words.now) }
+        ensures refused { IfErr result (λ f. IsRefused (sizes_of (sought_with (arc_value query) select)) words.now f.kind) }
+    {
+        let looked_for = &*query;
+        let search = Search::resume_with(
+            alloc,
+            &*looked_for.table,
+            &looked_for.pattern,
+            select,
+            words,
+        )?;
+        let parked = search.park();
+        Ok(Session {
+            query,
+            select,
+            parked: Some(parked),
+            queue: Queue::new(alloc),
+        })
+    }
+
+    /// The search as words, which an empty list takes.
+    pub(crate) fn save(&mut self, words: &mut Vec<u64>) -> Outcome
+        requires empty { words.old.items ≡ [] }
+        ensures saved { SavesSession self.old result words.new.items self.new }
+    {
+        if self.parked.is_none() {
+            return Outcome::Ended;
+        }
+        let Some(parked) = replace(&mut self.parked, None) else {
+            unreachable!()
+        };
+        let query = &*self.query;
+        let (saved, parked) = save_parked(&*query.table, &query.pattern, parked, words);
+        self.parked = Some(parked);
+        match saved {
+            Ok(()) => Outcome::Good,
+            Err(_) => Outcome::NoMemory,
+        }
+    }
+}
