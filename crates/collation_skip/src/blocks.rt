@@ -73,10 +73,11 @@ fn passed_len(classes: &Classes, piece: &[u8], limit: usize) -> usize
     let mut len = 1;
     while limit - len >= 16 {
         let lanes = lanes_that_pass(classes, piece, len);
-        len += lanes;
         if lanes < 16 {
-            return len;
+            return len + lanes;
         }
+        // a constant: the next block does not wait for the lanes of this one
+        len += 16;
     }
     pass_bytes(classes, piece, len, limit)
 }

@@ -35,10 +35,11 @@ pub loop-len-preserved : goal.loop-len-preserved
 loop-len-preserved c =
     let i = c.loop-len.invariant in
     let some = i.some in
-    let lanes = c.lanes_that_pass-lanes.ensures.within in
+    let all = c.if-lanes-lt16.false in
     let test = c.loop-len-test.true in
     record {
-      within = omega (arith, lanes, test);
-      passes = passes-more c.args.classes.now c.args.piece.now c.loop-len.len c.lanes_that_pass-lanes.result some (omega (arith, lanes, test, c.requires)) i.passes c.lanes_that_pass-lanes.ensures.passes;
+      within = omega (arith, test);
+      passes = passes-more c.args.classes.now c.args.piece.now c.loop-len.len 16 some (omega (arith, test, c.requires)) i.passes
+          (λ k less. c.lanes_that_pass-lanes.ensures.passes k (omega (arith, less, all)));
       some = omega (arith, some);
     }
