@@ -62,8 +62,12 @@ pub(crate) fn zeros_in_front(v: u8x16) -> usize
     ensures within { result ≤ 16 }
     ensures zeros { (k : ℕ) → k < result → slice_index v k ≡ 0 }
 {
+    let mask = v.simd_ne(u8x16::splat(0)).to_bitmask();
+    if mask == 0 {
+        return 16;
+    }
     // a bit behind the lanes, so that there is one
-    (v.simd_ne(u8x16::splat(0)).to_bitmask() | 65_536).trailing_zeros() as usize
+    (mask | 65_536).trailing_zeros() as usize
 }
 
 /// The bit of each lane's high half.
