@@ -9,7 +9,7 @@ ghost use Rattle.collation_skip.specs.Blocks.{AreClassesRight, IsClean, Passes, 
 ghost use Rattle.collation_skip.specs.Passed.{IsPassed};
 
 use crate::classes::{Classes, in_set};
-use crate::lanes::{load, stops, zeros_in_front};
+use crate::lanes::{is_zero, load, stops, zeros_in_front};
 use crate::passed::Passed;
 use collation_elements::{units_stay_apart, weighers_go_on};
 use collation_letters::{FOREIGN, Letter, Letters, Role, laws_of_symbols};
@@ -71,15 +71,13 @@ fn passed_len(classes: &Classes, piece: &[u8], limit: usize) -> usize
         return 0;
     }
     let mut len = 1;
-    while limit - len >= 16 {
-        let lanes = lanes_that_pass(classes, piece, len);
-        if lanes < 16 {
-            return len + lanes;
-        }
-        // a constant: the next block does not wait for the lanes of this one
+    while limit - len >= 16 && block_passes(classes, piece, len) {
         len += 16;
     }
-    pass_bytes(classes, piece, len, limit)
+    if limit - len < 16 {
+        return pass_bytes(classes, piece, len, limit);
+    }
+    len + lanes_that_pass(classes, piece, len)
 }
 
 /// How many bytes at the front of a piece pass, up to `limit`, of which the first `from` do.
@@ -109,9 +107,20 @@ fn byte_passes(classes: &Classes, before: u8, here: u8) -> bool
         && in_set(&classes.joins, before).min(in_set(&classes.inner, here)) == 0
 }
 
+/// Whether the sixteen bytes from `at` on pass, behind the byte before them.
+#[inline(always)]
+pub(crate) fn block_passes(classes: &Classes, bytes: &[u8], at: usize) -> bool
+    requires behind { 1 ≤ at }
+    requires within { at + 16 ≤ length bytes.now }
+    ensures { result ≡ true → (k : ℕ) → k < 16
+        → PassesBehind classes.now (slice_index bytes.now (at + k - 1)) (slice_index bytes.now (at + k)) }
+{
+    is_zero(stops(classes, load(bytes, at - 1), load(bytes, at)))
+}
+
 /// How many of the sixteen bytes from `at` on pass, behind the byte before them, up to the first one that does not.
 #[inline(always)]
-pub(crate) fn lanes_that_pass(classes: &Classes, bytes: &[u8], at: usize) -> usize
+fn lanes_that_pass(classes: &Classes, bytes: &[u8], at: usize) -> usize
     requires behind { 1 ≤ at }
     requires within { at + 16 ≤ length bytes.now }
     ensures within { result ≤ 16 }

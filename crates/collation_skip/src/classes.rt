@@ -5,7 +5,7 @@ ghost use Rattle.collation_letters.specs.Letters.{IsLetter};
 ghost use Rattle.collation_letters.specs.Store.{AreLetters};
 ghost use Rattle.collation_skip.specs.Blocks.{AreClassesRight, IsClassRight, in_set};
 
-use crate::blocks::lanes_that_pass;
+use crate::blocks::block_passes;
 use crate::kinds::{Kind, kind_of};
 use collation_letters::{Letter, Letters};
 use collation_pattern::Pattern;
@@ -136,7 +136,7 @@ fn halts(classes: &Classes, text: &[u8]) -> usize
     let mut count = 0;
     for block in 0..SAMPLE / 16 {
         let at = 16 * block + 1;
-        if at + 16 <= text.len() && lanes_that_pass(classes, text, at) < 16 {
+        if at + 16 <= text.len() && !block_passes(classes, text, at) {
             count += 1;
         }
     }

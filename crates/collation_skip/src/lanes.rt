@@ -56,18 +56,22 @@ fn high_bits(v: u8x16) -> u8x16
     v & u8x16::splat(128)
 }
 
+/// Whether all lanes are 0.
+#[inline(always)]
+pub(crate) fn is_zero(v: u8x16) -> bool
+    ensures { result ≡ true → (k : ℕ) → k < 16 → slice_index v k ≡ 0 }
+{
+    v.simd_ne(u8x16::splat(0)).to_bitmask() == 0
+}
+
 /// How many lanes stand before the first one that is not 0.
 #[inline(always)]
 pub(crate) fn zeros_in_front(v: u8x16) -> usize
     ensures within { result ≤ 16 }
     ensures zeros { (k : ℕ) → k < result → slice_index v k ≡ 0 }
 {
-    let mask = v.simd_ne(u8x16::splat(0)).to_bitmask();
-    if mask == 0 {
-        return 16;
-    }
     // a bit behind the lanes, so that there is one
-    (mask | 65_536).trailing_zeros() as usize
+    (v.simd_ne(u8x16::splat(0)).to_bitmask() | 65_536).trailing_zeros() as usize
 }
 
 /// The bit of each lane's high half.

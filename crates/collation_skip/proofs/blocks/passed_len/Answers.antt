@@ -24,22 +24,19 @@ passes-more classes bytes len lanes some within p block = record {
           (subst (λ j. PassesBehind classes (get_or bytes j 0) (get_or bytes (len + k) 0)) last (block k (omega (arith, behind, less))))
     ]
 
-pub returns-then-lanes-lt16-clause-passes : goal.returns-then-lanes-lt16-clause-passes
-returns-then-lanes-lt16-clause-passes c =
+pub returns-clause-passes : goal.returns-clause-passes
+returns-clause-passes c =
     let i = c.loop-len.invariant in
-    let lanes = c.lanes_that_pass-lanes.ensures.within in
-    let test = c.loop-len-test.true in
-    passes-more c.args.classes.now c.args.piece.now c.loop-len.len c.lanes_that_pass-lanes.result i.some (omega (arith, lanes, test, c.requires)) i.passes c.lanes_that_pass-lanes.ensures.passes
+    let lanes = c.lanes_that_pass.ensures.within in
+    passes-more c.args.classes.now c.args.piece.now c.loop-len.len c.lanes_that_pass.result i.some (omega (arith, lanes, c.if-limit-len-lt16.false, c.requires, i.within)) i.passes c.lanes_that_pass.ensures.passes
 
 pub loop-len-preserved : goal.loop-len-preserved
 loop-len-preserved c =
     let i = c.loop-len.invariant in
     let some = i.some in
-    let all = c.if-lanes-lt16.false in
     let test = c.loop-len-test.true in
     record {
       within = omega (arith, test);
-      passes = passes-more c.args.classes.now c.args.piece.now c.loop-len.len 16 some (omega (arith, test, c.requires)) i.passes
-          (λ k less. c.lanes_that_pass-lanes.ensures.passes k (omega (arith, less, all)));
+      passes = passes-more c.args.classes.now c.args.piece.now c.loop-len.len 16 some (omega (arith, test, c.requires)) i.passes (c.block_passes.ensures c.if-block_passes.true);
       some = omega (arith, some);
     }

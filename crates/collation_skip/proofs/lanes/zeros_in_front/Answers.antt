@@ -1,4 +1,4 @@
-use Rattle.std.proofs.Common.{◌≡◌, ◌∙◌, ℕ, not, eqb, refl, sym, subst, arith, bit_or, w8, w64}
+use Rattle.std.proofs.Common.{ℕ, not, eqb, sym, subst, arith, bit_or, w8, w64}
 use Rattle.std.specs.Int.{trailing_zeros}
 use Rattle.std.proofs.lemmas.Simd.{bitmask_splat}
 use Rattle.collation_skip.proofs.LaneLemmas.{first-lane, HasFirst}
@@ -13,12 +13,3 @@ pub returns-clause-zeros : goal.returns-clause-zeros
 returns-clause-zeros c =
     let mask = bitmask_splat w8 (λ (a b : ℕ). not (eqb a b)) c.args.v 16 0 c.fits-v.0 (omega arith) in
     let h = subst (λ m. HasFirst c.args.v (trailing_zeros w64 (bit_or m 65536))) (sym mask) (first-lane c.args.v c.fits-v.0) in h.zeros
-
--- no lane is set
-pub returns-then-mask-eq0-clause-zeros : goal.returns-then-mask-eq0-clause-zeros
-unfolding lib.Count.count_trailing_zeros
-returns-then-mask-eq0-clause-zeros c = λ k less.
-    let mask = bitmask_splat w8 (λ (a b : ℕ). not (eqb a b)) c.args.v 16 0 c.fits-v.0 (omega arith) in
-    let h = subst (λ m. HasFirst c.args.v (trailing_zeros w64 (bit_or m 65536))) (sym mask ∙ c.if-mask-eq0.true) (first-lane c.args.v c.fits-v.0) in
-    let all : trailing_zeros w64 (bit_or 0 65536) ≡ 16 = refl in
-    h.zeros k (omega (arith, less, all))
