@@ -4,7 +4,7 @@ use Rattle.std.specs.Str.{chars, IsUtf8}
 use Rattle.std.proofs.Common.{◌≡◌, ◌∙◌, ℕ, ◌+◌, ◌-◌, ◌<◌, ◌≤◌, List, [], ◌∷◌, ◌++◌, length, take, drop, slice_index, Option, Some, None, IfSome, refl, sym, ap, subst, arith}
 use Rattle.std.proofs.Math.Logic.{∥∥₁_elim, ∥∥₁_map, ∥∥₁_prop}
 use Rattle.std.proofs.Props.{props}
-use Rattle.std.proofs.lemmas.List.{append-nil, length-take, take_more, take-take}
+use Rattle.std.proofs.lemmas.List.{append-nil, get_or-drop, get_or-take, length-take, take_more, take-take}
 use Rattle.utf8_cut.specs.Sequences.{SpellsCharacter}
 use Rattle.nfd_points.specs.Points.{byte_len}
 use Rattle.nfd_points.specs.Laws.{BytesOfParts}
@@ -20,6 +20,13 @@ use Rattle.collation_skip.specs.Rows.{AreRight, IsRow, Stands}
 use Rattle.collation_skip.proofs.PassedLemmas.{passed-had}
 use Rattle.collation_skip.proofs.RowLemmas.{row-one, row-within}
 use Rattle.collation_skip.proofs.TextLemmas.{cut-last, same-character}
+
+-- a cell of the column from a byte on
+pub cell-column : (cells : List ℕ) (byte row : ℕ) → row + byte < length cells → slice_index (take (length cells - byte) (drop byte cells)) row ≡ slice_index cells (row + byte)
+cell-column cells byte row within =
+    let there : row < length cells - byte = omega (arith, within) in
+    let turned : byte + row ≡ row + byte = omega arith in
+    get_or-take (length cells - byte) (drop byte cells) row 0 there ∙ get_or-drop byte cells row 0 ∙ ap (λ n. slice_index cells n) turned
 
 -- the cell of a byte is there
 pub stands-within : (table : TableMap) (pattern : Compiled) (a : Automaton) (piece : List ℕ) (at row byte : ℕ) → AreRight table pattern a → byte < 256 → Stands table pattern a piece at row → row + byte < length a.cells.items

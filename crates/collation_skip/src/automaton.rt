@@ -3,7 +3,7 @@
 //! A state has a row of cells, one for each byte: the row of the state to which the byte leads, or one of the two numbers above all
 //! rows. A row is named by the index of its first cell, so that a move is one addition and one look-up. Whether the text may be passed
 //! by up to the last character is seen by the row alone: it is odd then.
-ghost use Rattle.std.specs.Prelude.{◌≡◌, ◌⊎◌, ◌+◌, ◌-◌, ◌^◌, ◌<◌};
+ghost use Rattle.std.specs.Prelude.{◌≡◌, ◌⊎◌, ◌+◌, ◌-◌, ◌^◌, ◌<◌, length, slice_index};
 
 use crate::passed::Passed;
 use crate::state::State;
@@ -212,7 +212,7 @@ impl Automaton {
         let mut passed_at = from.passed_at;
         let mut passed_row = from.passed_row;
         'bytes: while at < piece.len() {
-            let cell = cells[row + piece[at] as usize];
+            let cell = cell_at(cells, row, piece[at]);
             if cell >= STOP {
                 break;
             }
@@ -230,6 +230,16 @@ impl Automaton {
             passed_row,
         }
     }
+}
+
+/// The cell of a byte in a row. The column comes first, so that a move waits for nothing but its row.
+#[inline(always)]
+fn cell_at(cells: &[u32], row: usize, byte: u8) -> u32
+    requires { row + byte < length cells.now }
+    ensures { result ≡ slice_index cells.now (row + byte) }
+{
+    let column = &cells[byte as usize..];
+    column[row]
 }
 
 /// The cursor after a move to a row.

@@ -1,24 +1,12 @@
-use Rattle.std.proofs.Common.{◌+◌, ℕ, List, length, slice_index, ap, arith}
+use Rattle.std.proofs.Common.{◌∙◌, ◌+◌, ℕ, List, length, slice_index, ap, arith}
 use Rattle.collation_skip.proofs.RunLemmas.{stands-within, stands-more}
 use Rattle.collation_skip.proofs.automaton.Automaton.run.Goals as goal
 
 pub bytes-init : goal.bytes-init
 bytes-init g c = record { on = omega arith; stands = c.requires.stands; passed = c.requires.passed }
 
-pub overflow_add-cell : goal.overflow_add-cell
-overflow_add-cell g c =
-    let a = c.args.self.now in
-    let within = stands-within (g.W.Weights.table c.args.table.now) c.args.pattern.now a c.args.piece.now c.bytes.at c.bytes.row (slice_index c.args.piece.now c.bytes.at) c.requires.right (c.type_inv.piece c.bytes.at).fits c.bytes.invariant.stands in
-    omega (arith, within, ap (λ (l : List ℕ). length l) c.deref-cells.ensures.value, c.deref-cells.type_inv.0)
-
-pub offset_bounds-cells-row : goal.offset_bounds-cells-row
-offset_bounds-cells-row g c =
-    let a = c.args.self.now in
-    let within = stands-within (g.W.Weights.table c.args.table.now) c.args.pattern.now a c.args.piece.now c.bytes.at c.bytes.row (slice_index c.args.piece.now c.bytes.at) c.requires.right (c.type_inv.piece c.bytes.at).fits c.bytes.invariant.stands in
-    omega (arith, within, ap (λ (l : List ℕ). length l) c.deref-cells.ensures.value, c.deref-cells.type_inv.1)
-
-pub bounds-cells-row : goal.bounds-cells-row
-bounds-cells-row g c =
+pub cell_at-cell-requires : goal.cell_at-cell-requires
+cell_at-cell-requires g c =
     let a = c.args.self.now in
     let within = stands-within (g.W.Weights.table c.args.table.now) c.args.pattern.now a c.args.piece.now c.bytes.at c.bytes.row (slice_index c.args.piece.now c.bytes.at) c.requires.right (c.type_inv.piece c.bytes.at).fits c.bytes.invariant.stands in
     omega (arith, within, ap (λ (l : List ℕ). length l) c.deref-cells.ensures.value)
@@ -28,9 +16,9 @@ bytes-preserved-then-row-eq1 g c =
     let a = c.args.self.now in
     let i = c.bytes.invariant in
     let piece = c.args.piece.now in
-    let cell = slice_index c.deref-cells.result.now (c.bytes.row + slice_index piece c.bytes.at) in
+    let cell = c.cell_at-cell.result in
     let stands = stands-more (g.W.Weights.table c.args.table.now) c.args.pattern.now a piece c.bytes.at c.bytes.row cell c.requires.right c.bytes-test.true (c.type_inv.piece c.bytes.at).fits
-    (ap (λ (l : List ℕ). slice_index l (c.bytes.row + slice_index piece c.bytes.at)) c.deref-cells.ensures.value) c.if-cell-ge-STOP.false i.stands in
+    (c.cell_at-cell.ensures ∙ ap (λ (l : List ℕ). slice_index l (c.bytes.row + slice_index piece c.bytes.at)) c.deref-cells.ensures.value) c.if-cell-ge-STOP.false i.stands in
     record { on = let on = i.on in omega (arith, on); stands = stands; passed = λ some. (omega (arith, c.bytes-test.true), stands) }
 
 pub bytes-preserved : goal.bytes-preserved
@@ -38,9 +26,9 @@ bytes-preserved g c =
     let a = c.args.self.now in
     let i = c.bytes.invariant in
     let piece = c.args.piece.now in
-    let cell = slice_index c.deref-cells.result.now (c.bytes.row + slice_index piece c.bytes.at) in
+    let cell = c.cell_at-cell.result in
     let stands = stands-more (g.W.Weights.table c.args.table.now) c.args.pattern.now a piece c.bytes.at c.bytes.row cell c.requires.right c.bytes-test.true (c.type_inv.piece c.bytes.at).fits
-    (ap (λ (l : List ℕ). slice_index l (c.bytes.row + slice_index piece c.bytes.at)) c.deref-cells.ensures.value) c.if-cell-ge-STOP.false i.stands in
+    (c.cell_at-cell.ensures ∙ ap (λ (l : List ℕ). slice_index l (c.bytes.row + slice_index piece c.bytes.at)) c.deref-cells.ensures.value) c.if-cell-ge-STOP.false i.stands in
     record { on = let on = i.on in omega (arith, on); stands = stands; passed = i.passed }
 
 pub returns-after-bytes-clause-stands : goal.returns-after-bytes-clause-stands
