@@ -64,4 +64,24 @@ impl Places {
             letter,
         };
     }
+
+    /// Keeps a letter that other places keep, if a character came there.
+    fn keep_too(&mut self, kept: Kept)
+        ensures { (table : TableMap) (pattern : Compiled) → AreKept table pattern self.old
+            → IsKept table pattern kept → AreKept table pattern self.new }
+    {
+        if let Some(c) = char::from_u32(kept.code_point) {
+            self.keep(c, kept.letter);
+        }
+    }
+
+    /// Keeps the letters that other places keep.
+    pub(crate) fn keep_all(&mut self, others: &Places)
+        ensures { (table : TableMap) (pattern : Compiled) → AreKept table pattern self.old
+            → AreKept table pattern others.now → AreKept table pattern self.new }
+    {
+        for kept in &others.kept {
+            self.keep_too(*kept);
+        }
+    }
 }

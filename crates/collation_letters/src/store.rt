@@ -1,4 +1,4 @@
-//! The letters that were found: a cache. It begins small, and is replaced by an empty greater one where many were found.
+//! The letters that were found: a cache. It begins small, so that a new one costs little, and grows where many were found.
 ghost use Rattle.std.specs.Prelude.{◌≡◌, ◌≤◌, [], false};
 ghost use Rattle.nfd_points.specs.declared.limits.TheConstants.{MOST_DECOMPOSITION};
 
@@ -12,12 +12,17 @@ use collation_pattern::Pattern;
 use collation_table::Weights;
 use std::alloc::{AllocError, Global};
 
-/// The greatest number of a place, at first and where many letters were found.
-const LAST_OF_FEW: usize = 4_095;
+/// The greatest number of a place, at first, where some letters were found, and where many were.
+const LAST_OF_FEW: usize = 255;
+
+const LAST_OF_SOME: usize = 4_095;
 
 const LAST_OF_MANY: usize = 65_535;
 
 /// How many letters are found before there are more places.
+const SOME: usize = 192;
+
+/// How many letters are found before there are the most places.
 const MANY: usize = 4_096;
 
 /// The letters of characters, for one table and one pattern.
@@ -138,7 +143,7 @@ impl Letters {
         letter
     }
 
-    /// Counts a letter that is found. Where these are many, the places are replaced by more, if there is memory.
+    /// Counts a letter that is found. Where these are many, it goes on with more places, if there is memory.
     fn count(&mut self)
         ensures { (table : TableMap) (pattern : Compiled) → AreLetters table pattern self.old
             → AreLetters table pattern self.new }
@@ -147,10 +152,13 @@ impl Letters {
             return;
         }
         self.found += 1;
-        if self.found < MANY {
-            return;
-        }
-        if let Ok(places) = Places::new(self.alloc, LAST_OF_MANY) {
+        let last = match self.found {
+            SOME => LAST_OF_SOME,
+            MANY => LAST_OF_MANY,
+            _ => return,
+        };
+        if let Ok(mut places) = Places::new(self.alloc, last) {
+            places.keep_all(&self.places);
             self.places = places;
         }
     }
