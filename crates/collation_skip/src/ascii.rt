@@ -1,4 +1,5 @@
-//! The blocks of ASCII of a search: a place of the pattern is chosen for them by the first long text that comes.
+//! The blocks of ASCII of a search: a place of the pattern is chosen for them by the first long text that comes, or where as much
+//! came in short ones.
 use crate::blocks::pass_blocks;
 use crate::classes::{Classes, SAMPLE, classes_for};
 use crate::passed::Passed;
@@ -6,12 +7,17 @@ use collation_letters::Letters;
 use collation_pattern::Pattern;
 use collation_table::Weights;
 
+/// The fewest bytes of a short text by which a place is chosen.
+const SHORTEST: usize = 33;
+
 /// What passes text of ASCII in blocks, for one table and one pattern. Takes no memory.
 #[derive(Clone, Copy, Debug)]
 pub struct AsciiBlocks {
     pub(crate) classes: Option<Classes>,
-    /// Whether a long text came. Nothing passes before.
-    is_chosen: bool,
+    /// How many bytes the text had by which the place was chosen; 0 before one was. Nothing passes before.
+    sample: usize,
+    /// How many bytes came until then, counted again where they came again.
+    seen: usize,
 }
 
 impl AsciiBlocks {
@@ -32,7 +38,8 @@ impl AsciiBlocks {
     {
         AsciiBlocks {
             classes: None,
-            is_chosen: false,
+            sample: 0,
+            seen: 0,
         }
     }
 
@@ -62,13 +69,38 @@ impl AsciiBlocks {
             → IsPassed (W.table table.now) pattern.now at (at + r.start)
             (chars (take r.end piece.now)) r.next) }
     {
-        if !self.is_chosen && piece.len() >= SAMPLE {
-            self.is_chosen = true;
-            self.classes = classes_for(table, pattern, letters, piece);
+        if self.sample < SAMPLE {
+            self.choose(table, pattern, letters, piece);
         }
         let Some(classes) = &self.classes else {
             return None;
         };
         pass_blocks(table, pattern, letters, classes, piece, reach)
+    }
+
+    /// Chooses a place by a text, where it is due.
+    #[inline(never)]
+    fn choose<W: Weights>(
+        &mut self,
+        table: &W,
+        pattern: &Pattern,
+        letters: &mut Letters,
+        text: &[u8],
+    )
+        requires right { AreLetters (W.table table.now) pattern.now letters.old }
+        requires blocks { AreBlocksRight (W.table table.now) pattern.now self.old }
+        ensures right { AreLetters (W.table table.now) pattern.now letters.new }
+        ensures blocks { AreBlocksRight (W.table table.now) pattern.now self.new }
+    {
+        self.seen = self.seen.saturating_add(text.len());
+        if self.is_due(text.len()) {
+            self.sample = text.len();
+            self.classes = classes_for(table, pattern, letters, text);
+        }
+    }
+
+    /// Whether a place is chosen by a text of so many bytes: a long one, or where as many came in short ones and none is chosen.
+    fn is_due(&self, len: usize) -> bool {
+        len >= SAMPLE || (self.sample == 0 && self.seen >= SAMPLE && len >= SHORTEST)
     }
 }
