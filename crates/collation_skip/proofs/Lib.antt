@@ -5,6 +5,7 @@ pub mod TextLemmas
 pub mod RowLemmas
 pub mod DepthLemmas
 pub mod RunLemmas
+pub mod SpotLemmas
 pub mod BorderSteps
 pub mod AsciiLemmas
 pub mod ClassLemmas

@@ -19,6 +19,10 @@ abbrev pub IsRow : Automaton → ℕ → State → Type 0
 IsRow automaton row state =
     (number : ℕ) × (slice_get automaton.states.items number ≡ Some state) × (row ≡ row_at number state)
 
+-- the row of some state
+abbrev pub IsSomeRow : Automaton → ℕ → Type 0
+IsSomeRow automaton row = ∥ ((state : State) × IsRow automaton row state) ∥₁
+
 -- each cell is unknown, a stop, or the row of a state to which its byte leads
 pub record AreRight (table : TableMap) (pattern : Compiled) (automaton : Automaton) : Type 0 where
   pub len : length automaton.cells.items ≡ ROW * length automaton.states.items

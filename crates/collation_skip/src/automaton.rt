@@ -35,13 +35,13 @@ pub struct Automaton {
 
 /// Where a run over a piece stands.
 #[derive(Clone, Copy)]
-struct Cursor {
+pub(crate) struct Cursor {
     /// How many bytes of the piece were taken, and the row then.
-    at: usize,
-    row: usize,
+    pub(crate) at: usize,
+    pub(crate) row: usize,
     /// The same where the text may be passed by up to the last character; 0 before it could.
-    passed_at: usize,
-    passed_row: usize,
+    pub(crate) passed_at: usize,
+    pub(crate) passed_row: usize,
 }
 
 impl Automaton {
@@ -55,7 +55,8 @@ impl Automaton {
     ghost use Rattle.collation_letters.specs.Store.{AreLetters};
     ghost use Rattle.collation_skip.specs.Passed.{IsPassed};
     ghost use Rattle.collation_skip.specs.Reached.{HasReached, IsMove};
-    ghost use Rattle.collation_skip.specs.Rows.{AreRight, IsRow, Stands};
+    ghost use Rattle.collation_skip.specs.declared.state.State.{State as StateValue};
+    ghost use Rattle.collation_skip.specs.Rows.{AreRight, IsRow, IsSomeRow, Stands};
 
     /// No state is known yet. Takes no memory.
     pub fn new(alloc: Global) -> Automaton
@@ -78,6 +79,7 @@ impl Automaton {
         letters: &mut Letters,
         piece: &[u8],
         reach: usize,
+        is_calm: bool,
     ) -> Option<Passed>
         requires right { AreRight (W.table table.now) pattern.now self.old }
         requires letters { AreLetters (W.table table.now) pattern.now letters.old }
@@ -92,7 +94,8 @@ impl Automaton {
         ensures right { AreRight (W.table table.now) pattern.now self.new }
         ensures letters { AreLetters (W.table table.now) pattern.now letters.new }
     {
-        let cursor = self.go(table, pattern, letters, &piece[..piece.len().min(reach)])?;
+        let within = &piece[..piece.len().min(reach)];
+        let cursor = self.go(table, pattern, letters, within, is_calm)?;
         self.answer(table, pattern, letters, piece, cursor)
     }
 
@@ -138,13 +141,14 @@ impl Automaton {
         })
     }
 
-    /// Goes over a piece as far as the moves lead.
+    /// Goes over a piece as far as the moves lead, by four runs where it is calm: few stops are expected.
     fn go<W: Weights>(
         &mut self,
         table: &W,
         pattern: &Pattern,
         letters: &mut Letters,
         piece: &[u8],
+        is_calm: bool,
     ) -> Option<Cursor>
         requires right { AreRight (W.table table.now) pattern.now self.old }
         requires letters { AreLetters (W.table table.now) pattern.now letters.old }
@@ -153,16 +157,9 @@ impl Automaton {
         ensures right { AreRight (W.table table.now) pattern.now self.new }
         ensures letters { AreLetters (W.table table.now) pattern.now letters.new }
     {
-        let first = first_character(piece)?;
-        let row = self.first_row(table, pattern, letters, first)?;
-        let mut cursor = Cursor {
-            at: first.len_utf8(),
-            row,
-            passed_at: 0,
-            passed_row: 0,
-        };
+        let mut cursor = self.begin(table, pattern, letters, piece, is_calm)?;
         'moves: loop {
-            cursor = self.run(table, pattern, piece, cursor);
+            cursor = self.run(table, pattern, piece, cursor, piece.len());
             if cursor.at >= piece.len() {
                 return Some(cursor);
             }
@@ -171,6 +168,59 @@ impl Automaton {
             };
             cursor = moved(cursor, row);
         }
+    }
+
+    /// Behind the first character of a piece, or as far as four runs lead from there.
+    fn begin<W: Weights>(
+        &mut self,
+        table: &W,
+        pattern: &Pattern,
+        letters: &mut Letters,
+        piece: &[u8],
+        is_calm: bool,
+    ) -> Option<Cursor>
+        requires right { AreRight (W.table table.now) pattern.now self.old }
+        requires letters { AreLetters (W.table table.now) pattern.now letters.old }
+        ensures stands { IfSome result (λ it.
+            Stands (W.table table.now) pattern.now self.new piece.now it.at it.row) }
+        ensures passed { IfSome result (λ it. 0 < it.passed_at
+            → (it.passed_at ≤ length piece.now) × Stands (W.table table.now) pattern.now self.new piece.now it.passed_at it.passed_row) }
+        ensures right { AreRight (W.table table.now) pattern.now self.new }
+        ensures letters { AreLetters (W.table table.now) pattern.now letters.new }
+    {
+        let first = first_character(piece)?;
+        let home = self.home(table, pattern, letters, is_calm);
+        let row = self.first_row(table, pattern, letters, first)?;
+        let cursor = Cursor {
+            at: first.len_utf8(),
+            row,
+            passed_at: 0,
+            passed_row: 0,
+        };
+        let Some(home) = home else {
+            return Some(cursor);
+        };
+        Some(self.run_by_four(table, pattern, piece, cursor, home))
+    }
+
+    /// The row in which four runs begin, where they are wanted: that of a space.
+    fn home<W: Weights>(
+        &mut self,
+        table: &W,
+        pattern: &Pattern,
+        letters: &mut Letters,
+        is_wanted: bool,
+    ) -> Option<usize>
+        requires right { AreRight (W.table table.now) pattern.now self.old }
+        requires letters { AreLetters (W.table table.now) pattern.now letters.old }
+        ensures row { IfSome result (IsSomeRow self.new) }
+        ensures right { AreRight (W.table table.now) pattern.now self.new }
+        ensures letters { AreLetters (W.table table.now) pattern.now letters.new }
+    {
+        if !is_wanted {
+            return None;
+        }
+        self.first_row(table, pattern, letters, ' ')
     }
 
     /// The row of the state behind a first character, if it begins with a starter.
@@ -185,6 +235,8 @@ impl Automaton {
         requires letters { AreLetters (W.table table.now) pattern.now letters.old }
         ensures stands { IfSome result (λ row. (piece : List ℕ) → SpellsCharacter (take (len_utf8 first) piece) first
             → Stands (W.table table.now) pattern.now self.new piece (len_utf8 first) row) }
+        ensures row { IfSome result (IsSomeRow self.new) }
+        ensures grows { (other : ℕ) (state : StateValue) → IsRow self.old other state → IsRow self.new other state }
         ensures right { AreRight (W.table table.now) pattern.now self.new }
         ensures letters { AreLetters (W.table table.now) pattern.now letters.new }
     {
@@ -195,9 +247,17 @@ impl Automaton {
         self.row_of(State::behind(0, letter, first, 0))
     }
 
-    /// Follows the known moves.
+    /// Follows the known moves up to an offset.
     #[inline(never)]
-    fn run<W: Weights>(&self, table: &W, pattern: &Pattern, piece: &[u8], from: Cursor) -> Cursor
+    pub(crate) fn run<W: Weights>(
+        &self,
+        table: &W,
+        pattern: &Pattern,
+        piece: &[u8],
+        from: Cursor,
+        to: usize,
+    ) -> Cursor
+        requires to { to ≤ length piece.now }
         requires right { AreRight (W.table table.now) pattern.now self.now }
         requires stands { Stands (W.table table.now) pattern.now self.now piece.now from.at from.row }
         requires passed { 0 < from.passed_at → (from.passed_at ≤ length piece.now) × Stands (W.table table.now) pattern.now self.now piece.now from.passed_at from.passed_row }
@@ -211,7 +271,7 @@ impl Automaton {
         let mut row = from.row;
         let mut passed_at = from.passed_at;
         let mut passed_row = from.passed_row;
-        'bytes: while at < piece.len() {
+        'bytes: while at < to {
             let cell = cell_at(cells, row, piece[at]);
             if cell >= STOP {
                 break;
@@ -234,7 +294,7 @@ impl Automaton {
 
 /// The cell of a byte in a row. The column comes first, so that a move waits for nothing but its row.
 #[inline(always)]
-fn cell_at(cells: &[u32], row: usize, byte: u8) -> u32
+pub(crate) fn cell_at(cells: &[u32], row: usize, byte: u8) -> u32
     requires { row + byte < length cells.now }
     ensures { result ≡ slice_index cells.now (row + byte) }
 {

@@ -18,6 +18,7 @@ mod blocks;
 mod classes;
 mod depth;
 mod foreign;
+mod four_runs;
 mod kinds;
 mod lanes;
 mod moves;

@@ -17,6 +17,11 @@ const WORTH_MOVES: usize = 24;
 /// How far the automaton goes at once where blocks pay: over what stopped them, in bytes.
 const SHORT: usize = 64;
 
+/// How many bytes are much, when it is seen whether the automaton comes to their end, and how many may be left then.
+const MUCH: usize = 512;
+
+const LITTLE: usize = 64;
+
 /// How many times at most the automaton is not asked where it did not pay.
 const LONGEST_REST: u32 = 255;
 
@@ -27,6 +32,8 @@ pub struct Skip {
     pub(crate) blocks: AsciiBlocks,
     /// Whether the last text of ASCII passed in blocks.
     pays: bool,
+    /// Whether the automaton came to the end of what it was asked last, and that was much: then few stops are expected.
+    is_calm: bool,
     /// How many times the automaton is not asked now, and how many times it was not the last time.
     rest: u32,
     last_rest: u32,
@@ -52,6 +59,7 @@ impl Skip {
             automaton: Automaton::new(alloc),
             blocks: AsciiBlocks::new(),
             pays: false,
+            is_calm: false,
             rest: 0,
             last_rest: 0,
         }
@@ -94,7 +102,13 @@ impl Skip {
         }
         let reach = if self.pays { reach.min(SHORT) } else { reach };
         self.pays = false;
-        let by_automaton = self.automaton.pass(table, pattern, letters, piece, reach);
+        let by_automaton = self
+            .automaton
+            .pass(table, pattern, letters, piece, reach, self.is_calm);
+        let asked = piece.len().min(reach);
+        if asked >= MUCH {
+            self.is_calm = is_worth(&by_automaton, asked - LITTLE);
+        }
         self.pace(is_worth(&by_automaton, WORTH_MOVES));
         if by_automaton.is_some() {
             return by_automaton;

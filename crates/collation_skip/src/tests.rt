@@ -37,8 +37,8 @@ fn passed(
     let pattern = Pattern::compile(alloc, &table, text, strength, variable)?;
     let mut letters = Letters::new(alloc, &table)?;
     let mut automaton = Automaton::new(alloc);
-    let first = automaton.pass(&table, &pattern, &mut letters, piece, reach);
-    let second = automaton.pass(&table, &pattern, &mut letters, piece, reach);
+    let first = automaton.pass(&table, &pattern, &mut letters, piece, reach, false);
+    let second = automaton.pass(&table, &pattern, &mut letters, piece, reach, true);
     Ok([
         first.map(|it| (it.start, it.end, it.next)),
         second.map(|it| (it.start, it.end, it.next)),
@@ -98,6 +98,26 @@ fn less_is_passed_by(rt: HostRuntime) -> Result<(), Fail> {
     Ok(())
 }
 
+/// A long text, of which four runs pass as much by as one does: they stop in the first, second, third or fourth of them, or not.
+#[test]
+fn long_text_is_passed_by(rt: HostRuntime) -> Result<(), Fail> {
+    let settings = ("b", Strength::One, Variable::NonIgnorable);
+    for stop in [300, 700, 1_100, 1_700, 1_990] {
+        let mut piece = vec![in rt.alloc(); b'x'; 2_000]?;
+        if stop < piece.len() {
+            piece[stop] = b'b';
+        }
+        for place in passed(rt.alloc(), settings, &piece, 2_000)? {
+            assert_eq!(rt; place, Some((stop - 1, stop, 'b')), "{stop}");
+        }
+    }
+    let piece = vec![in rt.alloc(); b'x'; 2_000]?;
+    for place in passed(rt.alloc(), settings, &piece, 2_000)? {
+        assert_eq!(rt; place, Some((1_998, 1_999, 'x')));
+    }
+    Ok(())
+}
+
 /// A space begins a cluster and has no key in shifted weighting, and so no key that the pattern does not have.
 #[test]
 fn variable_characters_are_passed_by(rt: HostRuntime) -> Result<(), Fail> {
@@ -124,11 +144,12 @@ fn refused_moves_are_stops(rt: HostRuntime) -> Result<(), Fail> {
     let mut letters = Letters::new(rt.alloc(), &table)?;
     let text = b"xexexexexe";
     let mut refused = Automaton::new(rt.alloc());
-    if let Some(place) = refused.pass(&table, &pattern, &mut letters, text, text.len()) {
+    let first = refused.pass(&table, &pattern, &mut letters, text, text.len(), false);
+    if let Some(place) = first {
         assert!(rt; place.end <= 9);
     }
     let mut automaton = Automaton::new(rt.alloc());
-    let all = automaton.pass(&table, &pattern, &mut letters, text, text.len());
+    let all = automaton.pass(&table, &pattern, &mut letters, text, text.len(), false);
     assert_eq!(rt; all.map(|it| it.end), Some(9));
     Ok(())
 }

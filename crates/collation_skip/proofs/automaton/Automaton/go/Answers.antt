@@ -4,14 +4,7 @@ use Rattle.collation_skip.proofs.RunLemmas.{stands-grown, stands-learned}
 use Rattle.collation_skip.proofs.automaton.Automaton.go.Goals as goal
 
 pub moves-init : goal.moves-init
-moves-init g c =
-    let table = g.W.Weights.table c.args.table.now in
-    record {
-      right = c.first_row.ensures.right;
-      letters = c.first_row.ensures.letters;
-      stands = subst (λ n. Stands table c.args.pattern.now c.first_row.new.self c.args.piece.now n c.in_ok-row.row) (sym c.len_utf8.ensures.value) (c.in_ok-row.ensures.stands c.args.piece.now c.in_ok-first.ensures.some.1);
-      passed = λ some. absurd (omega (arith, some));
-    }
+moves-init g c = record { right = c.begin.ensures.right; letters = c.begin.ensures.letters; stands = c.in_ok-cursor.ensures.stands; passed = c.in_ok-cursor.ensures.passed }
 
 pub run-cursor-requires-clause-right : goal.run-cursor-requires-clause-right
 run-cursor-requires-clause-right g c = c.moves.invariant.right

@@ -17,9 +17,9 @@ bytes-preserved-then-row-eq1 g c =
     let i = c.bytes.invariant in
     let piece = c.args.piece.now in
     let cell = c.cell_at-cell.result in
-    let stands = stands-more (g.W.Weights.table c.args.table.now) c.args.pattern.now a piece c.bytes.at c.bytes.row cell c.requires.right c.bytes-test.true (c.type_inv.piece c.bytes.at).fits
+    let stands = stands-more (g.W.Weights.table c.args.table.now) c.args.pattern.now a piece c.bytes.at c.bytes.row cell c.requires.right (omega (arith, c.bytes-test.true, c.requires.to)) (c.type_inv.piece c.bytes.at).fits
     (c.cell_at-cell.ensures ∙ ap (λ (l : List ℕ). slice_index l (c.bytes.row + slice_index piece c.bytes.at)) c.deref-cells.ensures.value) c.if-cell-ge-STOP.false i.stands in
-    record { on = let on = i.on in omega (arith, on); stands = stands; passed = λ some. (omega (arith, c.bytes-test.true), stands) }
+    record { on = let on = i.on in omega (arith, on); stands = stands; passed = λ some. (omega (arith, c.bytes-test.true, c.requires.to), stands) }
 
 pub bytes-preserved : goal.bytes-preserved
 bytes-preserved g c =
@@ -27,7 +27,7 @@ bytes-preserved g c =
     let i = c.bytes.invariant in
     let piece = c.args.piece.now in
     let cell = c.cell_at-cell.result in
-    let stands = stands-more (g.W.Weights.table c.args.table.now) c.args.pattern.now a piece c.bytes.at c.bytes.row cell c.requires.right c.bytes-test.true (c.type_inv.piece c.bytes.at).fits
+    let stands = stands-more (g.W.Weights.table c.args.table.now) c.args.pattern.now a piece c.bytes.at c.bytes.row cell c.requires.right (omega (arith, c.bytes-test.true, c.requires.to)) (c.type_inv.piece c.bytes.at).fits
     (c.cell_at-cell.ensures ∙ ap (λ (l : List ℕ). slice_index l (c.bytes.row + slice_index piece c.bytes.at)) c.deref-cells.ensures.value) c.if-cell-ge-STOP.false i.stands in
     record { on = let on = i.on in omega (arith, on); stands = stands; passed = i.passed }
 
