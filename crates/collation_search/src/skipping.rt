@@ -16,6 +16,9 @@ const WORTH: usize = 2;
 /// The fewest bytes that are walked over before text is passed by again.
 const FEWEST_HELD: usize = 1;
 
+/// The fewest bytes that may be passed by: fewer are walked over sooner.
+const SHORTEST: usize = 8;
+
 /// What a search has found out of the characters that it met, for its table and its pattern.
 #[derive(Drop)]
 pub(crate) struct Cache {
@@ -101,6 +104,9 @@ impl Cache {
         laws_of_symbols();
         laws_of_borders();
         weighers_go_on();
+        if reach < SHORTEST {
+            return None;
+        }
         let Some(passed) = self.skip.pass(
             query.table,
             query.pattern,
