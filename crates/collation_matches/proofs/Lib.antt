@@ -18,3 +18,4 @@ pub mod SelectedInTime
 pub mod TextCheckLemmas
 pub mod WorkedRowLemmas
 pub mod SearchLemmas
+pub mod OffsetBounds

@@ -121,10 +121,10 @@ whole_prefix bytes m good end g = record {
   sound = g.sound;
 }
 
-abbrev TextLaw : Type 0
+abbrev pub TextLaw : Type 0
 TextLaw = (bytes : List ℕ) → IsUtf8 (take (characters_end bytes) bytes)
 
-abbrev WithinLaw : Type 0
+abbrev pub WithinLaw : Type 0
 WithinLaw = (bytes : List ℕ) → characters_end bytes ≤ length bytes
 
 -- where a byte is at fault, it stands at the end of the whole characters

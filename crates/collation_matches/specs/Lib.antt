@@ -7,3 +7,4 @@ pub mod ByClustersLaws
 pub mod WorkedRows
 pub mod Lag
 pub mod Sought
+pub mod Offsets

@@ -1,15 +1,19 @@
 -- The first range of a text that is taken in pieces.
-use Rattle.std.proofs.Common.{◌≡◌, ◌∙◌, ℕ, List, [], ◌∷◌, ◌++◌, take, drop, slice_get, Option, Some, None, Result, Ok, Err, refl, sym, ap, ap₂, subst, append_assoc}
+use Rattle.std.proofs.Common.{◌≡◌, ◌∙◌, ℕ, ◌≤◌, List, [], ◌∷◌, ◌++◌, length, map, take, drop, slice_get, Option, Some, None, Result, Ok, Err, refl, sym, ap, ap₂, subst, arith, inl, append_assoc}
 use Rattle.std.specs.Prelude.{IfErr, OnOk}
 use Rattle.std.proofs.lemmas.List.{take-append-drop}
 use Rattle.collation_table.specs.declared.lookup.Weights.{Ghosts}
 use Rattle.collation_matches.specs.declared.faults.TextFault.{TextFault}
-use Rattle.collation_matches.specs.Answer.{Answer}
+use Rattle.collation_matches.specs.Answer.{Answer, answer}
+use Rattle.collation_matches.specs.Offsets.{range_moved, fault_moved, answer_from}
 use Rattle.collation_matches.specs.Sought.{Sought, IsCompiledFrom, answer_to}
 use Rattle.collation_search.specs.declared.search.Search.{Search}
 use Rattle.collation_search.specs.Feeding.{Feeds, fault_of}
-use Rattle.collation_search.specs.Indexing.{first_range}
+use Rattle.collation_search.specs.Indexing.{range_or_fault, first_range, first_moved, EndsBy}
 use Rattle.collation_search.specs.Search.{HasSearched, sought}
+use Rattle.collation_matches.proofs.BridgeLists.{In}
+use Rattle.collation_matches.proofs.OffsetBounds.{EndsWithin, answered-within, answer-fault-is, fault-within, first-selected}
+use Rattle.collation_matches.proofs.SearchLemmas.{TextLaw, WithinLaw}
 
 -- the first range of the answer to a text, or its fault
 abbrev pub first_to : Sought → List ℕ → List ℕ → Result (Option (ℕ × ℕ)) TextFault
@@ -64,3 +68,34 @@ pub first-ended : (s : Sought) (p text : List ℕ) (ended : Result (Unit {0}) Te
     first_range found (fault_of ended) ≡ first_to s p text
 first-ended s p text (Ok done) found good bad = ap (λ (a : Answer). first_range a.ranges a.fault) (sym good)
 first-ended s p text (Err f) found good bad = ap (λ (a : Answer). first_range a.ranges a.fault) (sym bad)
+
+-- ---- from an offset on
+
+-- the first range of a text, or its fault, stands within it
+ends-by : (end : ℕ) (ranges : List (ℕ × ℕ)) (at : Option TextFault) → ((r : ℕ × ℕ) → In ranges r → EndsWithin end r) → ((f : TextFault) → at ≡ Some f → f.offset ≤ end) → EndsBy end (first_range ranges at)
+ends-by end [] None ranges_in fault_in = tt
+ends-by end [] (Some f) ranges_in fault_in = fault_in f refl
+ends-by end (r ∷ rs) at ranges_in fault_in = let here = ranges_in r (inl refl) in (omega (arith, here.0, here.1), here.1)
+
+pub first-within : TextLaw → WithinLaw → (s : Sought) (p bytes : List ℕ) → EndsBy (length bytes) (first_to s p bytes)
+first-within text_law within_law s p bytes =
+    let strength = s.pattern.strength in
+    let variable = s.pattern.variable in
+    let all = answer s.table strength variable p bytes in
+    let same : first_range all.ranges all.fault ≡ first_to s p bytes = ap (λ (o : Option (ℕ × ℕ)). range_or_fault o all.fault) (sym (first-selected s.select all.ranges)) in
+    subst (EndsBy (length bytes)) same
+    (ends-by (length bytes) all.ranges all.fault (answered-within s.table strength variable p bytes)
+    (λ f e. fault-within text_law within_law bytes f (sym (answer-fault-is s.table strength variable p bytes) ∙ e)))
+
+-- counted from the beginning of the text they are those of the answer counted so
+pub moved-first : (by : ℕ) (ranges : List (ℕ × ℕ)) (at : Option TextFault) → first_moved by (first_range ranges at) ≡ first_range (map (range_moved by) ranges) (fault_moved by at)
+moved-first by [] None = refl
+moved-first by [] (Some f) = refl
+moved-first by (r ∷ rs) at = refl
+
+-- the first range of the answer from an offset on, or its fault
+abbrev pub first_from_to : Sought → List ℕ → List ℕ → ℕ → Result (Option (ℕ × ℕ)) TextFault
+first_from_to s p text from = let a = answer_from s p text from in first_range a.ranges a.fault
+
+pub moved-from : (s : Sought) (p text : List ℕ) (from : ℕ) → first_moved from (first_to s p (drop from text)) ≡ first_from_to s p text from
+moved-from s p text from = let a = answer_to s p (drop from text) in moved-first from a.ranges a.fault

@@ -1,10 +1,11 @@
 //! The first range of a text that is held whole.
 
-ghost use Rattle.std.specs.Prelude.{◌≡◌, ℕ, List};
+ghost use Rattle.std.specs.Prelude.{◌≡◌, ℕ, ◌+◌, ◌<◌, ◌^◌, List};
 ghost use Rattle.collation_search.specs.Feeding.{fault_of};
-ghost use Rattle.collation_search.specs.Indexing.{range_or_fault as range_or_fault_of, IsFirstOf};
+ghost use Rattle.collation_search.specs.Indexing.{range_or_fault as range_or_fault_of, first_moved, EndsBy, IsFirstOf};
 ghost use Rattle.collation_matches.specs.declared.select.Select.TheVariants.{All};
 ghost use Rattle.collation_matches.specs.Sought.{IsCompiledFrom, answer_to};
+ghost use Rattle.collation_matches.specs.Offsets.{answer_from};
 
 use crate::matching::Found;
 use crate::search::Search;
@@ -12,6 +13,7 @@ use collation_matches::TextFault;
 use collation_pattern::Pattern;
 use collation_table::Weights;
 use std::alloc::Global;
+use utf8_cut::whole_characters_are_the_longest_text;
 
 /// How many bytes of a text are taken first, so that not much is read behind a range at its beginning, and at most.
 const FIRST_PIECE: usize = 64;
@@ -43,10 +45,41 @@ pub fn index<W: Weights>(
     search.first_in(text)
 }
 
+/// The first range of what stands in a text from an offset on, as [`Search::first_from`] finds it:
+/// `from`, and the start and the end of the range, are in bytes from the beginning of the text. The
+/// pattern was compiled with this table.
+///
+/// # Errors
+///
+/// The first fault from there on, where no range was found before it, or 36 at 0, as of [`index`].
+pub fn index_from<W: Weights>(
+    alloc: Global,
+    table: &W,
+    pattern: &Pattern,
+    text: &[u8],
+    from: usize,
+) -> Result<Option<(u64, u64)>, TextFault>
+    ensures first { (p : List ℕ)
+        → IsCompiledFrom (record { table = W.table table.now; pattern = pattern.now; select = All }) p
+        → IsFirstOf
+        (answer_from (record { table = W.table table.now; pattern = pattern.now; select = All })
+        p text.now from)
+        result }
+{
+    let Ok(mut search) = Search::new(alloc, table, pattern) else {
+        return Err(TextFault {
+            kind: TextFault::NO_MEMORY,
+            offset: 0,
+        });
+    };
+    search.first_from(text, from)
+}
+
 impl<'a, W: Weights> Search<'a, W> {
     ghost use Rattle.std.specs.Prelude.{◌≡◌, ℕ, ◌∷◌, List, [], ◌++◌, slice_get, Result};
     ghost use Rattle.collation_matches.specs.declared.faults.TextFault.{TextFault};
     ghost use Rattle.collation_matches.specs.Sought.{IsCompiledFrom, answer_to};
+    ghost use Rattle.collation_matches.specs.Offsets.{answer_from};
     ghost use Rattle.collation_search.specs.Feeding.{Feeds, fault_of};
     ghost use Rattle.collation_search.specs.Indexing.{first_range};
     ghost use Rattle.collation_search.specs.Search.{HasSearched, sought};
@@ -68,6 +101,27 @@ impl<'a, W: Weights> Search<'a, W> {
         let first = self.first_of(text);
         self.begin_again();
         first
+    }
+
+    /// The first range of the answer to what stands in a text from an offset on, taken as a text by
+    /// itself: `from`, and the start and the end of the range, are in bytes from the beginning of the
+    /// text. Behind the end of the text nothing is found. The search begins again before it and
+    /// after it. No memory is taken.
+    ///
+    /// # Errors
+    ///
+    /// The first fault from there on, where no range was found before it. Where `from` stands within
+    /// a character, that is 31 at `from`.
+    pub fn first_from(&mut self, text: &[u8], from: usize) -> Result<Option<(u64, u64)>, TextFault>
+        ensures first { (p : List ℕ) → IsCompiledFrom (sought self.old) p
+            → result ≡ first_range (answer_from (sought self.old) p text.now from).ranges
+            (answer_from (sought self.old) p text.now from).fault }
+        ensures stands { HasSearched self.new [] [] }
+        ensures sought { sought self.new ≡ sought self.old }
+    {
+        whole_characters_are_the_longest_text();
+        let (_, rest) = text.split_at(from.min(text.len()));
+        moved(self.first_in(rest), from)
     }
 
     /// The same of a search at the beginning of a text.
@@ -118,6 +172,25 @@ impl<'a, W: Weights> Search<'a, W> {
             },
         );
         range_or_fault(first, fed)
+    }
+}
+
+/// What was found in the rest of a text from this offset on, its offsets counted from the beginning
+/// of the text.
+fn moved(
+    first: Result<Option<(u64, u64)>, TextFault>,
+    by: usize,
+) -> Result<Option<(u64, u64)>, TextFault>
+    ensures { (end : ℕ) → EndsBy end first → by + end < 2 ^ 64 → result ≡ first_moved by first }
+{
+    let by = by as u64;
+    match first {
+        Ok(None) => Ok(None),
+        Ok(Some((start, end))) => Ok(Some((by.saturating_add(start), by.saturating_add(end)))),
+        Err(fault) => Err(TextFault {
+            kind: fault.kind,
+            offset: by.saturating_add(fault.offset),
+        }),
     }
 }
 

@@ -30,7 +30,7 @@ mod skipping;
 mod walk;
 pub mod worked;
 
-pub use crate::indexing::index;
+pub use crate::indexing::{index, index_from};
 pub use crate::matching::{Found, MOST_FOUND};
 pub use crate::parking::Parked;
 pub use crate::pieces::{PiecesSearched, search_in_pieces};

@@ -7,7 +7,8 @@ use super::Range;
 use collation_elements::{Strength, Variable};
 use collation_pattern::Pattern;
 use collation_search::{
-    Found, PiecesSearched, Search, Select, StateFault, TextFault, index, search_in_pieces,
+    Found, PiecesSearched, Search, Select, StateFault, TextFault, index, index_from,
+    search_in_pieces,
 };
 use collation_table::{PlainTable, Table, Weights};
 use std::alloc::{AllocError, Global};
@@ -223,7 +224,18 @@ pub(super) fn first_range<W: Weights>(
     index(alloc, query.table, query.pattern, text)
 }
 
-/// The same by a search that was made before, which is then at the beginning of a text again.
+/// The first range from an offset of that text on.
+pub(super) fn first_range_from<W: Weights>(
+    alloc: Global,
+    query: &Query<'_, W>,
+    text: &[u8],
+    from: usize,
+) -> Result<Option<Range>, TextFault> {
+    index_from(alloc, query.table, query.pattern, text, from)
+}
+
+/// The first range by a search that was made before, which is then at the beginning of a text
+/// again.
 pub(super) fn first_in<W: Weights>(
     search: &mut Search<'_, W>,
     text: &[u8],

@@ -2,8 +2,8 @@
 
 use super::answers::{answered_is, fed, resumed, stepped};
 use super::calls::{
-    begin, begin_again, compile, feed, finish_text, first_in, first_range, joined, put_all,
-    query_for, read, read_plain, repeated, resume_from, saved,
+    begin, begin_again, compile, feed, finish_text, first_in, first_range, first_range_from,
+    joined, put_all, query_for, read, read_plain, repeated, resume_from, saved,
 };
 use super::checks::{fault_is, first_is, kind_is, ranges_are};
 use super::{KEPT, ONE, Range, SHIFTED, TABLE, THREE, TWO};
@@ -177,10 +177,34 @@ fn compare<W: Weights>(rt: &impl Abort, alloc: Global, table: &W, row: &Row<'_>)
     answered_is(rt, &bytes, ranges, want, letters);
     let (again, _most_words) = resumed(rt, alloc, &query, text, 1);
     answered_is(rt, &again, ranges, want, letters);
-    if select == Select::All {
-        let first = first_of(ranges, want);
-        first_is(rt, first_range(alloc, &query, text), first, letters);
+    match select {
+        Select::All => {
+            let first = first_of(ranges, want);
+            first_is(rt, first_range(alloc, &query, text), first, letters);
+        }
+        Select::Chain => ask_from_each_end(rt, alloc, &query, row),
     }
+}
+
+/// Compares what is found from the end of each range on, which is the next range of the chain, or
+/// else the fault; and behind the end.
+fn ask_from_each_end<W: Weights>(
+    rt: &impl Abort,
+    alloc: Global,
+    query: &Query<'_, W>,
+    row: &Row<'_>,
+) {
+    let (_select, _strength, _variable, letters, text, ranges, fault) = *row;
+    let mut from = 0;
+    for range in ranges {
+        let next = first_range_from(alloc, query, text, from);
+        first_is(rt, next, Ok(Some(*range)), letters);
+        from = range.1 as usize;
+    }
+    let end = first_of(&[], fault.map(|(kind, offset)| TextFault { kind, offset }));
+    first_is(rt, first_range_from(alloc, query, text, from), end, letters);
+    let nothing = first_range_from(alloc, query, text, usize::MAX);
+    first_is(rt, nothing, Ok(None), letters);
 }
 
 /// The first of these ranges, or else this fault.
