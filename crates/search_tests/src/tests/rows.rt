@@ -2,7 +2,7 @@
 
 use super::answers::{answered_is, fed, resumed, stepped};
 use super::calls::{
-    begin, begin_again, compile, feed, finish_text, first_in, first_range, first_range_from,
+    Query, begin, begin_again, compile, feed, finish_text, first_in, first_range, first_range_from,
     joined, put_all, query_for, read, read_plain, repeated, resume_from, saved,
 };
 use super::checks::{fault_is, first_is, kind_is, ranges_are};
