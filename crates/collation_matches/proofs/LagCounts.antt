@@ -13,7 +13,7 @@ use Rattle.collation_table.specs.Table.{TableMap, longest_prefix}
 use Rattle.collation_elements.specs.Units.{code_points, Cut, joins, extended, first_unit, units_within, units}
 use Rattle.collation_matches.specs.Lag.{code_points_from}
 
-abbrev one_if : Bool → ℕ
+abbrev pub one_if : Bool → ℕ
 one_if true = 1
 one_if false = 0
 

@@ -100,7 +100,7 @@ pub record Splits {A : Type 0} (xs : List A) (x : A) : Type 0 where
   pub after : List A
   pub are : xs ≡ before ++ x ∷ after
 
-splits : {A : Type 0} (xs : List A) (x : A) → In xs x → Splits xs x
+pub splits : {A : Type 0} (xs : List A) (x : A) → In xs x → Splits xs x
 splits [] x h = absurd h
 splits (y ∷ ys) x (inl e) = record { before = []; after = ys; are = ap (λ z. z ∷ ys) e }
 splits (y ∷ ys) x (inr h) = let s = splits ys x h in record { before = y ∷ s.before; after = s.after; are = ap (λ zs. y ∷ zs) s.are }

@@ -19,3 +19,9 @@ pub mod TextCheckLemmas
 pub mod WorkedRowLemmas
 pub mod SearchLemmas
 pub mod OffsetBounds
+pub mod OffsetBoundaries
+pub mod OffsetMatches
+pub mod OffsetFaults
+pub mod OffsetAnswers
+pub mod OffsetChains
+pub mod OffsetLemmas

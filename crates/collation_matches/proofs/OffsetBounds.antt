@@ -14,7 +14,7 @@ use Rattle.collation_matches.specs.declared.select.Select.{Select}
 use Rattle.collation_matches.specs.declared.select.Select.TheVariants.{All, Chain}
 use Rattle.collation_matches.specs.Answer.{answer, answer_at}
 use Rattle.collation_matches.specs.GoodPrefix.{fault, good_prefix, prefix_at}
-use Rattle.collation_matches.specs.Matches.{ranges_among, ranges_with_sort_key, matches, settled}
+use Rattle.collation_matches.specs.Matches.{ranges_among, ranges_with_sort_key, matches}
 use Rattle.collation_matches.specs.Selecting.{selected}
 use Rattle.collation_matches.proofs.BridgeLists.{In, in_filter}
 use Rattle.collation_matches.proofs.BridgeMatches.{below_offsets}

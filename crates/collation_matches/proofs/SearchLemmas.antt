@@ -28,11 +28,11 @@ pub record Before (start run : ℕ) (cs : List ℕ) (at : ℕ × ℕ) : Type 0 w
   pub offset : at.0 ≡ start + byte_len good_prefix
   pub good : fault_from start run good_prefix ≡ None
 
-fault_here : (start run c kind : ℕ) (cs : List ℕ) → fault_of_code_point run c ≡ Some kind → fault_from start run (c ∷ cs) ≡ Some (start, kind)
+pub fault_here : (start run c kind : ℕ) (cs : List ℕ) → fault_of_code_point run c ≡ Some kind → fault_from start run (c ∷ cs) ≡ Some (start, kind)
 unfolding fault_from
 fault_here start run c kind cs e = rw (e, fault_from) refl
 
-fault_later : (start run c : ℕ) (cs : List ℕ) → fault_of_code_point run c ≡ None → fault_from start run (c ∷ cs) ≡ fault_from (start + len_utf8 c) (run_after run (decomposition c)) cs
+pub fault_later : (start run c : ℕ) (cs : List ℕ) → fault_of_code_point run c ≡ None → fault_from start run (c ∷ cs) ≡ fault_from (start + len_utf8 c) (run_after run (decomposition c)) cs
 unfolding fault_from
 fault_later start run c cs e = rw (e, fault_from) refl
 
@@ -46,7 +46,7 @@ before_next start run c cs at e b = record {
   good = fault_later start run c b.good_prefix e ∙ b.good;
 }
 
-no_fault : (start run : ℕ) → fault_from start run [] ≡ None
+pub no_fault : (start run : ℕ) → fault_from start run [] ≡ None
 unfolding fault_from
 no_fault start run = refl
 
@@ -78,7 +78,7 @@ scalars_prefix (x ∷ xs) ys h =
     let rest = scalars_prefix xs ys parts.1 in
     let first = parts.0 in rw (first, rest) refl
 
-encoded-append : (xs ys : List ℕ) → encode_utf8_all (xs ++ ys) ≡ encode_utf8_all xs ++ encode_utf8_all ys
+pub encoded-append : (xs ys : List ℕ) → encode_utf8_all (xs ++ ys) ≡ encode_utf8_all xs ++ encode_utf8_all ys
 encoded-append [] ys = refl
 encoded-append (x ∷ xs) ys = ap (λ t. encode_utf8 x ++ t) (encoded-append xs ys) ∙ sym (append_assoc (encode_utf8 x) (encode_utf8_all xs) (encode_utf8_all ys))
 

@@ -7,7 +7,7 @@ use Rattle.unicode_normalization.specs.StreamSafe.{has_short_runs}
 use Rattle.unicode_normalization.proofs.Computing.{unicode_normalization}
 use Rattle.nfd_points.specs.Points.{byte_len, points_at, points_from, is_reorderable, is_in_order, sink, ordered}
 use Rattle.nfd_points.specs.PointFaults.{run_after, fault_of_code_point, fault_from}
-use Rattle.collation_matches.specs.WorkedRows.{OverlappingLetters, ComposedPrimary, ComposedSecondary, DecomposedPrimary, DecomposedSecondary, InsideContraction, HyphenShifted, HyphenKept, SoftHyphen, Discontiguous, DiscontiguousSecondary, BlockedAccent, BlockedBase, AccentBefore, BadByte, IncompleteSequence, ChainOfLetters, ChainAtBadByte}
+use Rattle.collation_matches.specs.WorkedRows.{OverlappingLetters, ComposedPrimary, ComposedSecondary, DecomposedPrimary, DecomposedSecondary, InsideContraction, RestAmidContraction, HyphenShifted, HyphenKept, SoftHyphen, Discontiguous, DiscontiguousSecondary, BlockedAccent, BlockedBase, AccentBefore, BadByte, IncompleteSequence, ChainOfLetters, ChainAtBadByte}
 
 -- `unfolding rows` lets `refl` compute a row
 unfoldable rows : Unit {0}
@@ -37,6 +37,10 @@ decomposed_secondary_lem = refl
 pub inside_contraction_lem : InsideContraction
 unfolding rows
 inside_contraction_lem = refl
+
+pub rest_amid_contraction_lem : RestAmidContraction
+unfolding rows
+rest_amid_contraction_lem = (refl, refl)
 
 pub hyphen_shifted_lem : HyphenShifted
 unfolding rows

@@ -8,3 +8,4 @@ pub mod WorkedRows
 pub mod Lag
 pub mod Sought
 pub mod Offsets
+pub mod OffsetLaws

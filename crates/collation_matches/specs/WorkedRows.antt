@@ -1,5 +1,5 @@
 -- Worked rows over the worked table: what the definitions give for small texts.
-use Rattle.std.specs.Prelude.{◌≡◌, ℕ, List, [], ◌∷◌, ◌++◌, codes, Some}
+use Rattle.std.specs.Prelude.{◌≡◌, ℕ, List, [], ◌∷◌, ◌++◌, drop, codes, Some}
 use Rattle.collation_elements.specs.declared.settings.Variable.TheVariants.{NonIgnorable, Shifted}
 use Rattle.collation_elements.specs.declared.settings.Strength.TheVariants.{One, Two, Three}
 use Rattle.collation_matches.specs.Matches.{matches}
@@ -47,6 +47,12 @@ DecomposedSecondary = matches worked_table Two NonIgnorable (codes "resume") (co
 -- `c` in the contraction `ch`: nothing
 abbrev pub InsideContraction : Type 0
 InsideContraction = matches worked_table Three NonIgnorable (codes "c") (codes "ch") ≡ []
+
+-- `h` in `ch`, and in its rest from amid the contraction on, which is no boundary
+abbrev pub RestAmidContraction : Type 0
+RestAmidContraction =
+    (matches worked_table Three NonIgnorable (codes "h") (codes "ch") ≡ [])
+    × (matches worked_table Three NonIgnorable (codes "h") (drop 1 (codes "ch")) ≡ (0, 1) ∷ [])
 
 -- `ab` in `a - b`, shifted
 abbrev pub HyphenShifted : Type 0

@@ -3,14 +3,16 @@
 //! The definitions stand in `specs/`: where a text is good (`GoodPrefix`), its minimal matches (`Matches`), the answer to bytes
 //! (`Answer`), all of its ranges or a chain of them (`Selecting`), what is looked for (`Sought`). A law is the contract of a
 //! function without code: that the minimal matches are the ranges found cluster by cluster ([`matches_by_clusters`]), how late
-//! a search may find them ([`answers_in_time`]), how many there may be ([`one_range_begins_at_an_offset`]). Worked rows stand in
-//! [`worked`], each proved by computing. Nothing here runs.
+//! a search may find them ([`answers_in_time`]), how many there may be ([`one_range_begins_at_an_offset`]), from where on the rest of
+//! a text has the same ones ([`matches_from_a_boundary`]). Worked rows stand in [`worked`], each proved by computing. Nothing here
+//! runs.
 #![tactic(auto)]
 
 mod bridge;
 mod faults;
 mod few_ranges;
 mod lag;
+mod offsets;
 mod select;
 pub mod worked;
 
@@ -18,4 +20,5 @@ pub use crate::bridge::{growing_text, last_keys, matches_by_clusters, minimal_ra
 pub use crate::faults::TextFault;
 pub use crate::few_ranges::one_range_begins_at_an_offset;
 pub use crate::lag::{answers_in_time, matches_in_time, ranges_in_time};
+pub use crate::offsets::{calls_give_the_chain, matches_from_a_boundary};
 pub use crate::select::Select;

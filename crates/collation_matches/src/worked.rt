@@ -1,6 +1,6 @@
 //! Worked rows: small texts whose matches the definitions give, one row a function, proved by computing.
 
-ghost use Rattle.collation_matches.specs.WorkedRows.{OverlappingLetters, ComposedPrimary, ComposedSecondary, DecomposedPrimary, DecomposedSecondary, InsideContraction, HyphenShifted, HyphenKept, SoftHyphen, Discontiguous, DiscontiguousSecondary, BlockedAccent, BlockedBase, AccentBefore, BadByte, IncompleteSequence, ChainOfLetters, ChainAtBadByte};
+ghost use Rattle.collation_matches.specs.WorkedRows.{OverlappingLetters, ComposedPrimary, ComposedSecondary, DecomposedPrimary, DecomposedSecondary, InsideContraction, RestAmidContraction, HyphenShifted, HyphenKept, SoftHyphen, Discontiguous, DiscontiguousSecondary, BlockedAccent, BlockedBase, AccentBefore, BadByte, IncompleteSequence, ChainOfLetters, ChainAtBadByte};
 
 /// `aa` in `aaa`: ranges that overlap are all found.
 pub fn overlapping_letters()
@@ -30,6 +30,11 @@ pub fn decomposed_secondary()
 /// `c` in the contraction `ch`: nothing.
 pub fn inside_contraction()
     ensures { InsideContraction }
+{}
+
+/// `h` in the contraction `ch`: nothing; in its rest from amid the contraction on: the rest.
+pub fn rest_amid_contraction()
+    ensures { RestAmidContraction }
 {}
 
 /// `ab` in `a - b`, shifted.

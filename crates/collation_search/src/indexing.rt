@@ -49,6 +49,9 @@ pub fn index<W: Weights>(
 /// `from`, and the start and the end of the range, are in bytes from the beginning of the text. The
 /// pattern was compiled with this table.
 ///
+/// Calls of which each begins at the end of the range before find the chain of the text, the ranges
+/// that do not overlap ([`collation_matches::calls_give_the_chain`]).
+///
 /// # Errors
 ///
 /// The first fault from there on, where no range was found before it, or 36 at 0, as of [`index`].
@@ -107,6 +110,11 @@ impl<'a, W: Weights> Search<'a, W> {
     /// itself: `from`, and the start and the end of the range, are in bytes from the beginning of the
     /// text. Behind the end of the text nothing is found. The search begins again before it and
     /// after it. No memory is taken.
+    ///
+    /// From the start or the end of a range on it is the first range of the text that begins there
+    /// or later, and so from each boundary before the first fault
+    /// ([`collation_matches::matches_from_a_boundary`]). From elsewhere, as from amid a contraction,
+    /// it may be a range that the text does not have.
     ///
     /// # Errors
     ///
