@@ -2,12 +2,10 @@
 use Rattle.std.proofs.Common.{◌≡◌, ℕ, ◌≤◌, List, [], ◌∷◌, length, slice_get, nat_lt, Option, Some, None, refl, ap, arith}
 use Rattle.std.proofs.lemmas.Bool.{le-leb}
 use Rattle.std.proofs.lemmas.List.{length-take}
-use Rattle.std.specs.Str.{chars}
-use Rattle.nfd_points.specs.Points.{points}
 use Rattle.collation_table.specs.Table.{TableMap}
 use Rattle.collation_elements.specs.declared.settings.Strength.{Strength}
 use Rattle.collation_elements.specs.declared.settings.Variable.{Variable}
-use Rattle.collation_elements.specs.Boundaries.{boundaries, offsets_to, is_boundary, cluster_starts}
+use Rattle.collation_elements.specs.Boundaries.{boundaries}
 use Rattle.collation_pattern.specs.SortKey.{text_sort_key}
 use Rattle.collation_matches.specs.declared.faults.TextFault.{TextFault}
 use Rattle.collation_matches.specs.declared.select.Select.{Select}
@@ -17,8 +15,8 @@ use Rattle.collation_matches.specs.GoodPrefix.{fault, good_prefix, prefix_at}
 use Rattle.collation_matches.specs.Matches.{ranges_among, ranges_with_sort_key, matches}
 use Rattle.collation_matches.specs.Selecting.{selected}
 use Rattle.collation_matches.proofs.BridgeLists.{In, in_filter}
-use Rattle.collation_matches.proofs.BridgeMatches.{below_offsets}
 use Rattle.collation_matches.proofs.BridgeRanges.{in_ranges, in_minimal}
+use Rattle.collation_matches.proofs.OffsetBoundaries.{boundary-within}
 use Rattle.collation_matches.proofs.SearchLemmas.{TextLaw, WithinLaw, good_prefix_found}
 use Rattle.collation_matches.proofs.SelectingLemmas.{chain-taken}
 
@@ -27,16 +25,12 @@ abbrev pub EndsWithin : ℕ → ℕ × ℕ → Type 0
 EndsWithin len r = (r.0 ≤ r.1) × (r.1 ≤ len)
 
 module _ (table : TableMap) (strength : Strength) (variable : Variable) (pattern : List ℕ) where
-  pub boundary-within : (text : List ℕ) (b : ℕ) → In (boundaries table text) b → b ≤ length text
-  boundary-within text b h =
-      let o = in_filter (is_boundary (cluster_starts table (points (chars text))) (length text)) (offsets_to (length text)) b h in below_offsets (length text) b o.0
-
   pub matches-within : (text : List ℕ) (r : ℕ × ℕ) → In (matches table strength variable pattern text) r → EndsWithin (length text) r
   matches-within text r h =
       let key = text_sort_key table strength variable pattern in
       let m = in_minimal (ranges_with_sort_key table strength variable key text) r h in
       let k = in_filter _ (ranges_among (boundaries table text)) r m.0 in
-      let b = in_ranges (boundaries table text) r k.0 in (b.2, boundary-within text r.1 b.1)
+      let b = in_ranges (boundaries table text) r k.0 in (b.2, boundary-within table text r.1 b.1)
 
   at-within : (bytes : List ℕ) (at : Option TextFault) → fault bytes ≡ at → (r : ℕ × ℕ) → In (answer_at table strength variable pattern bytes at).ranges r → EndsWithin (length bytes) r
   at-within bytes None is r h = matches-within bytes r h

@@ -15,7 +15,8 @@ use Rattle.collation_matches.specs.Sought.{Sought, IsCompiledFrom, answer_to}
 abbrev pub ranges_from : ℕ → List (ℕ × ℕ) → List (ℕ × ℕ)
 ranges_from from ranges = filter (λ range. nat_le from range.0) ranges
 
--- From a boundary of a text on, the minimal matches of the rest are those of the text that begin there or later.
+-- From a boundary of a text on, the minimal matches of the rest are those of the text that begin
+-- there or later.
 abbrev pub MatchesFromBoundaries : Type 0
 MatchesFromBoundaries =
     (table : TableMap) (strength : Strength) (variable : Variable) (pattern text : List ℕ) (from : ℕ) →
@@ -23,14 +24,16 @@ MatchesFromBoundaries =
     map (range_moved from) (matches table strength variable pattern (drop from text))
     ≡ ranges_from from (matches table strength variable pattern text)
 
--- A place from which one may go on in some bytes: a boundary of what stands before their first fault and, where there is a fault, not
--- the end of that. There may be at most as many bytes as a text has, since each one past that is a fault for their number alone.
+-- A place from which one may go on in some bytes: a boundary of what stands before their first fault
+-- and, where there is a fault, not the end of that. There are at most 2^62 bytes: past that they are
+-- at fault for their number, which the rest need not be.
 pub record MayGoOnFrom (table : TableMap) (bytes : List ℕ) (from : ℕ) : Type 0 where
   pub few : length bytes ≤ most_bytes
   pub boundary : Contains (boundaries table (good_prefix bytes)) from
   pub before_fault : (fault bytes ≡ None) ⊎ (from < length (good_prefix bytes))
 
--- From such a place on the ranges of the answer are those that begin there or later, and the fault is the same.
+-- From such a place on the ranges of the answer are those that begin there or later, and the fault
+-- is the same.
 abbrev pub AnswersFromBoundaries : Type 0
 AnswersFromBoundaries =
     (s : Sought) (text bytes : List ℕ) (from : ℕ) →
@@ -45,8 +48,8 @@ RangesMayBeGoneOnFrom =
     length bytes ≤ most_bytes → Contains (answer_to s text bytes).ranges range →
     MayGoOnFrom s.table bytes range.0 × MayGoOnFrom s.table bytes range.1
 
--- what so many calls find, the first one from this offset on and each other one from the end of the range before it, until one finds
--- none
+-- what so many calls find, the first one from this offset on and each other one from the end of the
+-- range before it, until one finds none
 abbrev pub found_by_calls : ℕ → Sought → List ℕ → List ℕ → ℕ → List (ℕ × ℕ)
 found_by_calls zero s text bytes from = []
 found_by_calls (suc n) s text bytes from =

@@ -2,8 +2,8 @@
 
 use super::answers::state_after;
 use super::calls::{
-    Query, compile, feed, finish, first_range, for_all, put_all, query_for, read, repeated,
-    try_begin, try_resume, try_save,
+    Query, compile, feed, finish, first_range, first_range_from, for_all, put_all, query_for, read,
+    repeated, try_begin, try_resume, try_save,
 };
 use super::checks::{answer_is, count_is, first_is, kind_is, ranges_are, ranges_follow, words_are};
 use super::{KEPT, ONE, Range, TABLE, THREE, TWO};
@@ -21,18 +21,33 @@ fn begin_again<'a>(rt: &impl Abort, alloc: Global, query: &Query<'a, Table>) -> 
     }
 }
 
-/// The first range of a text, asked for again where memory was refused, which is fault 36 at 0.
+/// What the first range of a text is where memory was refused.
+const REFUSED: TextFault = TextFault {
+    kind: 36,
+    offset: 0,
+};
+
+/// The first range of a text, asked for again where memory was refused.
 fn first_range_again(
     alloc: Global,
     query: &Query<'_, Table>,
     text: &[u8],
 ) -> Result<Option<Range>, TextFault> {
-    let refused = TextFault {
-        kind: 36,
-        offset: 0,
-    };
     match first_range(alloc, query, text) {
-        Err(fault) if fault == refused => first_range(alloc, query, text),
+        Err(fault) if fault == REFUSED => first_range(alloc, query, text),
+        answer => answer,
+    }
+}
+
+/// The same from an offset on, by the call that takes one.
+fn first_range_from_again(
+    alloc: Global,
+    query: &Query<'_, Table>,
+    text: &[u8],
+    from: usize,
+) -> Result<Option<Range>, TextFault> {
+    match first_range_from(alloc, query, text, from) {
+        Err(fault) if fault == REFUSED => first_range_from(alloc, query, text, from),
         answer => answer,
     }
 }
@@ -112,6 +127,8 @@ fn ask_row_again(rt: &impl Abort, alloc: Global, table: &Table, row: &Row<'_>) {
     let pattern = compile(rt, alloc, table, letters, strength, KEPT);
     let query = for_all(table, &pattern);
     first_is(rt, first_range_again(alloc, &query, text), first, letters);
+    let from_0 = first_range_from_again(alloc, &query, text, 0);
+    first_is(rt, from_0, first, letters);
     let mut got = room(rt, alloc, 8);
     feed_and_finish(rt, alloc, &query, text, ended, &mut got);
     ranges_are(rt, &got, ranges, letters);
