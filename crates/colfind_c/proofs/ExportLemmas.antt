@@ -10,7 +10,7 @@ use Rattle.colfind_c.specs.declared.owned.Session.{Session}
 use Rattle.colfind_c.specs.declared.owned.Owned.{Owned}
 use Rattle.colfind_c.specs.declared.owned.Owned.TheVariants.{Table as ATable, Pattern as APattern, Search as ASearch}
 use Rattle.colfind_c.specs.declared.outcome.Outcome.{Outcome}
-use Rattle.colfind_c.specs.declared.outcome.Outcome.TheVariants.{Good, Table as InTable, Pattern as InPattern, Text, State, NoMemory, Partly, WrongHandle, Ended, Short, BadArgument, Lost}
+use Rattle.colfind_c.specs.declared.outcome.Outcome.TheVariants.{Good, Table as InTable, Pattern as InPattern, Text, State, NoMemory, Partly, WrongHandle, Ended, Short, BadArgument}
 use Rattle.colfind_c.specs.Exports.{OfTable, OfPattern, OfSearch, TakesOldest, SharesTable, SharesQuery, IsGiven, GivesTable, GivesPattern, IsCompiled, MakesPattern, StartsSearch, GoesOnFrom, SavesInto, strength_for, variable_for, select_for}
 use Rattle.std.specs.Prelude.{ℕ, List, [], ◌≢◌}
 use Rattle.collation_table.specs.contracts.table.TableWeights.TheImpl.{ghosts as weights}
@@ -21,6 +21,7 @@ use Rattle.collation_matches.specs.declared.faults.TextFault.{TextFault}
 use Rattle.collation_matches.specs.declared.select.Select.{Select}
 use Rattle.collation_matches.specs.declared.select.Select.TheVariants.{All}
 use Rattle.collation_matches.specs.Sought.{IsCompiledFrom, answer_to}
+use Rattle.collation_matches.specs.Offsets.{answer_from}
 use Rattle.collation_search.specs.Indexing.{IsFirstOf}
 use Rattle.collation_search.specs.Resuming.{IsRefused}
 use Rattle.collation_search.specs.State.{sizes_of}
@@ -43,7 +44,6 @@ given owned WrongHandle before after e P good none = absurd e
 given owned Ended before after e P good none = absurd e
 given owned (Short n) before after e P good none = absurd e
 given owned BadArgument before after e P good none = absurd e
-given owned Lost before after e P good none = absurd e
 
 pub table_given : (table : Table) (how : Outcome) (before after : Option Owned) → GivesTable table how before after
     → (P : Outcome → Option Owned → Type 0) → ((t : Arc Table Global) → arc_value t ≡ table → P Good (Some (ATable t))) → P NoMemory before → P how after
@@ -61,7 +61,6 @@ table_given table WrongHandle before after e P good none = absurd e
 table_given table Ended before after e P good none = absurd e
 table_given table (Short n) before after e P good none = absurd e
 table_given table BadArgument before after e P good none = absurd e
-table_given table Lost before after e P good none = absurd e
 
 pub pattern_given : (q : Query) (how : Outcome) (before after : Option Owned) → GivesPattern q how before after
     → (P : Outcome → Option Owned → Type 0) → ((p : Arc Query Global) → arc_value p ≡ q → P Good (Some (APattern p))) → P NoMemory before → P how after
@@ -79,7 +78,6 @@ pattern_given q WrongHandle before after e P good none = absurd e
 pattern_given q Ended before after e P good none = absurd e
 pattern_given q (Short n) before after e P good none = absurd e
 pattern_given q BadArgument before after e P good none = absurd e
-pattern_given q Lost before after e P good none = absurd e
 
 abbrev outcome_or : {A : Type 0} → Outcome → Result A Outcome → Outcome
 outcome_or d (Ok a) = d
@@ -160,7 +158,6 @@ not_made table text s v WrongHandle before e = absurd e
 not_made table text s v Ended before e = absurd e
 not_made table text s v (Short n) before e = absurd e
 not_made table text s v BadArgument before e = (refl, e.1)
-not_made table text s v Lost before e = absurd e
 
 pub started : (q : Query) (n : ℕ) (select : Select) (s : Session) (before : Option Owned) → select_for n ≡ Some select → HasFed s [] [] → sought_of s ≡ sought_with q select
     → StartsSearch q n Good before (Some (ASearch s))
@@ -182,6 +179,13 @@ pub first_seen : (q : Query) (t : Table) (text : List ℕ) (result : Result (Opt
 first_seen q t text result e first p compiled = let seen = seen_with q q t All refl e in
     subst (λ z. IsFirstOf (answer_to z p text) result) seen (first p (subst (λ z. IsCompiledFrom z p) (sym seen) compiled))
 
+pub first_seen_from : (q : Query) (t : Table) (text : List ℕ) (from : ℕ) (result : Result (Option (ℕ × ℕ)) TextFault) → t ≡ arc_value q.table
+    → ((p : List ℕ) → IsCompiledFrom (record { table = weights.table t; pattern = q.pattern; select = All }) p
+    → IsFirstOf (answer_from (record { table = weights.table t; pattern = q.pattern; select = All }) p text from) result)
+    → (p : List ℕ) → IsCompiledFrom (sought_with q All) p → IsFirstOf (answer_from (sought_with q All) p text from) result
+first_seen_from q t text from result e first p compiled = let seen = seen_with q q t All refl e in
+    subst (λ z. IsFirstOf (answer_from z p text from) result) seen (first p (subst (λ z. IsCompiledFrom z p) (sym seen) compiled))
+
 -- a search that could not be saved wrote nothing
 pub save_failed : (before : List ℕ) (old : Session) (how : Outcome) (words : List ℕ) (new : Session) → SavesSession old how words new → (how ≡ Good → ⊥) → SavesInto before before 0 old how new
 save_failed before old Good words new is bad = absurd (bad refl)
@@ -195,4 +199,3 @@ save_failed before old WrongHandle words new is bad = absurd is.saved
 save_failed before old Ended words new is bad = record { words = words; saved = is; written = refl }
 save_failed before old (Short n) words new is bad = absurd is.saved
 save_failed before old BadArgument words new is bad = absurd is.saved
-save_failed before old Lost words new is bad = absurd is.saved

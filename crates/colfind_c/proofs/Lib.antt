@@ -1,6 +1,8 @@
 pub mod Calls
 pub mod ExportLemmas
+pub mod FewFound
 pub mod HandleValues
+pub mod MessageLemmas
 pub mod ParkedLemmas
 pub mod QueueLemmas
 pub mod SessionLemmas

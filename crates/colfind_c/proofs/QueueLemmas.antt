@@ -1,9 +1,10 @@
 -- Ranges that were taken from the front of a queue, and those that are left.
-use Rattle.std.proofs.Common.{◌≡◌, ℕ, ◌+◌, List, [], ◌++◌, length, take, drop, sym, ap, ◌∙◌, arith}
+use Rattle.std.proofs.Common.{◌≡◌, ℕ, ◌+◌, List, [], ◌++◌, length, take, drop, sym, ap, subst, ◌∙◌, arith, append_assoc, append-nil, length-append}
 use Rattle.std.proofs.lemmas.List.{take-append-drop, drop-drop, map-append, take-append-le, take_all}
 use Rattle.std.proofs.Math.ListN.{drop_of_length-le}
 use Rattle.colfind_c.specs.declared.queue.Range.{Range}
-use Rattle.colfind_c.specs.Queues.{pairs}
+use Rattle.colfind_c.specs.declared.queue.Queue.{Queue}
+use Rattle.colfind_c.specs.Queues.{pairs, Waits, HasRoom, Gets}
 
 pub taken_and_left : (items out written : List Range) (at n : ℕ) → length written ≡ n → written ≡ take n (drop at items)
     → pairs (drop at items) ≡ pairs (take n (written ++ drop n out)) ++ pairs (drop (at + n) items)
@@ -18,3 +19,19 @@ pub taken_and_none : (items out written rest : List Range) (at n : ℕ) → leng
     → pairs (drop at items) ≡ pairs (take n (written ++ drop n out)) ++ pairs rest
 taken_and_none items out written rest at n len is all none = taken_and_left items out written at n len is
     ∙ ap (λ xs. pairs (take n (written ++ drop n out)) ++ pairs xs) (drop_of_length-le items (omega (arith, all)) ∙ sym none)
+
+-- ---- ranges that are put at the end
+
+pub gets_none : (q : Queue) → Gets q [] q
+gets_none q = record {
+  waits = λ before w. subst (Waits q) (sym (append-nil before)) w;
+  room = λ count r. let all : 0 + count ≡ count = omega arith in subst (HasRoom q) all r;
+}
+
+pub gets_more : (a b c : Queue) (xs ys : List (ℕ × ℕ)) → Gets a xs b → Gets b ys c → Gets a (xs ++ ys) c
+gets_more a b c xs ys first more = record {
+  waits = λ before w. subst (Waits c) (append_assoc before xs ys) (more.waits (before ++ xs) (first.waits before w));
+  room = λ count r.
+      let all : length (xs ++ ys) + count ≡ length xs + (length ys + count) = omega (arith, length-append xs ys) in
+      more.room count (first.room (length ys + count) (subst (HasRoom a) all r));
+}

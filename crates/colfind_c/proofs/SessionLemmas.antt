@@ -1,12 +1,13 @@
 -- A session before and after a call of its search.
-use Rattle.std.proofs.Common.{◌≡◌, ◌∙◌, ℕ, ◌+◌, ◌≤◌, List, [], ◌++◌, length, min, take, drop, refl, sym, ap, subst, append_assoc, append-nil, take-add, arith, false, Some, None}
+use Rattle.std.proofs.Common.{◌≡◌, ◌∙◌, ℕ, ◌+◌, ◌-◌, ◌≤◌, List, [], ◌++◌, length, min, take, drop, refl, sym, ap, subst, append_assoc, append-nil, take-add, arith, true, false, Some, None}
 use Rattle.std.proofs.lemmas.List.{take-append-drop}
-use Rattle.std.specs.Prelude.{Result, Ok, Err, Option, IsSome, is_some, MatchResult}
+use Rattle.std.specs.Prelude.{Result, Ok, Err, Option, IsSome, OnOk, is_some, is_err, MatchResult}
 use Rattle.std.specs.Arc.{arc_value}
 use Rattle.collation_table.specs.declared.table.Table.{Table}
 use Rattle.collation_table.specs.contracts.table.TableWeights.TheImpl.{ghosts as weights}
 use Rattle.collation_matches.specs.declared.faults.TextFault.{TextFault}
 use Rattle.collation_matches.specs.declared.select.Select.{Select}
+use Rattle.collation_states.specs.declared.faults.StateFault.{StateFault}
 use Rattle.collation_matches.specs.Sought.{Sought, IsCompiledFrom, answer_to, settled_in}
 use Rattle.collation_matches.specs.GoodPrefix.{whole}
 use Rattle.collation_search.specs.declared.parking.Parked.{Parked}
@@ -16,11 +17,13 @@ use Rattle.colfind_c.specs.declared.owned.Session.{Session}
 use Rattle.colfind_c.specs.declared.queue.Queue.{Queue}
 use Rattle.colfind_c.specs.declared.queue.Range.{Range}
 use Rattle.colfind_c.specs.declared.outcome.Outcome.{Outcome}
-use Rattle.colfind_c.specs.declared.outcome.Outcome.TheVariants.{Good, Table as TableFile, Pattern, Text, State, NoMemory, Partly, WrongHandle, Ended, Short, BadArgument, Lost}
+use Rattle.colfind_c.specs.declared.outcome.Outcome.TheVariants.{Good, Table as TableFile, Pattern, Text, State, NoMemory, Partly, WrongHandle, Ended, Short, BadArgument}
 use Rattle.colfind_c.specs.Queries.{table_of, sought_with}
-use Rattle.colfind_c.specs.Queues.{pairs, waiting, Waits}
-use Rattle.colfind_c.specs.Parkings.{FeedsParked, FinishesParked}
-use Rattle.colfind_c.specs.Sessions.{sought_of, HasFed, KeepsFed, FeedsSession, FeedsPart, FinishesSession, StopsSession, SavesSession, TakesRanges}
+use Rattle.colfind_c.specs.Queues.{pairs, waiting, HasRoom, Gets}
+use Rattle.colfind_c.specs.Parkings.{FeedsParked, FinishesParked, most_found_late}
+use Rattle.collation_matches.specs.Offsets.{answer_from}
+use Rattle.collation_search.specs.Indexing.{first_range}
+use Rattle.colfind_c.specs.Sessions.{sought_of, HasFed, KeepsFed, HasBegunAgain, FeedsSession, FeedsPart, FinishesSession, StopsSession, FirstInSession, SavesSession, TakesRanges}
 
 abbrev value_or : Parked → Option Parked → Parked
 value_or p None = p
@@ -32,6 +35,11 @@ same_value p x e = ap (value_or p) e
 abbrev IsGood : Outcome → Type 0
 IsGood Good = Unit {0}
 IsGood _ = ⊥
+
+-- what holds where a result is good
+pub when_ok : {A E P : Type 0} (r : Result A E) → is_err r ≡ false → OnOk r P → P
+when_ok (Ok a) good p = p
+when_ok (Err e) good p = cc
 
 -- what is looked for, seen through the references
 pub seen_with : (q x : Query) (t : Table) (select : Select) → x ≡ q → t ≡ arc_value x.table
@@ -104,76 +112,124 @@ module _ (s : Session) (p : Parked) (q : Query) (t : Table) (is : s.parked ≡ S
       (subst (λ x. HasParked (sought_of s) x u (given ++ waiting s.queue)) (same_value h.parked p (sym h.held ∙ is)) h.stands)
 
   module _ (queue1 queue2 : Queue) (found : List (ℕ × ℕ)) (kept : (queue1.lost ≡ s.queue.lost) × (waiting queue1 ≡ waiting s.queue))
-      (put : (before : List (ℕ × ℕ)) → Waits queue1 before → Waits queue2 (before ++ found)) (good : queue2.lost ≡ false) where
-    waits_after : (given : List (ℕ × ℕ)) → (given ++ waiting s.queue) ++ found ≡ given ++ waiting queue2
-    waits_after given = append_assoc given (waiting s.queue) found ∙ ap (λ xs. given ++ xs) (sym ((put (waiting s.queue) (record { kept = λ _. kept.1 })).kept good))
+      (gets : Gets queue1 found queue2) where
+    -- all found room
+    pub all_kept : (count : ℕ) → (s.queue.lost ≡ false → HasRoom queue1 count) → length found ≤ count → queue2.lost ≡ false
+    all_kept count room few =
+        let all : count ≡ length found + (count - length found) = omega (arith, few) in
+        (gets.room (count - length found) (subst (HasRoom queue1) all (room (s.kept p is)))).kept
 
-    pub session_fed : (part : List ℕ) (before : ℕ) (r : Result (Unit {0}) TextFault) (p2 : Parked) (new : Session) → FeedsParked seen p part r found p2
-        → new.query ≡ s.query → new.select ≡ s.select → new.parked ≡ Some p2 → new.queue ≡ queue2
-        → MatchResult r (λ _. FeedsPart s part before Good new) (λ f. FeedsPart s part before (Text f) new)
-    session_fed part before (Ok a) p2 new fed eq es ep e2 = let same : sought_of new ≡ sought_of s = same_sought s new eq es in record {
+    -- a range that found none is one of no text
+    pub session_lost : (part : List ℕ) (before : ℕ) (r : Result (Unit {0}) TextFault) (p2 : Parked) (f : StateFault) (new : Session) → FeedsParked seen p part r found p2
+        → (s.queue.lost ≡ false → HasRoom queue1 (length part + most_found_late)) → queue2.lost ≡ true → f.kind ≡ 51
+        → new.query ≡ s.query → new.select ≡ s.select → new.parked ≡ None → FeedsPart s part before (State f) new
+    session_lost part before r p2 f new fed room lost kind eq es ep = record {
       fed = (
-        ap is_some ep,
-        λ u given h. record {
-          parked = p2;
-          held = ep;
-          kept = ap (λ x. x.lost) e2 ∙ good;
-          stands = subst (λ z. HasParked z p2 (u ++ part) (given ++ waiting new.queue)) (seen_is ∙ sym same)
-              (subst (λ xs. HasParked seen p2 (u ++ part) xs) (waits_after given ∙ ap (λ x. given ++ waiting x) (sym e2)) (fed.stands u (given ++ waiting s.queue) (parked_has u given h)));
-        },
-      );
-      same = same;
-    }
-    session_fed part before (Err f) p2 new fed eq es ep e2 = record {
-      fed = λ more text u given compiled h.
-          subst (λ bytes. answer_to (sought_of s) text bytes ≡ record { ranges = given ++ waiting new.queue; fault = Some f }) (append_assoc u part more)
-          (subst (λ z. answer_to z text ((u ++ part) ++ more) ≡ record { ranges = given ++ waiting new.queue; fault = Some f }) seen_is
-          (subst (λ xs. answer_to seen text ((u ++ part) ++ more) ≡ record { ranges = xs; fault = Some f }) (waits_after given ∙ ap (λ x. given ++ waiting x) (sym e2))
-          (fed.answer text u more (given ++ waiting s.queue) (subst (λ z. IsCompiledFrom z text) (sym seen_is) compiled) (parked_has u given h))));
-      same = same_sought s new eq es;
-    }
-
-    answered : (fault : Option TextFault) (new : Session) (text u : List ℕ) (given : List (ℕ × ℕ)) → new.queue ≡ queue2
-        → answer_to seen text u ≡ record { ranges = (given ++ waiting s.queue) ++ found; fault = fault }
-        → answer_to (sought_of s) text (u ++ []) ≡ record { ranges = given ++ waiting new.queue; fault = fault }
-    answered fault new text u given e2 is =
-        subst (λ bytes. answer_to (sought_of s) text bytes ≡ record { ranges = given ++ waiting new.queue; fault = fault }) (sym (append-nil u))
-        (subst (λ z. answer_to z text u ≡ record { ranges = given ++ waiting new.queue; fault = fault }) seen_is
-        (subst (λ xs. answer_to seen text u ≡ record { ranges = xs; fault = fault }) (waits_after given ∙ ap (λ x. given ++ waiting x) (sym e2)) is))
-
-    pub session_finished : (r : Result (Unit {0}) TextFault) (new : Session) → FinishesParked seen p r found
-        → new.query ≡ s.query → new.select ≡ s.select → new.parked ≡ None → new.queue ≡ queue2
-        → MatchResult r (λ _. FinishesSession s Good new) (λ f. FinishesSession s (Text f) new)
-    session_finished (Ok a) new done eq es ep e2 = record {
-      finished = (
-        ep,
-        λ text u given compiled h. answered None new text u given e2
-            (done.good text u (given ++ waiting s.queue) (subst (λ z. IsCompiledFrom z text) (sym seen_is) compiled) (parked_has u given h)),
-      );
-      same = same_sought s new eq es;
-    }
-    session_finished (Err f) new done eq es ep e2 = record {
-      finished = (
-        ep,
-        λ text u given compiled h. answered (Some f) new text u given e2
-            (done.bad text u (given ++ waiting s.queue) (subst (λ z. IsCompiledFrom z text) (sym seen_is) compiled) (parked_has u given h)),
-      );
-      same = same_sought s new eq es;
-    }
-
-    pub session_stopped : (new : Session)
-        → ((text u : List ℕ) (handed : List (ℕ × ℕ)) → IsCompiledFrom seen text → HasParked seen p u handed → handed ++ found ≡ settled_in seen text (whole u))
-        → new.query ≡ s.query → new.select ≡ s.select → new.parked ≡ None → new.queue ≡ queue2 → StopsSession s Good new
-    session_stopped new done eq es ep e2 = record {
-      stopped = (
+        kind,
         ep,
         λ text u given compiled h.
-            subst (λ z. given ++ waiting new.queue ≡ settled_in z text (whole u)) seen_is
-            (subst (λ xs. xs ≡ settled_in seen text (whole u)) (waits_after given ∙ ap (λ x. given ++ waiting x) (sym e2))
-            (done text u (given ++ waiting s.queue) (subst (λ z. IsCompiledFrom z text) (sym seen_is) compiled) (parked_has u given h))),
+            let few = fed.few text u (given ++ waiting s.queue) (subst (λ z. IsCompiledFrom z text) (sym seen_is) compiled) (parked_has u given h) in
+            let clash : true ≡ false = sym lost ∙ all_kept (length part + most_found_late) room few in cc,
       );
       same = same_sought s new eq es;
     }
+
+    module _ (good : queue2.lost ≡ false) where
+      waits_after : (given : List (ℕ × ℕ)) → (given ++ waiting s.queue) ++ found ≡ given ++ waiting queue2
+      waits_after given = append_assoc given (waiting s.queue) found ∙ ap (λ xs. given ++ xs) (sym ((gets.waits (waiting s.queue) (record { kept = λ _. kept.1 })).kept good))
+
+      pub session_fed : (part : List ℕ) (before : ℕ) (r : Result (Unit {0}) TextFault) (p2 : Parked) (new : Session) → FeedsParked seen p part r found p2
+          → new.query ≡ s.query → new.select ≡ s.select → new.parked ≡ Some p2 → new.queue ≡ queue2
+          → MatchResult r (λ _. FeedsPart s part before Good new) (λ f. FeedsPart s part before (Text f) new)
+      session_fed part before (Ok a) p2 new fed eq es ep e2 = let same : sought_of new ≡ sought_of s = same_sought s new eq es in record {
+        fed = (
+          ap is_some ep,
+          λ u given h. record {
+            parked = p2;
+            held = ep;
+            kept = ap (λ x. x.lost) e2 ∙ good;
+            stands = subst (λ z. HasParked z p2 (u ++ part) (given ++ waiting new.queue)) (seen_is ∙ sym same)
+                (subst (λ xs. HasParked seen p2 (u ++ part) xs) (waits_after given ∙ ap (λ x. given ++ waiting x) (sym e2)) (fed.stands u (given ++ waiting s.queue) (parked_has u given h)));
+          },
+        );
+        same = same;
+      }
+      session_fed part before (Err f) p2 new fed eq es ep e2 = record {
+        fed = λ more text u given compiled h.
+            subst (λ bytes. answer_to (sought_of s) text bytes ≡ record { ranges = given ++ waiting new.queue; fault = Some f }) (append_assoc u part more)
+            (subst (λ z. answer_to z text ((u ++ part) ++ more) ≡ record { ranges = given ++ waiting new.queue; fault = Some f }) seen_is
+            (subst (λ xs. answer_to seen text ((u ++ part) ++ more) ≡ record { ranges = xs; fault = Some f }) (waits_after given ∙ ap (λ x. given ++ waiting x) (sym e2))
+            (fed.answer text u more (given ++ waiting s.queue) (subst (λ z. IsCompiledFrom z text) (sym seen_is) compiled) (parked_has u given h))));
+        same = same_sought s new eq es;
+      }
+
+      answered : (fault : Option TextFault) (new : Session) (text u : List ℕ) (given : List (ℕ × ℕ)) → new.queue ≡ queue2
+          → answer_to seen text u ≡ record { ranges = (given ++ waiting s.queue) ++ found; fault = fault }
+          → answer_to (sought_of s) text (u ++ []) ≡ record { ranges = given ++ waiting new.queue; fault = fault }
+      answered fault new text u given e2 is =
+          subst (λ bytes. answer_to (sought_of s) text bytes ≡ record { ranges = given ++ waiting new.queue; fault = fault }) (sym (append-nil u))
+          (subst (λ z. answer_to z text u ≡ record { ranges = given ++ waiting new.queue; fault = fault }) seen_is
+          (subst (λ xs. answer_to seen text u ≡ record { ranges = xs; fault = fault }) (waits_after given ∙ ap (λ x. given ++ waiting x) (sym e2)) is))
+
+      pub session_finished : (r : Result (Unit {0}) TextFault) (new : Session) → FinishesParked seen p r found
+          → new.query ≡ s.query → new.select ≡ s.select → new.parked ≡ None → new.queue ≡ queue2
+          → MatchResult r (λ _. FinishesSession s Good new) (λ f. FinishesSession s (Text f) new)
+      session_finished (Ok a) new done eq es ep e2 = record {
+        finished = (
+          ep,
+          λ text u given compiled h. answered None new text u given e2
+              (done.good text u (given ++ waiting s.queue) (subst (λ z. IsCompiledFrom z text) (sym seen_is) compiled) (parked_has u given h)),
+        );
+        same = same_sought s new eq es;
+      }
+      session_finished (Err f) new done eq es ep e2 = record {
+        finished = (
+          ep,
+          λ text u given compiled h. answered (Some f) new text u given e2
+              (done.bad text u (given ++ waiting s.queue) (subst (λ z. IsCompiledFrom z text) (sym seen_is) compiled) (parked_has u given h)),
+        );
+        same = same_sought s new eq es;
+      }
+
+      pub session_stopped : (new : Session)
+          → ((text u : List ℕ) (handed : List (ℕ × ℕ)) → IsCompiledFrom seen text → HasParked seen p u handed → handed ++ found ≡ settled_in seen text (whole u))
+          → new.query ≡ s.query → new.select ≡ s.select → new.parked ≡ None → new.queue ≡ queue2 → StopsSession s Good new
+      session_stopped new done eq es ep e2 = record {
+        stopped = (
+          ep,
+          λ text u given compiled h.
+              subst (λ z. given ++ waiting new.queue ≡ settled_in z text (whole u)) seen_is
+              (subst (λ xs. xs ≡ settled_in seen text (whole u)) (waits_after given ∙ ap (λ x. given ++ waiting x) (sym e2))
+              (done text u (given ++ waiting s.queue) (subst (λ z. IsCompiledFrom z text) (sym seen_is) compiled) (parked_has u given h))),
+        );
+        same = same_sought s new eq es;
+      }
+
+  -- a search that looked for the first range is at the beginning of a text
+  module _ (text : List ℕ) (from : ℕ) (result : Result (Option (ℕ × ℕ)) TextFault) (p2 : Parked) (new : Session)
+      (first : (t : List ℕ) → IsCompiledFrom seen t → result ≡ first_range (answer_from seen t text from).ranges (answer_from seen t text from).fault)
+      (stands : HasParked seen p2 [] []) (within : from ≤ length text)
+      (eq2 : new.query ≡ s.query) (es2 : new.select ≡ s.select) (ep : new.parked ≡ Some p2) (lost : new.queue.lost ≡ s.queue.lost) (none : waiting new.queue ≡ []) where
+    begun_again : HasBegunAgain new
+    begun_again = (
+      record {
+        parked = p2;
+        held = ep;
+        kept = lost ∙ s.kept p is;
+        stands = subst (λ xs. HasParked (sought_of new) p2 [] xs) (sym none) (subst (λ z. HasParked z p2 [] []) (seen_is ∙ sym (same_sought s new eq2 es2)) stands);
+      },
+      none,
+    )
+
+    answered_first : (t : List ℕ) → IsCompiledFrom (sought_of s) t → result ≡ first_range (answer_from (sought_of s) t text from).ranges (answer_from (sought_of s) t text from).fault
+    answered_first t compiled = subst (λ z. result ≡ first_range (answer_from z t text from).ranges (answer_from z t text from).fault) seen_is
+        (first t (subst (λ z. IsCompiledFrom z t) (sym seen_is) compiled))
+
+    pub first_found : (range : Option (ℕ × ℕ)) → result ≡ Ok range → FirstInSession s text from range Good new
+    first_found range ok = record { first = (within, begun_again, λ t c. sym ok ∙ answered_first t c); same = same_sought s new eq2 es2 }
+
+    pub first_failed : (f : TextFault) → result ≡ Err f → FirstInSession s text from None (Text f) new
+    first_failed f err = record { first = (within, begun_again, refl, λ t c. sym err ∙ answered_first t c); same = same_sought s new eq2 es2 }
 
   -- a search that was saved has parked what it had
   pub session_saved : (p2 : Parked) (new : Session)
@@ -236,13 +292,15 @@ module _ (old here : Session) (piece : List ℕ) (at : ℕ) (begun : HasBegun ol
     fed = λ u given h. subst (λ k. HasFed new (u ++ take k piece) given) (sym fed.fed.0) (fed.fed.1 (u ++ take at piece) given (begun.fed u given h));
     same = fed.same ∙ begun.same;
   }
-  part_failed part rest e Lost new fed bad = record { fed = tt; same = fed.same ∙ begun.same }
   part_failed part rest e Ended new fed bad = absurd fed.fed
   part_failed part rest e NoMemory new fed bad = absurd fed.fed
   part_failed part rest e WrongHandle new fed bad = absurd fed.fed
   part_failed part rest e BadArgument new fed bad = absurd fed.fed
   part_failed part rest e (Short n) new fed bad = absurd fed.fed
-  part_failed part rest e (State f) new fed bad = absurd fed.fed
+  part_failed part rest e (State f) new fed bad = record {
+    fed = (fed.fed.0, fed.fed.1, λ text u given compiled h. fed.fed.2 text (u ++ take at piece) given (compiled_here text compiled) (begun.fed u given h));
+    same = fed.same ∙ begun.same;
+  }
   part_failed part rest e (Pattern f) new fed bad = absurd fed.fed
   part_failed part rest e (TableFile f) new fed bad = absurd fed.fed
 
@@ -255,7 +313,6 @@ module _ (old here : Session) (piece : List ℕ) (at : ℕ) (begun : HasBegun ol
   }
   part_last part e (Text f) new fed = part_failed part [] (e ∙ sym (append-nil part)) (Text f) new fed (λ is. absurd (subst IsGood (sym is) tt))
   part_last part e (Partly n) new fed = part_failed part [] (e ∙ sym (append-nil part)) (Partly n) new fed (λ is. absurd (subst IsGood (sym is) tt))
-  part_last part e Lost new fed = part_failed part [] (e ∙ sym (append-nil part)) Lost new fed (λ is. absurd (subst IsGood (sym is) tt))
   part_last part e Ended new fed = part_failed part [] (e ∙ sym (append-nil part)) Ended new fed (λ is. absurd (subst IsGood (sym is) tt))
   part_last part e NoMemory new fed = part_failed part [] (e ∙ sym (append-nil part)) NoMemory new fed (λ is. absurd (subst IsGood (sym is) tt))
   part_last part e WrongHandle new fed = part_failed part [] (e ∙ sym (append-nil part)) WrongHandle new fed (λ is. absurd (subst IsGood (sym is) tt))

@@ -1,5 +1,5 @@
 -- What the calls of the library do, over what a handle held before and holds after them.
-use Rattle.std.specs.Prelude.{◌≡◌, ◌⊎◌, ◌≢◌, ℕ, ◌==◌, List, [], ◌++◌, length, drop, if◌then◌else◌, Option, None, Some, Result, Ok, Err, MatchResult}
+use Rattle.std.specs.Prelude.{◌≡◌, ◌⊎◌, ◌≢◌, ℕ, ◌<◌, ◌≤◌, ◌==◌, List, [], ◌++◌, length, drop, if◌then◌else◌, Option, None, Some, Result, Ok, Err, MatchResult}
 use Rattle.std.specs.Str.{IsUtf8}
 use Rattle.std.specs.Arc.{arc_value}
 use Rattle.std.specs.declared.alloc.Global.{Global}
@@ -16,6 +16,7 @@ use Rattle.collation_pattern.specs.PatternFaults.{pattern_fault}
 use Rattle.collation_matches.specs.declared.select.Select.{Select}
 use Rattle.collation_matches.specs.declared.select.Select.TheVariants.{All, Chain}
 use Rattle.collation_matches.specs.Sought.{IsCompiledFrom, answer_to}
+use Rattle.collation_matches.specs.Offsets.{answer_from}
 use Rattle.collation_search.specs.Indexing.{IsFirstOf}
 use Rattle.collation_search.specs.Resuming.{IsRefused}
 use Rattle.collation_search.specs.State.{sizes_of}
@@ -136,6 +137,16 @@ AnswersFirst q text range Good = (p : List ℕ) → IsCompiledFrom (sought_with 
 AnswersFirst q text range (Text f) = (range ≡ None) × ((p : List ℕ) → IsCompiledFrom (sought_with q All) p → IsFirstOf (answer_to (sought_with q All) p text) (Err f))
 AnswersFirst q text range NoMemory = range ≡ None
 AnswersFirst q text range _ = ⊥
+
+-- the same of what stands from an offset on, which is not behind the text
+abbrev pub AnswersFirstFrom : Query → List ℕ → ℕ → Option (ℕ × ℕ) → Outcome → Type 0
+AnswersFirstFrom q text from range Good = (from ≤ length text)
+    × ((p : List ℕ) → IsCompiledFrom (sought_with q All) p → IsFirstOf (answer_from (sought_with q All) p text from) (Ok range))
+AnswersFirstFrom q text from range (Text f) = (from ≤ length text) × (range ≡ None)
+    × ((p : List ℕ) → IsCompiledFrom (sought_with q All) p → IsFirstOf (answer_from (sought_with q All) p text from) (Err f))
+AnswersFirstFrom q text from range BadArgument = (length text < from) × (range ≡ None)
+AnswersFirstFrom q text from range NoMemory = range ≡ None
+AnswersFirstFrom q text from range _ = ⊥
 
 -- the range that C gets, if it gets one
 abbrev pub first_of : First → Option (ℕ × ℕ)

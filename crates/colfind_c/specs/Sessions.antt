@@ -1,5 +1,5 @@
 -- What a search of the library has done with a text.
-use Rattle.std.specs.Prelude.{◌≡◌, ℕ, List, [], ◌++◌, take, length, min, IsSome, false, Some, None, Option}
+use Rattle.std.specs.Prelude.{◌≡◌, ℕ, ◌<◌, ◌≤◌, List, [], ◌++◌, take, length, min, IsSome, false, Some, None, Option, Ok, Err}
 use Rattle.std.specs.Arc.{arc_value}
 use Rattle.collation_table.specs.declared.table.Table.{Table}
 use Rattle.collation_table.specs.contracts.table.TableWeights.TheImpl.{ghosts as weights}
@@ -12,9 +12,10 @@ use Rattle.collation_search.specs.Parking.{HasParked, parked_words}
 use Rattle.collation_search.specs.Resuming.{AreSaved}
 use Rattle.colfind_c.specs.declared.owned.Session.{Session}
 use Rattle.colfind_c.specs.declared.outcome.Outcome.{Outcome}
-use Rattle.colfind_c.specs.declared.outcome.Outcome.TheVariants.{Good, Text, NoMemory, Partly, Ended, Lost}
+use Rattle.colfind_c.specs.declared.outcome.Outcome.TheVariants.{Good, Text, NoMemory, Partly, Ended, State, BadArgument}
 use Rattle.colfind_c.specs.Queries.{sought_with}
 use Rattle.colfind_c.specs.declared.queue.Range.{Range}
+use Rattle.colfind_c.specs.Parkings.{IsFirstFrom}
 use Rattle.colfind_c.specs.Queues.{pairs, waiting}
 
 abbrev pub sought_of : Session → Sought
@@ -40,6 +41,11 @@ IsAnswered old piece fault new = (text u : List ℕ) (given : List (ℕ × ℕ))
 abbrev pub HadEnded : Session → Session → Type 0
 HadEnded old new = (old.parked ≡ None) × (new ≡ old)
 
+-- The search has ended, for the words of which it was resumed are no saved search: no text brings it about.
+abbrev pub HadNoText : Session → ℕ → Session → Type 0
+HadNoText old kind new = (kind ≡ 51) × (new.parked ≡ None)
+    × ((text u : List ℕ) (given : List (ℕ × ℕ)) → IsCompiledFrom (sought_of old) text → HasFed old u given → ⊥)
+
 -- How a piece was taken: with a fault the ranges are all of the answer, whatever follows; where memory was refused the first
 -- n bytes of the piece are taken, and the call can be made again with the others.
 abbrev pub IsFed : Session → List ℕ → Outcome → Session → Type 0
@@ -47,7 +53,7 @@ IsFed old piece Good new = (u : List ℕ) (given : List (ℕ × ℕ)) → HasFed
 IsFed old piece (Text f) new = (more : List ℕ) → IsAnswered old (piece ++ more) (Some f) new
 IsFed old piece (Partly n) new = (u : List ℕ) (given : List (ℕ × ℕ)) → HasFed old u given → HasFed new (u ++ take n piece) given
 IsFed old piece Ended new = HadEnded old new
-IsFed old piece Lost new = Unit {0}
+IsFed old piece (State f) new = HadNoText old f.kind new
 IsFed old piece _ new = ⊥
 
 -- How a text was ended: the ranges are all of its answer.
@@ -56,7 +62,6 @@ IsFinished old Good new = (new.parked ≡ None) × IsAnswered old [] None new
 IsFinished old (Text f) new = (new.parked ≡ None) × IsAnswered old [] (Some f) new
 IsFinished old NoMemory new = KeepsFed old new
 IsFinished old Ended new = HadEnded old new
-IsFinished old Lost new = Unit {0}
 IsFinished old _ new = ⊥
 
 -- How a text was given up: the ranges are the settled ones of its whole characters.
@@ -65,7 +70,6 @@ IsStopped old Good new = (new.parked ≡ None) × ((text u : List ℕ) (given : 
     → given ++ waiting new.queue ≡ settled_in (sought_of old) text (whole u))
 IsStopped old NoMemory new = KeepsFed old new
 IsStopped old Ended new = HadEnded old new
-IsStopped old Lost new = Unit {0}
 IsStopped old _ new = ⊥
 
 -- How a search was saved: it is as it was, and the words are its own.
@@ -97,7 +101,7 @@ abbrev pub IsPartFed : Session → List ℕ → ℕ → Outcome → Session → 
 IsPartFed old part before Good new = IsSome new.parked × IsFed old part Good new
 IsPartFed old part before (Text f) new = IsFed old part (Text f) new
 IsPartFed old part before (Partly n) new = (n ≡ before) × KeepsFed old new
-IsPartFed old part before Lost new = Unit {0}
+IsPartFed old part before (State f) new = HadNoText old f.kind new
 IsPartFed old part before _ new = ⊥
 
 pub record FeedsPart (old : Session) (part : List ℕ) (before : ℕ) (outcome : Outcome) (new : Session) : Type 0 where
@@ -114,4 +118,22 @@ pub record TakesRanges (old : Session) (room : ℕ) (count : ℕ) (out : List Ra
   pub most : count ≡ min room (length (waiting old.queue))
   pub oldest : waiting old.queue ≡ pairs (take count out) ++ waiting new.queue
   pub given : (u : List ℕ) (given : List (ℕ × ℕ)) → HasFed old u given → HasFed new u (given ++ pairs (take count out))
+  pub same : sought_of new ≡ sought_of old
+
+-- the search is at the beginning of a text, and no range waits
+abbrev pub HasBegunAgain : Session → Type 0
+HasBegunAgain new = HasFed new [] [] × (waiting new.queue ≡ [])
+
+-- The first range of what stands in a text from an offset on, or the fault before it; an offset behind the text is none.
+abbrev pub IsFirstIn : Session → List ℕ → ℕ → Option (ℕ × ℕ) → Outcome → Session → Type 0
+IsFirstIn old text from range Good new = (from ≤ length text) × HasBegunAgain new
+    × ((p : List ℕ) → IsCompiledFrom (sought_of old) p → IsFirstFrom (sought_of old) p text from (Ok range))
+IsFirstIn old text from range (Text f) new = (from ≤ length text) × HasBegunAgain new × (range ≡ None)
+    × ((p : List ℕ) → IsCompiledFrom (sought_of old) p → IsFirstFrom (sought_of old) p text from (Err f))
+IsFirstIn old text from range Ended new = (range ≡ None) × HadEnded old new
+IsFirstIn old text from range BadArgument new = (range ≡ None) × (length text < from) × (new ≡ old)
+IsFirstIn old text from range _ new = ⊥
+
+pub record FirstInSession (old : Session) (text : List ℕ) (from : ℕ) (range : Option (ℕ × ℕ)) (outcome : Outcome) (new : Session) : Type 0 where
+  pub first : IsFirstIn old text from range outcome new
   pub same : sought_of new ≡ sought_of old

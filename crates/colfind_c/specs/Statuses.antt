@@ -1,7 +1,7 @@
 -- The numbers of the header.
 use Rattle.colfind_c.specs.declared.outcome.Status.{Status}
 use Rattle.colfind_c.specs.declared.outcome.Outcome.{Outcome}
-use Rattle.colfind_c.specs.declared.outcome.Outcome.TheVariants.{Good, Table, Pattern, Text, State, NoMemory, Partly, WrongHandle, Ended, Short, BadArgument, Lost}
+use Rattle.colfind_c.specs.declared.outcome.Outcome.TheVariants.{Good, Table, Pattern, Text, State, NoMemory, Partly, WrongHandle, Ended, Short, BadArgument}
 
 abbrev pub status_of : Outcome → Status
 status_of Good = record { kind = 0; at = 0 }
@@ -15,4 +15,3 @@ status_of WrongHandle = record { kind = 82; at = 0 }
 status_of Ended = record { kind = 83; at = 0 }
 status_of (Short words) = record { kind = 84; at = words }
 status_of BadArgument = record { kind = 85; at = 0 }
-status_of Lost = record { kind = 86; at = 0 }

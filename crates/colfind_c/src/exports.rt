@@ -1,20 +1,20 @@
 //! What C calls. `colfind.h` says of each call what it gives, who owns what, and what C must uphold.
 
-ghost use Rattle.std.specs.Prelude.{◌≡◌, ◌≢◌, length, None, Some, Option, Ok, Err, MatchOption, MatchResult, IfOk, IfErr};
+ghost use Rattle.std.specs.Prelude.{◌≡◌, length, None, Some};
 ghost use Rattle.std.specs.Arc.{arc_value};
-ghost use Rattle.colfind_c.specs.declared.owned.Owned.TheVariants.{Table as ATable, Pattern as APattern};
-ghost use Rattle.colfind_c.specs.declared.outcome.Outcome.TheVariants.{Good, NoMemory, WrongHandle};
-ghost use Rattle.colfind_c.specs.Exports.{Says, OfTable, OfPattern, OfSearch, MakesTable, MakesPattern, StartsSearch, GoesOnFrom, AnswersFirst, TakesOldest, SavesInto, SharesTable, SharesQuery, IsGiven, GivesTable, GivesPattern, IsCompiled, strength_for, variable_for, select_for, pending, first_of};
-ghost use Rattle.colfind_c.specs.Sessions.{FeedsSession, FinishesSession, StopsSession, SavesSession};
+ghost use Rattle.colfind_c.specs.Exports.{Says, OfTable, OfPattern, OfSearch, MakesTable, MakesPattern, StartsSearch, GoesOnFrom, AnswersFirst, AnswersFirstFrom, TakesOldest, SavesInto, SharesTable, SharesQuery, IsGiven, GivesTable, GivesPattern, IsCompiled, strength_for, variable_for, select_for, pending, first_of};
+ghost use Rattle.colfind_c.specs.Messages.{as_text, message};
+ghost use Rattle.colfind_c.specs.Sessions.{FeedsSession, FinishesSession, StopsSession, FirstInSession};
 ghost use Rattle.colfind_c.specs.Statuses.{status_of};
 
 use crate::handle::{Handle, put, take};
+use crate::message::write_text;
 use crate::outcome::{Outcome, Status};
 use crate::owned::{Owned, Query, Session};
 use crate::queue::Range;
 use collation_elements::{Strength, Variable};
 use collation_pattern::Pattern;
-use collation_search::{Select, index};
+use collation_search::{Select, index, index_from};
 use collation_table::Table;
 use std::alloc::Global;
 use std::sync::Arc;
@@ -521,6 +521,86 @@ pub extern "C" fn colfind_index(alloc: Global, pattern: &mut Handle, text: &[u8]
         }
         Err(outcome) => first_with(outcome, None),
     }
+}
+
+/// The first range for a pattern of what stands in a text from an offset on, which is not behind the text.
+fn first_from(
+    alloc: Global,
+    query: &Query,
+    text: &[u8],
+    from: usize,
+) -> (Outcome, Option<(u64, u64)>)
+    ensures { AnswersFirstFrom query.now text.now from result.1 result.0 }
+{
+    if from > text.len() {
+        return (Outcome::BadArgument, None);
+    }
+    match index_from(alloc, &*query.table, &query.pattern, text, from) {
+        Ok(found) => (Outcome::Good, found),
+        Err(fault) => (Outcome::Text(fault), None),
+    }
+}
+
+/// The first range of what stands in a text from an offset on; its own offsets are from the beginning of the text.
+#[unsafe(no_mangle)]
+pub extern "C" fn colfind_index_from(
+    alloc: Global,
+    pattern: &mut Handle,
+    text: &[u8],
+    from: usize,
+) -> First
+    ensures first { Says result.status (λ outcome. OfPattern (λ q how. AnswersFirstFrom q text.now from (first_of result) how) pattern.old.value outcome) }
+    ensures same { pattern.new.value ≡ pattern.old.value }
+{
+    match query_of(alloc, pattern) {
+        Ok(query) => {
+            let (outcome, found) = first_from(alloc, &*query, text, from);
+            first_with(outcome, found)
+        }
+        Err(outcome) => first_with(outcome, None),
+    }
+}
+
+/// The first range for what a handle holds of what stands in a text from an offset on.
+fn first_owned(owned: &mut Owned, text: &[u8], from: usize) -> (Outcome, Option<(u64, u64)>)
+    ensures first { OfSearch (λ old how new. FirstInSession old text.now from result.1 how new) (Some owned.old) result.0 (Some owned.new) }
+{
+    match owned {
+        Owned::Search(session) => session.first_in(text, from),
+        _ => (Outcome::WrongHandle, None),
+    }
+}
+
+/// The first range of what stands in a text from an offset on, found by a search that was made before.
+#[unsafe(no_mangle)]
+pub extern "C" fn colfind_first_in(
+    alloc: Global,
+    search: &mut Handle,
+    text: &[u8],
+    from: usize,
+) -> First
+    ensures first { Says result.status (λ outcome. OfSearch (λ old how new. FirstInSession old text.now from (first_of result) how new) search.old.value outcome search.new.value) }
+{
+    match take(alloc, search) {
+        Some(mut owned) => {
+            let (outcome, found) = first_owned(&mut *owned, text, from);
+            put(alloc, search, owned);
+            first_with(outcome, found)
+        }
+        None => first_with(Outcome::WrongHandle, None),
+    }
+}
+
+/// Writes what a status says as text, with a zero byte behind it, or the front of it where the buffer is too small: how many bytes the
+/// whole text has, without the zero byte.
+#[unsafe(no_mangle)]
+pub extern "C" fn colfind_message(status: Status, out: &mut [u8]) -> usize
+    ensures written { out.new ≡ as_text (message status) out.old }
+    ensures len { result ≡ length (message status) }
+{
+    let text = status.message();
+    write_text(text.as_bytes(), out);
+    text.len()
 }
 
 /// Lets go of what a handle holds, if it holds anything.

@@ -4,6 +4,7 @@
 mod exports;
 mod handle;
 mod loose;
+mod message;
 mod outcome;
 mod owned;
 mod parked;

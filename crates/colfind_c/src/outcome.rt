@@ -26,7 +26,7 @@ pub enum Outcome {
     Pattern(PatternFault),
     /// The text that is searched has a fault.
     Text(TextFault),
-    /// Words are not resumed.
+    /// Words are no saved search.
     State(StateFault),
     /// Memory was refused, and all is as it was.
     NoMemory,
@@ -38,10 +38,8 @@ pub enum Outcome {
     Ended,
     /// There is no room for so many words.
     Short(u64),
-    /// A number is none of those that were asked for, or a pattern is no UTF-8.
+    /// A number is none of those that were asked for, a pattern is no UTF-8, or an offset stands behind the text.
     BadArgument,
-    /// Memory for a range was refused within a piece, and the search has ended.
-    Lost,
 }
 
 impl Outcome {
@@ -61,7 +59,6 @@ impl Outcome {
             Outcome::Ended => (83, 0),
             Outcome::Short(words) => (84, words),
             Outcome::BadArgument => (85, 0),
-            Outcome::Lost => (86, 0),
         };
         Status { kind, at }
     }

@@ -1,6 +1,6 @@
 //! What a handle holds.
 
-ghost use Rattle.std.specs.Prelude.{◌≡◌};
+ghost use Rattle.std.specs.Prelude.{◌≡◌, false};
 ghost use Rattle.std.specs.Arc.{arc_value};
 ghost use Rattle.std.specs.Option.{ForSome};
 ghost use Rattle.colfind_c.specs.Queries.{table_of};
@@ -28,6 +28,7 @@ pub struct Session {
     pub(crate) parked: Option<Parked>,
     pub(crate) queue: Queue,
     ghost fits: { ForSome parked (λ p. IsFor (table_of (arc_value query)) (arc_value query).pattern p × (parked_select p ≡ select)) },
+    ghost kept: { ForSome parked (λ _. queue.lost ≡ false) },
 }
 
 /// What a handle holds: a table, a pattern or a search.

@@ -1,18 +1,21 @@
 //! Calls of a search that is put away before and after them.
 
-ghost use Rattle.std.specs.Prelude.{◌≡◌, ℕ, List, ◌++◌, None, Some, OnOk};
+ghost use Rattle.std.specs.Prelude.{◌≡◌, ℕ, ◌+◌, ◌≤◌, List, [], ◌++◌, length, None, Some, OnOk};
 ghost use Rattle.collation_matches.specs.Sought.{IsCompiledFrom, answer_to, settled_in};
 ghost use Rattle.collation_matches.specs.GoodPrefix.{whole};
+ghost use Rattle.collation_search.specs.declared.matching.TheConstants.{MOST_FOUND};
 ghost use Rattle.collation_search.specs.Feeding.{Feeds};
+ghost use Rattle.collation_search.specs.Search.{sought, HasSearched};
 ghost use Rattle.collation_search.specs.Parking.{IsFor, HasParked, parked_select, parked_words};
-ghost use Rattle.colfind_c.specs.Parkings.{FeedsParked, FinishesParked};
-ghost use Rattle.colfind_c.specs.Queues.{Waits};
+ghost use Rattle.colfind_c.specs.Parkings.{FeedsParked, FinishesParked, IsFirstFrom, most_found_late};
+ghost use Rattle.colfind_c.specs.Queues.{Gets};
 
 use crate::queue::Queue;
 use collation_pattern::Pattern;
 use collation_search::{Found, Parked, Search, TextFault};
 use collation_table::Weights;
 use std::alloc::AllocError;
+use utf8_cut::whole_characters_are_the_longest_text;
 
 /// Feeds a piece to a search, and puts the ranges that became known into the queue.
 fn search_piece<'a, W: Weights>(
@@ -20,10 +23,15 @@ fn search_piece<'a, W: Weights>(
     piece: &[u8],
     queue: &mut Queue,
 ) -> Result<(), TextFault>
-    ensures fed { (found : List (ℕ × ℕ)) × Feeds search.old piece.now result found search.new
-        × ((before : List (ℕ × ℕ)) → Waits queue.old before → Waits queue.new (before ++ found)) }
+    ensures fed { (found : List (ℕ × ℕ)) × Feeds search.old piece.now result found search.new × Gets queue.old found queue.new
+        × ((text u : List ℕ) (handed : List (ℕ × ℕ)) → IsCompiledFrom (sought search.old) text → HasSearched search.old u handed
+        → length found ≤ length piece.now + most_found_late) }
 {
-    search.feed(piece, &mut |start, end| queue.put(start, end))
+    whole_characters_are_the_longest_text();
+    search.has_handed_out();
+    let fed = search.feed(piece, &mut |start, end| queue.put(start, end));
+    search.has_handed_out();
+    fed
 }
 
 /// Feeds a piece to a search that was put away, and puts the ranges that became known into the queue.
@@ -38,11 +46,32 @@ pub(crate) fn feed_parked<W: Weights>(
     ensures fits { IsFor (W.table table.now) pattern.now result.1 }
     ensures select { parked_select result.1 ≡ parked_select parked }
     ensures fed { (found : List (ℕ × ℕ)) × FeedsParked (record { table = W.table table.now; pattern = pattern.now; select = parked_select parked }) parked piece.now result.0 found result.1
-        × ((before : List (ℕ × ℕ)) → Waits queue.old before → Waits queue.new (before ++ found)) }
+        × Gets queue.old found queue.new }
 {
     let mut search = parked.unpark(table, pattern);
     let fed = search_piece(&mut search, piece, queue);
     (fed, search.park())
+}
+
+/// The first range of what stands in a text from an offset on, found by a search that was put away, which is then at the beginning of a
+/// text.
+pub(crate) fn first_parked<W: Weights>(
+    table: &W,
+    pattern: &Pattern,
+    parked: Parked,
+    text: &[u8],
+    from: usize,
+) -> (Result<Option<(u64, u64)>, TextFault>, Parked)
+    requires fits { IsFor (W.table table.now) pattern.now parked }
+    ensures fits { IsFor (W.table table.now) pattern.now result.1 }
+    ensures select { parked_select result.1 ≡ parked_select parked }
+    ensures first { (p : List ℕ) → IsCompiledFrom (record { table = W.table table.now; pattern = pattern.now; select = parked_select parked }) p
+        → IsFirstFrom (record { table = W.table table.now; pattern = pattern.now; select = parked_select parked }) p text.now from result.0 }
+    ensures stands { HasParked (record { table = W.table table.now; pattern = pattern.now; select = parked_select parked }) result.1 [] [] }
+{
+    let mut search = parked.unpark(table, pattern);
+    let first = search.first_from(text, from);
+    (first, search.park())
 }
 
 /// Ends the text of a search that was put away, and puts the rest of the ranges into the queue.
@@ -54,7 +83,7 @@ pub(crate) fn finish_parked<W: Weights>(
 ) -> Result<(), TextFault>
     requires fits { IsFor (W.table table.now) pattern.now parked }
     ensures finished { (found : List (ℕ × ℕ)) × FinishesParked (record { table = W.table table.now; pattern = pattern.now; select = parked_select parked }) parked result found
-        × ((before : List (ℕ × ℕ)) → Waits queue.old before → Waits queue.new (before ++ found)) }
+        × Gets queue.old found queue.new × (length found ≤ MOST_FOUND) }
 {
     let search = parked.unpark(table, pattern);
     let mut found = Found::new();
@@ -74,7 +103,7 @@ pub(crate) fn stop_parked<W: Weights>(
     ensures settled { (found : List (ℕ × ℕ)) × ((text u : List ℕ) (handed : List (ℕ × ℕ)) → IsCompiledFrom (record { table = W.table table.now; pattern = pattern.now; select = parked_select parked }) text
         → HasParked (record { table = W.table table.now; pattern = pattern.now; select = parked_select parked }) parked u handed
         → handed ++ found ≡ settled_in (record { table = W.table table.now; pattern = pattern.now; select = parked_select parked }) text (whole u))
-        × ((before : List (ℕ × ℕ)) → Waits queue.old before → Waits queue.new (before ++ found)) }
+        × Gets queue.old found queue.new × (length found ≤ MOST_FOUND) }
 {
     let search = parked.unpark(table, pattern);
     let mut found = Found::new();

@@ -24,7 +24,7 @@ pub struct Queue {
 
 impl Queue {
     ghost use Rattle.std.specs.Prelude.{◌≡◌, ◌+◌, ◌-◌, ◌≤◌, ℕ, List, ◌∷◌, [], ◌++◌, length, take, drop, min, OnOk, false};
-    ghost use Rattle.colfind_c.specs.Queues.{Waits, waiting, pairs};
+    ghost use Rattle.colfind_c.specs.Queues.{Waits, HasRoom, Gets, waiting, pairs};
 
     /// An empty queue.
     pub(crate) fn new(alloc: Global) -> Queue
@@ -40,7 +40,7 @@ impl Queue {
 
     /// Puts a range at the end.
     pub(crate) fn put(&mut self, start: u64, end: u64)
-        ensures { (before : List (ℕ × ℕ)) → Waits self.old before → Waits self.new (before ++ (start, end) ∷ []) }
+        ensures { Gets self.old ((start, end) ∷ []) self.new }
     {
         if self.ranges.push(Range { start, end }).is_err() {
             self.lost = true;
@@ -49,7 +49,7 @@ impl Queue {
 
     /// Puts ranges at the end, in order.
     pub(crate) fn put_all(&mut self, ranges: &[(u64, u64)])
-        ensures { (before : List (ℕ × ℕ)) → Waits self.old before → Waits self.new (before ++ ranges.now) }
+        ensures { Gets self.old ranges.now self.new }
     {
         for (start, end) in ranges {
             self.put(*start, *end);
@@ -62,10 +62,19 @@ impl Queue {
     ///
     /// Where memory was refused.
     pub(crate) fn reserve(&mut self, count: usize) -> Result<(), AllocError>
-        ensures waits { (before : List (ℕ × ℕ)) → Waits self.old before → Waits self.new before }
         ensures same { (self.new.lost ≡ self.old.lost) × (waiting self.new ≡ waiting self.old) }
+        ensures room { OnOk result (self.old.lost ≡ false → HasRoom self.new count) }
     {
         self.ranges.reserve(count)
+    }
+
+    /// Drops the ranges that wait.
+    pub(crate) fn clear(&mut self)
+        ensures empty { waiting self.new ≡ [] }
+        ensures lost { self.new.lost ≡ self.old.lost }
+    {
+        self.taken = 0;
+        self.ranges.clear();
     }
 
     /// How many ranges wait.

@@ -2,16 +2,19 @@
 
 use crate::outcome::Outcome;
 use crate::owned::{Query, Session};
-use crate::parked::{feed_parked, finish_parked, save_parked, stop_parked};
+use crate::parked::{feed_parked, finish_parked, first_parked, save_parked, stop_parked};
 use crate::queue::{Queue, Range};
 use collation_search::{MOST_FOUND, Search, Select, StateFault};
 use std::alloc::{AllocError, Global};
 use std::mem::replace;
 use std::sync::Arc;
 
-/// How many bytes of a piece are searched at a time. A byte ends at most one range, and those that a search can hold back from before are
-/// fewer than `MOST_FOUND`, so there is room for all.
+/// How many bytes of a piece are searched at a time.
 const PART_LEN: usize = 16384;
+
+/// How many ranges more than it has bytes a piece can make known. Ranges end one after the other. Those that were held back end at one of
+/// the last 94 code points before the piece, and these have 382 bytes at most, with those of a character that is cut on both sides.
+const MOST_LATE: usize = 383;
 
 impl Session {
     ghost use Rattle.std.specs.Prelude.{◌≡◌, ◌≤◌, [], length, IfOk, IfErr, IsSome};
@@ -19,7 +22,7 @@ impl Session {
     ghost use Rattle.collation_search.specs.State.{sizes_of};
     ghost use Rattle.collation_search.specs.Resuming.{IsRefused};
     ghost use Rattle.colfind_c.specs.Queries.{sought_with};
-    ghost use Rattle.colfind_c.specs.Sessions.{sought_of, HasFed, FeedsSession, FeedsPart, FinishesSession, StopsSession, ResumesSession, SavesSession, TakesRanges};
+    ghost use Rattle.colfind_c.specs.Sessions.{sought_of, HasFed, FeedsSession, FeedsPart, FinishesSession, StopsSession, FirstInSession, ResumesSession, SavesSession, TakesRanges};
 
     /// A search at the beginning of a text.
     ///
@@ -62,13 +65,14 @@ impl Session {
         self.feed_part(&piece[at..], at)
     }
 
-    /// Takes a part of a piece, before which so many bytes of the piece were taken.
+    /// Takes a part of a piece, before which so many bytes of the piece were taken. A range finds no room only where the search was resumed
+    /// from words that no search has saved, and then it has ended.
     fn feed_part(&mut self, part: &[u8], before: usize) -> Outcome
         requires few { length part.now ≤ PART_LEN }
         requires open { IsSome self.old.parked }
         ensures fed { FeedsPart self.old part.now before result self.new }
     {
-        if self.queue.reserve(part.len() + MOST_FOUND).is_err() {
+        if self.queue.reserve(part.len() + MOST_LATE).is_err() {
             return Outcome::Partly(before as u64);
         }
         let Some(parked) = replace(&mut self.parked, None) else {
@@ -83,7 +87,9 @@ impl Session {
             &mut self.queue,
         );
         if self.queue.lost {
-            return Outcome::Lost;
+            return Outcome::State(StateFault {
+                kind: StateFault::MALFORMED,
+            });
         }
         self.parked = Some(parked);
         match fed {
@@ -107,9 +113,6 @@ impl Session {
         };
         let query = &*self.query;
         let ended = finish_parked(&*query.table, &query.pattern, parked, &mut self.queue);
-        if self.queue.lost {
-            return Outcome::Lost;
-        }
         match ended {
             Ok(()) => Outcome::Good,
             Err(fault) => Outcome::Text(fault),
@@ -131,10 +134,31 @@ impl Session {
         };
         let query = &*self.query;
         stop_parked(&*query.table, &query.pattern, parked, &mut self.queue);
-        if self.queue.lost {
-            return Outcome::Lost;
-        }
         Outcome::Good
+    }
+
+    /// The first range of what stands in a text from an offset on, if there is one, and how the call has ended. What was fed before is
+    /// given up, with the ranges that wait, and the search is at the beginning of a text.
+    pub(crate) fn first_in(&mut self, text: &[u8], from: usize) -> (Outcome, Option<(u64, u64)>)
+        ensures first { FirstInSession self.old text.now from result.1 result.0 self.new }
+    {
+        if from > text.len() {
+            return (Outcome::BadArgument, None);
+        }
+        if self.parked.is_none() {
+            return (Outcome::Ended, None);
+        }
+        let Some(parked) = replace(&mut self.parked, None) else {
+            unreachable!()
+        };
+        self.queue.clear();
+        let query = &*self.query;
+        let (first, parked) = first_parked(&*query.table, &query.pattern, parked, text, from);
+        self.parked = Some(parked);
+        match first {
+            Ok(found) => (Outcome::Good, found),
+            Err(fault) => (Outcome::Text(fault), None),
+        }
     }
 
     /// Takes ranges that wait, the oldest first: how many.

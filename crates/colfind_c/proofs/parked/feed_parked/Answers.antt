@@ -6,6 +6,6 @@ returns-clause-fed g c =
     let done = c.search_piece-fed.ensures.fed in (
       done.0,
       fed _ c.args.parked c.unpark-search.result c.unpark-search.ensures.sought c.unpark-search.ensures.stands c.park.result c.search_piece-fed.new.search
-          c.args.piece.now c.search_piece-fed.result done.0 c.unpark-search.ensures.reported done.1 c.park.ensures.stands,
+          c.args.piece.now c.search_piece-fed.result done.0 c.unpark-search.ensures.reported done.1 done.3 c.park.ensures.stands,
       done.2,
     )

@@ -1,7 +1,8 @@
-use Rattle.std.proofs.Common.{◌∙◌, ◌≡◌, ◌++◌, sym, subst, Some, None}
+use Rattle.std.proofs.Common.{◌≤◌, length, ◌∙◌, ◌≡◌, ◌++◌, sym, subst, Some, None}
 use Rattle.std.specs.Prelude.{OnOk, IfErr}
 use Rattle.collation_matches.specs.Sought.{IsCompiledFrom, answer_to}
-use Rattle.colfind_c.specs.Queues.{Waits}
+use Rattle.collation_search.specs.declared.matching.TheConstants.{MOST_FOUND}
+use Rattle.colfind_c.specs.Queues.{Gets}
 use Rattle.colfind_c.proofs.ParkedLemmas.{taken_up}
 use Rattle.colfind_c.proofs.parked.finish_parked.Goals as goal
 
@@ -15,6 +16,7 @@ returns g c = record {
           bad = λ text u handed compiled h. subst (λ t. IfErr c.finish-ended.result (λ f. answer_to t text u ≡ record { ranges = handed ++ found; fault = Some f })) same (c.finish-ended.ensures.bad text u handed (subst (λ t. IsCompiledFrom t text) (sym same) compiled) (up u handed h));
           again = λ f is. c.finish-ended.ensures.again f (c.unpark-search.ensures.reported ∙ is);
         },
-        λ before w. subst (λ xs. Waits c.put_all.new.self (before ++ xs)) c.as_slice.ensures.value (c.put_all.ensures before w),
+        subst (λ xs. Gets c.args.queue.now xs c.put_all.new.self) c.as_slice.ensures.value c.put_all.ensures,
+        subst (λ xs. length xs ≤ MOST_FOUND) c.as_slice.ensures.value c.as_slice.ensures.fits,
       );
 }

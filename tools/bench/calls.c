@@ -1,0 +1,115 @@
+/* Calls of the C library, and of ICU.
+
+     calls TABLE PATTERN             prints how many ranges standard input has, read in pieces of 4,096 bytes
+     calls TABLE PATTERN TITLES N    nanoseconds of processor time for each line of the file TITLES, searched N times over, and how many
+                                     lines have a match: by colfind_first_in, by colfind_index, and by ICU with its text in UTF-16
+   At strength 1. The status is 2 where something is wrong. */
+#include "../../examples/c/colfind.h"
+#include <stdio.h>
+#include <stdlib.h>
+#include <string.h>
+#include <time.h>
+#include <unicode/ucol.h>
+#include <unicode/usearch.h>
+#include <unicode/ustring.h>
+
+typedef struct { const uint8_t *bytes; size_t len; const UChar *units; int32_t units_len; } title;
+
+static void need(int holds, const char *what) {
+    if (!holds) { fprintf(stderr, "calls: %s\n", what); exit(2); }
+}
+
+static uint8_t *read_file(const char *path, size_t *len) {
+    FILE *file = fopen(path, "rb");
+    need(file && fseek(file, 0, SEEK_END) == 0, path);
+    *len = (size_t)ftell(file);
+    rewind(file);
+    uint8_t *bytes = malloc(*len + 1);
+    need(bytes && fread(bytes, 1, *len, file) == *len, path);
+    fclose(file);
+    return bytes;
+}
+
+static double seconds(void) {
+    struct timespec now;
+    clock_gettime(CLOCK_PROCESS_CPUTIME_ID, &now);
+    return (double)now.tv_sec + 1e-9 * (double)now.tv_nsec;
+}
+
+static void count_ranges(colfind_handle *pattern) {
+    colfind_handle search = {0};
+    colfind_range ranges[256];
+    uint8_t piece[4096];
+    size_t n, taken, all = 0;
+    need(colfind_search(pattern, &search, COLFIND_ALL).kind == 0, "search");
+    while ((n = fread(piece, 1, sizeof piece, stdin)) > 0) {
+        need(colfind_feed(&search, piece, n).kind == 0, "text");
+        while ((taken = colfind_take(&search, ranges, 256)) > 0) all += taken;
+    }
+    need(colfind_finish(&search).kind == 0, "text");
+    while ((taken = colfind_take(&search, ranges, 256)) > 0) all += taken;
+    printf("%zu\n", all);
+    colfind_free(&search);
+}
+
+static size_t icu_matches(UStringSearch *search, const title *titles, size_t count) {
+    UErrorCode error = U_ZERO_ERROR;
+    size_t found = 0;
+    for (size_t i = 0; i < count; i++) {
+        usearch_setText(search, titles[i].units, titles[i].units_len, &error);
+        found += usearch_first(search, &error) != USEARCH_DONE;
+    }
+    need(U_SUCCESS(error), "ICU");
+    return found;
+}
+
+static void time_titles(colfind_handle *pattern, const char *sought, const char *path, long rounds) {
+    UErrorCode error = U_ZERO_ERROR;
+    size_t len, count = 0, found = 0;
+    uint8_t *bytes = read_file(path, &len);
+    title *titles = malloc(len * sizeof *titles);
+    UChar *units = malloc((len + 1) * sizeof *units), word[256];
+    need(titles && units, "memory");
+    for (uint8_t *at = bytes, *end; at < bytes + len && (end = memchr(at, '\n', (size_t)(bytes + len - at))); at = end + 1) {
+        int32_t n;
+        u_strFromUTF8(units, (int32_t)len, &n, (const char *)at, (int32_t)(end - at), &error);
+        titles[count++] = (title){at, (size_t)(end - at), units, n};
+        units += n;
+    }
+    UCollator *collator = ucol_open("", &error);
+    ucol_setStrength(collator, UCOL_PRIMARY);
+    int32_t word_len;
+    u_strFromUTF8(word, 256, &word_len, sought, -1, &error);
+    UStringSearch *by_icu = usearch_openFromCollator(word, word_len, word, word_len, collator, NULL, &error);
+    need(U_SUCCESS(error) && count > 0, "ICU");
+    colfind_handle search = {0};
+    need(colfind_search(pattern, &search, COLFIND_ALL).kind == 0, "search");
+    for (int way = 0; way < 3; way++) {
+        double best = 1e9;
+        for (long round = 0; round < rounds; round++) {
+            double begun = seconds();
+            found = 0;
+            for (size_t i = 0; way == 0 && i < count; i++) found += colfind_first_in(&search, titles[i].bytes, titles[i].len, 0).is_found;
+            for (size_t i = 0; way == 1 && i < count; i++) found += colfind_index(pattern, titles[i].bytes, titles[i].len).is_found;
+            if (way == 2) found = icu_matches(by_icu, titles, count);
+            double took = seconds() - begun;
+            if (took < best) best = took;
+        }
+        printf("%s %.0f %zu\n", way == 0 ? "colfind_first_in" : way == 1 ? "colfind_index" : "ICU", 1e9 * best / (double)count, found);
+    }
+    colfind_free(&search);
+}
+
+int main(int argc, char **argv) {
+    need(argc == 3 || argc == 5, "TABLE PATTERN [TITLES N]");
+    size_t n;
+    uint8_t *table_bytes = read_file(argv[1], &n);
+    colfind_handle table = {0}, pattern = {0};
+    need(colfind_table(&table, table_bytes, n, (const uint8_t *)"", 0).kind == 0, "table");
+    free(table_bytes);
+    need(colfind_pattern(&table, &pattern, (const uint8_t *)argv[2], strlen(argv[2]), 1, COLFIND_NON_IGNORABLE).kind == 0, "pattern");
+    if (argc == 3) count_ranges(&pattern);
+    else time_titles(&pattern, argv[2], argv[3], atol(argv[4]));
+    colfind_free(&pattern), colfind_free(&table);
+    return 0;
+}
