@@ -60,7 +60,8 @@ pub extern "C" fn colfind_table(
     base: &[u8],
     tailor: &[u8],
 ) -> Status
-    ensures made { Says result (λ outcome. MakesTable base.now tailor.now outcome out.old.value out.new.value) }
+    ensures made { Says result
+        (λ outcome. MakesTable base.now tailor.now outcome out.old.value out.new.value) }
 {
     make_table(alloc, out, base, tailor).status()
 }
@@ -166,7 +167,8 @@ fn make_pattern(
     strength: u8,
     variable: u8,
 ) -> Outcome
-    ensures made { MakesPattern (arc_value table) text.now strength variable result out.old.value out.new.value }
+    ensures made { MakesPattern
+        (arc_value table) text.now strength variable result out.old.value out.new.value }
 {
     match compile(alloc, table, text, strength, variable) {
         Ok(query) => give_pattern(alloc, out, query),
@@ -199,7 +201,9 @@ pub extern "C" fn colfind_pattern(
     strength: u8,
     variable: u8,
 ) -> Status
-    ensures made { Says result (λ outcome. OfTable (λ t how. MakesPattern t text.now strength variable how out.old.value out.new.value) table.old.value outcome) }
+    ensures made { Says result
+        (λ outcome. OfTable
+        (λ t how. MakesPattern t text.now strength variable how out.old.value out.new.value) table.old.value outcome) }
     ensures same { table.new.value ≡ table.old.value }
 {
     match table_of(alloc, table) {
@@ -244,7 +248,9 @@ pub extern "C" fn colfind_search(
     out: &mut Handle,
     select: u8,
 ) -> Status
-    ensures made { Says result (λ outcome. OfPattern (λ q how. StartsSearch q select how out.old.value out.new.value) pattern.old.value outcome) }
+    ensures made { Says result
+        (λ outcome. OfPattern
+        (λ q how. StartsSearch q select how out.old.value out.new.value) pattern.old.value outcome) }
     ensures same { pattern.new.value ≡ pattern.old.value }
 {
     match query_of(alloc, pattern) {
@@ -255,7 +261,8 @@ pub extern "C" fn colfind_search(
 
 /// Resumes a search into a handle.
 fn go_on(alloc: Global, query: Arc<Query>, out: &mut Handle, select: u8, words: &[u64]) -> Outcome
-    ensures goes_on { GoesOnFrom (arc_value query) select words.now result out.old.value out.new.value }
+    ensures goes_on { GoesOnFrom
+        (arc_value query) select words.now result out.old.value out.new.value }
 {
     match select_of(select) {
         Some(select) => match Session::resume(alloc, query, select, words) {
@@ -275,7 +282,9 @@ pub extern "C" fn colfind_resume(
     select: u8,
     words: &[u64],
 ) -> Status
-    ensures made { Says result (λ outcome. OfPattern (λ q how. GoesOnFrom q select words.now how out.old.value out.new.value) pattern.old.value outcome) }
+    ensures made { Says result
+        (λ outcome. OfPattern
+        (λ q how. GoesOnFrom q select words.now how out.old.value out.new.value) pattern.old.value outcome) }
     ensures same { pattern.new.value ≡ pattern.old.value }
 {
     match query_of(alloc, pattern) {
@@ -286,7 +295,8 @@ pub extern "C" fn colfind_resume(
 
 /// Feeds a piece to what a handle holds.
 fn feed_owned(owned: &mut Owned, piece: &[u8]) -> Outcome
-    ensures fed { OfSearch (λ old how new. FeedsSession old piece.now how new) (Some owned.old) result (Some owned.new) }
+    ensures fed { OfSearch (λ old how new. FeedsSession old piece.now how new)
+        (Some owned.old) result (Some owned.new) }
 {
     match owned {
         Owned::Search(session) => session.feed(piece),
@@ -297,7 +307,9 @@ fn feed_owned(owned: &mut Owned, piece: &[u8]) -> Outcome
 /// Takes a piece of the text.
 #[unsafe(no_mangle)]
 pub extern "C" fn colfind_feed(alloc: Global, search: &mut Handle, piece: &[u8]) -> Status
-    ensures fed { Says result (λ outcome. OfSearch (λ old how new. FeedsSession old piece.now how new) search.old.value outcome search.new.value) }
+    ensures fed { Says result
+        (λ outcome. OfSearch
+        (λ old how new. FeedsSession old piece.now how new) search.old.value outcome search.new.value) }
 {
     match take(alloc, search) {
         Some(mut owned) => {
@@ -322,7 +334,8 @@ fn finish_owned(owned: &mut Owned) -> Outcome
 /// Ends the text.
 #[unsafe(no_mangle)]
 pub extern "C" fn colfind_finish(alloc: Global, search: &mut Handle) -> Status
-    ensures finished { Says result (λ outcome. OfSearch FinishesSession search.old.value outcome search.new.value) }
+    ensures finished { Says result
+        (λ outcome. OfSearch FinishesSession search.old.value outcome search.new.value) }
 {
     match take(alloc, search) {
         Some(mut owned) => {
@@ -347,7 +360,8 @@ fn stop_owned(owned: &mut Owned) -> Outcome
 /// Gives the text up.
 #[unsafe(no_mangle)]
 pub extern "C" fn colfind_stop(alloc: Global, search: &mut Handle) -> Status
-    ensures stopped { Says result (λ outcome. OfSearch StopsSession search.old.value outcome search.new.value) }
+    ensures stopped { Says result
+        (λ outcome. OfSearch StopsSession search.old.value outcome search.new.value) }
 {
     match take(alloc, search) {
         Some(mut owned) => {
@@ -411,7 +425,8 @@ pub extern "C" fn colfind_pending(alloc: Global, search: &mut Handle) -> usize
 
 /// Writes the words of what a handle holds into a buffer, if they have room: how the call has ended, and how many there are.
 fn save_owned(alloc: Global, owned: &mut Owned, out: &mut [u64]) -> (Outcome, usize)
-    ensures saved { OfSearch (λ old how new. SavesInto out.old out.new result.1 old how new) (Some owned.old) result.0 (Some owned.new) }
+    ensures saved { OfSearch (λ old how new. SavesInto out.old out.new result.1 old how new)
+        (Some owned.old) result.0 (Some owned.new) }
     ensures len { length out.new ≡ length out.old }
 {
     match owned {
@@ -450,7 +465,9 @@ pub struct Saved {
 /// Writes the search as words, from which another one goes on.
 #[unsafe(no_mangle)]
 pub extern "C" fn colfind_save(alloc: Global, search: &mut Handle, out: &mut [u64]) -> Saved
-    ensures saved { Says result.status (λ outcome. OfSearch (λ old how new. SavesInto out.old out.new result.words old how new) search.old.value outcome search.new.value) }
+    ensures saved { Says result.status
+        (λ outcome. OfSearch
+        (λ old how new. SavesInto out.old out.new result.words old how new) search.old.value outcome search.new.value) }
 {
     match take(alloc, search) {
         Some(mut owned) => {
@@ -511,7 +528,9 @@ fn first_with(outcome: Outcome, found: Option<(u64, u64)>) -> First
 /// The first range of a text in memory.
 #[unsafe(no_mangle)]
 pub extern "C" fn colfind_index(alloc: Global, pattern: &mut Handle, text: &[u8]) -> First
-    ensures first { Says result.status (λ outcome. OfPattern (λ q how. AnswersFirst q text.now (first_of result) how) pattern.old.value outcome) }
+    ensures first { Says result.status
+        (λ outcome. OfPattern
+        (λ q how. AnswersFirst q text.now (first_of result) how) pattern.old.value outcome) }
     ensures same { pattern.new.value ≡ pattern.old.value }
 {
     match query_of(alloc, pattern) {
@@ -549,7 +568,10 @@ pub extern "C" fn colfind_index_from(
     text: &[u8],
     from: usize,
 ) -> First
-    ensures first { Says result.status (λ outcome. OfPattern (λ q how. AnswersFirstFrom q text.now from (first_of result) how) pattern.old.value outcome) }
+    ensures first { Says result.status
+        (λ outcome. OfPattern
+        (λ q how. AnswersFirstFrom q text.now from
+        (first_of result) how) pattern.old.value outcome) }
     ensures same { pattern.new.value ≡ pattern.old.value }
 {
     match query_of(alloc, pattern) {
@@ -563,7 +585,8 @@ pub extern "C" fn colfind_index_from(
 
 /// The first range for what a handle holds of what stands in a text from an offset on.
 fn first_owned(owned: &mut Owned, text: &[u8], from: usize) -> (Outcome, Option<(u64, u64)>)
-    ensures first { OfSearch (λ old how new. FirstInSession old text.now from result.1 how new) (Some owned.old) result.0 (Some owned.new) }
+    ensures first { OfSearch (λ old how new. FirstInSession old text.now from result.1 how new)
+        (Some owned.old) result.0 (Some owned.new) }
 {
     match owned {
         Owned::Search(session) => session.first_in(text, from),
@@ -579,7 +602,10 @@ pub extern "C" fn colfind_first_in(
     text: &[u8],
     from: usize,
 ) -> First
-    ensures first { Says result.status (λ outcome. OfSearch (λ old how new. FirstInSession old text.now from (first_of result) how new) search.old.value outcome search.new.value) }
+    ensures first { Says result.status
+        (λ outcome. OfSearch
+        (λ old how new. FirstInSession old text.now from
+        (first_of result) how new) search.old.value outcome search.new.value) }
 {
     match take(alloc, search) {
         Some(mut owned) => {

@@ -59,7 +59,8 @@ impl Handle {
 /// What a handle owns, which is empty from then on.
 pub(crate) fn take(alloc: Global, handle: &mut Handle) -> Option<Box<Owned>>
     ensures emptied { handle.new.value ≡ None }
-    ensures taken { MatchOption result (handle.old.value ≡ None) (λ owned. handle.old.value ≡ Some owned.value) }
+    ensures taken { MatchOption result (handle.old.value ≡ None)
+        (λ owned. handle.old.value ≡ Some owned.value) }
 {
     let old = replace(handle, Handle::empty());
     match old.into_loose(alloc) {

@@ -23,8 +23,10 @@ fn search_piece<'a, W: Weights>(
     piece: &[u8],
     queue: &mut Queue,
 ) -> Result<(), TextFault>
-    ensures fed { (found : List (ℕ × ℕ)) × Feeds search.old piece.now result found search.new × Gets queue.old found queue.new
-        × ((text u : List ℕ) (handed : List (ℕ × ℕ)) → IsCompiledFrom (sought search.old) text → HasSearched search.old u handed
+    ensures fed { (found : List (ℕ × ℕ)) × Feeds search.old piece.now result found search.new
+        × Gets queue.old found queue.new
+        × ((text u : List ℕ) (handed : List (ℕ × ℕ)) → IsCompiledFrom (sought search.old) text
+        → HasSearched search.old u handed
         → length found ≤ length piece.now + most_found_late) }
 {
     whole_characters_are_the_longest_text();
@@ -45,7 +47,9 @@ pub(crate) fn feed_parked<W: Weights>(
     requires fits { IsFor (W.table table.now) pattern.now parked }
     ensures fits { IsFor (W.table table.now) pattern.now result.1 }
     ensures select { parked_select result.1 ≡ parked_select parked }
-    ensures fed { (found : List (ℕ × ℕ)) × FeedsParked (record { table = W.table table.now; pattern = pattern.now; select = parked_select parked }) parked piece.now result.0 found result.1
+    ensures fed { (found : List (ℕ × ℕ))
+        × FeedsParked
+        (record { table = W.table table.now; pattern = pattern.now; select = parked_select parked }) parked piece.now result.0 found result.1
         × Gets queue.old found queue.new }
 {
     let mut search = parked.unpark(table, pattern);
@@ -65,9 +69,13 @@ pub(crate) fn first_parked<W: Weights>(
     requires fits { IsFor (W.table table.now) pattern.now parked }
     ensures fits { IsFor (W.table table.now) pattern.now result.1 }
     ensures select { parked_select result.1 ≡ parked_select parked }
-    ensures first { (p : List ℕ) → IsCompiledFrom (record { table = W.table table.now; pattern = pattern.now; select = parked_select parked }) p
-        → IsFirstFrom (record { table = W.table table.now; pattern = pattern.now; select = parked_select parked }) p text.now from result.0 }
-    ensures stands { HasParked (record { table = W.table table.now; pattern = pattern.now; select = parked_select parked }) result.1 [] [] }
+    ensures first { (p : List ℕ)
+        → IsCompiledFrom
+        (record { table = W.table table.now; pattern = pattern.now; select = parked_select parked }) p
+        → IsFirstFrom
+        (record { table = W.table table.now; pattern = pattern.now; select = parked_select parked }) p text.now from result.0 }
+    ensures stands { HasParked
+        (record { table = W.table table.now; pattern = pattern.now; select = parked_select parked }) result.1 [] [] }
 {
     let mut search = parked.unpark(table, pattern);
     let first = search.first_from(text, from);
@@ -82,7 +90,9 @@ pub(crate) fn finish_parked<W: Weights>(
     queue: &mut Queue,
 ) -> Result<(), TextFault>
     requires fits { IsFor (W.table table.now) pattern.now parked }
-    ensures finished { (found : List (ℕ × ℕ)) × FinishesParked (record { table = W.table table.now; pattern = pattern.now; select = parked_select parked }) parked result found
+    ensures finished { (found : List (ℕ × ℕ))
+        × FinishesParked
+        (record { table = W.table table.now; pattern = pattern.now; select = parked_select parked }) parked result found
         × Gets queue.old found queue.new × (length found ≤ MOST_FOUND) }
 {
     let search = parked.unpark(table, pattern);
@@ -100,9 +110,14 @@ pub(crate) fn stop_parked<W: Weights>(
     queue: &mut Queue,
 )
     requires fits { IsFor (W.table table.now) pattern.now parked }
-    ensures settled { (found : List (ℕ × ℕ)) × ((text u : List ℕ) (handed : List (ℕ × ℕ)) → IsCompiledFrom (record { table = W.table table.now; pattern = pattern.now; select = parked_select parked }) text
+    ensures settled { (found : List (ℕ × ℕ))
+        × ((text u : List ℕ) (handed : List (ℕ × ℕ))
+        → IsCompiledFrom
+        (record { table = W.table table.now; pattern = pattern.now; select = parked_select parked }) text
         → HasParked (record { table = W.table table.now; pattern = pattern.now; select = parked_select parked }) parked u handed
-        → handed ++ found ≡ settled_in (record { table = W.table table.now; pattern = pattern.now; select = parked_select parked }) text (whole u))
+        → handed ++ found
+        ≡ settled_in
+        (record { table = W.table table.now; pattern = pattern.now; select = parked_select parked }) text (whole u))
         × Gets queue.old found queue.new × (length found ≤ MOST_FOUND) }
 {
     let search = parked.unpark(table, pattern);
@@ -121,8 +136,12 @@ pub(crate) fn save_parked<W: Weights>(
     requires fits { IsFor (W.table table.now) pattern.now parked }
     ensures fits { IsFor (W.table table.now) pattern.now result.1 }
     ensures select { parked_select result.1 ≡ parked_select parked }
-    ensures saved { OnOk result.0 (words.new.items ≡ words.old.items ++ parked_words (record { table = W.table table.now; pattern = pattern.now; select = parked_select parked }) parked) }
-    ensures kept { (u : List ℕ) (handed : List (ℕ × ℕ)) → HasParked (record { table = W.table table.now; pattern = pattern.now; select = parked_select parked }) parked u handed
+    ensures saved { OnOk result.0
+        (words.new.items
+        ≡ words.old.items ++ parked_words
+        (record { table = W.table table.now; pattern = pattern.now; select = parked_select parked }) parked) }
+    ensures kept { (u : List ℕ) (handed : List (ℕ × ℕ))
+        → HasParked (record { table = W.table table.now; pattern = pattern.now; select = parked_select parked }) parked u handed
         → HasParked (record { table = W.table table.now; pattern = pattern.now; select = parked_select parked }) result.1 u handed }
 {
     let search = parked.unpark(table, pattern);

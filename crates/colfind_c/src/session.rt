@@ -180,8 +180,10 @@ impl Session {
         select: Select,
         words: &[u64],
     ) -> Result<Session, StateFault>
-        ensures goes_on { IfOk result (ResumesSession (sought_with (arc_value query) select) words.now) }
-        ensures refused { IfErr result (λ f. IsRefused (sizes_of (sought_with (arc_value query) select)) words.now f.kind) }
+        ensures goes_on { IfOk result
+            (ResumesSession (sought_with (arc_value query) select) words.now) }
+        ensures refused { IfErr result
+            (λ f. IsRefused (sizes_of (sought_with (arc_value query) select)) words.now f.kind) }
     {
         let looked_for = &*query;
         let search = Search::resume_with(

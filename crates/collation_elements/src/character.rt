@@ -51,8 +51,11 @@ impl CharacterItems {
         requires room { length points.now ≤ window.old.capacity }
         requires sound { All IsSoundPoint points.now }
         ensures window { window.new ≡ window.old }
-        ensures items { IfSome result (λ it. AreItemsOfPoints (W.table table.now) weigher points.now it) }
-        ensures none { let all = items (W.table table.now) weigher.strength weigher.variable weigher.after_variable (units (W.table table.now) points.now) in
+        ensures items { IfSome result
+            (λ it. AreItemsOfPoints (W.table table.now) weigher points.now it) }
+        ensures none { let all = items
+            (W.table table.now) weigher.strength weigher.variable weigher.after_variable
+            (units (W.table table.now) points.now) in
             IfNone result (BeginsOnce points.now → 3 < length (item_keys all)) }
     {
         window.push_all(points);
@@ -67,7 +70,8 @@ impl CharacterItems {
         ensures items { IfSome result (λ it. items.now ≡ character_items it 0) }
         ensures after { IfSome result (λ it. it.after_variable ≡ after_variable) }
         ensures none { IfNone result ((begins : Bool) (keys : List Key)
-            → items.now ≡ (if begins then Item.ClusterStart 0 ∷ [] else []) ++ map (λ key. Item.Element key) keys
+            → items.now ≡ (if begins then Item.ClusterStart 0 ∷ [] else []) ++ map
+            (λ key. Item.Element key) keys
             → 3 < length keys) }
     {
         let (begins_cluster, keys) = split_start(items);
@@ -89,9 +93,12 @@ impl CharacterItems {
 
 /// Whether these items begin with the start of a cluster at 0, and what follows it.
 fn split_start(items: &[Item]) -> (bool, &[Item])
-    ensures items { items.now ≡ (if result.0 then Item.ClusterStart 0 ∷ [] else []) ++ result.1.now }
-    ensures start { (rest : List Item) → items.now ≡ Item.ClusterStart 0 ∷ rest → result.1.now ≡ rest }
-    ensures key { (key : Key) (rest : List Item) → items.now ≡ Item.Element key ∷ rest → result.1.now ≡ items.now }
+    ensures items { items.now
+        ≡ (if result.0 then Item.ClusterStart 0 ∷ [] else []) ++ result.1.now }
+    ensures start { (rest : List Item) → items.now ≡ Item.ClusterStart 0 ∷ rest
+        → result.1.now ≡ rest }
+    ensures key { (key : Key) (rest : List Item) → items.now ≡ Item.Element key ∷ rest
+        → result.1.now ≡ items.now }
 {
     match items {
         [Item::ClusterStart(0), rest @ ..] => (true, rest),
@@ -101,7 +108,8 @@ fn split_start(items: &[Item]) -> (bool, &[Item])
 
 /// The key with which these items begin, if they begin with one, and what follows it.
 fn split_key(items: &[Item]) -> (Option<Key>, &[Item])
-    ensures items { items.now ≡ map (λ key. Item.Element key) (option_to_list result.0) ++ result.1.now }
+    ensures items { items.now
+        ≡ map (λ key. Item.Element key) (option_to_list result.0) ++ result.1.now }
     ensures keys { (keys : List Key) → items.now ≡ map (λ key. Item.Element key) keys
         → result.1.now ≡ map (λ key. Item.Element key) (drop 1 keys) }
 {
@@ -122,9 +130,12 @@ fn gather<W: Weights>(
     ensures items { IfSome result (λ gathered. gathered.items
         ≡ items (W.table table.now) weigher.old.strength weigher.old.variable weigher.old.after_variable (units (W.table table.now) window.old.points)) }
     ensures after { OnSome result (weigher.new.after_variable
-        ≡ after_units (W.table table.now) weigher.old.variable weigher.old.after_variable (units (W.table table.now) window.old.points)) }
+        ≡ after_units (W.table table.now) weigher.old.variable weigher.old.after_variable
+        (units (W.table table.now) window.old.points)) }
     ensures none { IfNone result (MOST_CHARACTER_ITEMS
-        < length (items (W.table table.now) weigher.old.strength weigher.old.variable weigher.old.after_variable (units (W.table table.now) window.old.points))) }
+        < length (items
+        (W.table table.now) weigher.old.strength weigher.old.variable weigher.old.after_variable
+        (units (W.table table.now) window.old.points))) }
 {
     let mut gathered = ArrayVec::new();
     let mut of_unit = ArrayVec::<Item, MOST_ITEMS>::new();

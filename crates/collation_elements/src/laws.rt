@@ -19,9 +19,12 @@ ghost use Rattle.collation_elements.specs.Boundaries.{cluster_starts};
 /// The keys among the items of a list of points are its keys, and the offsets among them are those at which its clusters begin.
 pub fn items_are_keys_and_starts()
     ensures keys { (table : TableMap) (strength : Strength) (variable : Variable) (ps : List Point)
-        → item_keys (items table strength variable false (units table ps)) ≡ keys table strength variable ps }
-    ensures starts { (table : TableMap) (strength : Strength) (variable : Variable) (ps : List Point)
-        → item_starts (items table strength variable false (units table ps)) ≡ cluster_starts table ps }
+        → item_keys (items table strength variable false (units table ps))
+        ≡ keys table strength variable ps }
+    ensures starts { (table : TableMap) (strength : Strength) (variable : Variable)
+        (ps : List Point)
+        → item_starts (items table strength variable false (units table ps))
+        ≡ cluster_starts table ps }
 {}
 
 /// Points after whose last starter no point stands, put after others of the kind, are of the kind too.
@@ -34,18 +37,24 @@ pub fn closed_points_append()
 /// mapped string of two or more begins, or where a starter follows whose code point stands in no mapped string after the first
 /// place. Two points are a unit, whatever follows them, where their code points are a mapped string and no longer one begins with it.
 pub fn units_stay_apart()
-    ensures alone { (table : TableMap) (ps more : List Point) → All (λ p. BeginsNoLongerString table p.cp) ps
+    ensures alone { (table : TableMap) (ps more : List Point)
+        → All (λ p. BeginsNoLongerString table p.cp) ps
         → units table (ps ++ more) ≡ units table ps ++ units table more }
-    ensures before { (table : TableMap) (ps : List Point) (d : Point) (more : List Point) → is_starter d ≡ true
-        → ContinuesNoString table d.cp → units table (ps ++ d ∷ more) ≡ units table ps ++ units table (d ∷ more) }
+    ensures before { (table : TableMap) (ps : List Point) (d : Point) (more : List Point)
+        → is_starter d ≡ true
+        → ContinuesNoString table d.cp
+        → units table (ps ++ d ∷ more) ≡ units table ps ++ units table (d ∷ more) }
     ensures pair { MappedPairsAreUnits }
 {}
 
 /// A weigher goes on with further units: what it gives is the items of those before and then those of the further ones.
 pub fn weighers_go_on()
-    ensures { (table : TableMap) (w : Weigher) (us vs : List (List Point)) (given more : List Item) (after : Bool)
-        → items table w.strength w.variable w.after_variable vs ≡ more → after_units table w.variable w.after_variable vs ≡ after
-        → WeigherStandsFor table w us given → WeigherStandsFor table (weigher w.strength w.variable after) (us ++ vs) (given ++ more) }
+    ensures { (table : TableMap) (w : Weigher) (us vs : List (List Point)) (given more : List Item)
+        (after : Bool)
+        → items table w.strength w.variable w.after_variable vs ≡ more
+        → after_units table w.variable w.after_variable vs ≡ after
+        → WeigherStandsFor table w us given
+        → WeigherStandsFor table (weigher w.strength w.variable after) (us ++ vs) (given ++ more) }
 {}
 
 /// Units that are decided stay decided, whatever points follow, and begin the units of all. Units that were cut early, as if the text

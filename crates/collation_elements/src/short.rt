@@ -34,10 +34,13 @@ impl Weigher {
         ensures after { OnSome result (self.new ≡ weigher_after self.old unit.now) }
         ensures none { IfNone result (self.new ≡ self.old) }
         ensures long { IfNone result (length unit.now.elements ≢ 1) }
-        ensures stands { (table : TableMap) (points : List Point) (units : List (List Point)) (given : List Item)
+        ensures stands { (table : TableMap) (points : List Point) (units : List (List Point))
+            (given : List Item)
             → IsUnitOf table points unit.now
             → WeigherStandsFor table self.old units given
-            → IfSome result (λ short. WeigherStandsFor table self.new (units ++ points ∷ []) (given ++ listed short)) }
+            → IfSome result
+            (λ short. WeigherStandsFor table self.new (units ++ points ∷ [])
+            (given ++ listed short)) }
     {
         self.take_one_key(unit)
     }
@@ -102,7 +105,8 @@ impl Weigher {
 #[inline(always)]
 fn cluster_start(first_point: Point, e: Element) -> Option<u64>
     ensures { (es : List CollationElement)
-        → map (λ at. Item.ClusterStart at) (option_to_list result) ≡ start_items (Some first_point) (e ∷ es) }
+        → map (λ at. Item.ClusterStart at) (option_to_list result)
+        ≡ start_items (Some first_point) (e ∷ es) }
 {
     if first_point.first && first_point.ccc == 0 && e.w1 > 0 {
         Some(first_point.offset)

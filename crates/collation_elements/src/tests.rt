@@ -58,17 +58,22 @@ const ONE_CONTRACTION: &str = "0078 0301 ; [.1CA0.0020.0002]";
 fn worked_clusters()
     ensures empty_text { clusters worked_table Two NonIgnorable [] ≡ [] }
     ensures contraction { clusters worked_table One NonIgnorable (0x61 ∷ 0x63 ∷ 0x68 ∷ [])
-        ≡ worked_cluster 0 (Primary 0x1C00 0 0 ∷ []) ∷ worked_cluster 1 (Primary 0x1C28 0 0 ∷ []) ∷ [] }
-    ensures contraction_boundaries { boundaries worked_table (0x61 ∷ 0x63 ∷ 0x68 ∷ []) ≡ 0 ∷ 1 ∷ 3 ∷ [] }
+        ≡ worked_cluster 0 (Primary 0x1C00 0 0 ∷ []) ∷ worked_cluster 1
+        (Primary 0x1C28 0 0 ∷ []) ∷ [] }
+    ensures contraction_boundaries { boundaries worked_table (0x61 ∷ 0x63 ∷ 0x68 ∷ [])
+        ≡ 0 ∷ 1 ∷ 3 ∷ [] }
     ensures soft_hyphen { clusters worked_table One NonIgnorable (0xC2 ∷ 0xAD ∷ 0x61 ∷ [])
         ≡ worked_cluster 0 [] ∷ worked_cluster 2 (Primary 0x1C00 0 0 ∷ []) ∷ [] }
     ensures accent_first { clusters worked_table Two NonIgnorable (0xCC ∷ 0x81 ∷ 0x61 ∷ [])
-        ≡ worked_cluster 0 (Secondary 0x24 0 ∷ []) ∷ worked_cluster 2 (Primary 0x1C00 0x20 0 ∷ []) ∷ [] }
+        ≡ worked_cluster 0 (Secondary 0x24 0 ∷ []) ∷ worked_cluster 2
+        (Primary 0x1C00 0x20 0 ∷ []) ∷ [] }
     ensures accent_boundaries { boundaries worked_table (0xCC ∷ 0x81 ∷ 0x61 ∷ []) ≡ 0 ∷ 2 ∷ 3 ∷ [] }
-    ensures hyphen_shifted { clusters worked_table Two Shifted (0x61 ∷ 0x2D ∷ 0xE2 ∷ 0x83 ∷ 0x9D ∷ 0x62 ∷ [])
+    ensures hyphen_shifted { clusters worked_table Two Shifted
+        (0x61 ∷ 0x2D ∷ 0xE2 ∷ 0x83 ∷ 0x9D ∷ 0x62 ∷ [])
         ≡ worked_cluster 0 (Primary 0x1C00 0x20 0 ∷ []) ∷ worked_cluster 1 []
         ∷ worked_cluster 5 (Primary 0x1C10 0x20 0 ∷ []) ∷ [] }
-    ensures hyphen_kept { clusters worked_table Two NonIgnorable (0x61 ∷ 0x2D ∷ 0xE2 ∷ 0x83 ∷ 0x9D ∷ [])
+    ensures hyphen_kept { clusters worked_table Two NonIgnorable
+        (0x61 ∷ 0x2D ∷ 0xE2 ∷ 0x83 ∷ 0x9D ∷ [])
         ≡ worked_cluster 0 (Primary 0x1C00 0x20 0 ∷ [])
         ∷ worked_cluster 1 (Primary 0x0202 0x20 0 ∷ Secondary 0x40 0 ∷ []) ∷ [] }
 {}

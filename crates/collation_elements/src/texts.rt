@@ -54,7 +54,10 @@ pub fn items_of_text<W: Weights>(
     strength: Strength,
     variable: Variable,
 ) -> Result<Vec<Item>, ItemsFault>
-    ensures items { IfOk result (λ v. v.items ≡ items (W.table table.now) strength variable false (units (W.table table.now) (points (chars text.now)))) }
+    ensures items { IfOk result
+        (λ v. v.items
+        ≡ items (W.table table.now) strength variable false
+        (units (W.table table.now) (points (chars text.now)))) }
     ensures good { OnOk result (point_fault (chars text.now) ≡ None) }
     ensures bad { IfErr result (IsUnread (chars text.now)) }
 {
@@ -88,7 +91,10 @@ fn items_of_characters<W: Weights>(
     variable: Variable,
 ) -> Result<Vec<Item>, ItemsFault>
     requires { byte_len characters.now ≡ bytes }
-    ensures items { IfOk result (λ v. v.items ≡ items (W.table table.now) strength variable false (units (W.table table.now) (points characters.now))) }
+    ensures items { IfOk result
+        (λ v. v.items
+        ≡ items (W.table table.now) strength variable false
+        (units (W.table table.now) (points characters.now))) }
     ensures good { OnOk result (point_fault characters.now ≡ None) }
     ensures bad { IfErr result (IsUnread characters.now) }
 {
@@ -136,13 +142,16 @@ fn cut_units<W: Weights>(
     unit_items: &mut ArrayVec<Item, MOST_ITEMS>,
     items: &mut Vec<Item>,
 ) -> Result<(), AllocError>
-    ensures stands { (taken : List Point) → Gives (W.table table.now) window.old weigher.old items.old.items taken
+    ensures stands { (taken : List Point)
+        → Gives (W.table table.now) window.old weigher.old items.old.items taken
         → OnOk result (Gives (W.table table.now) window.new weigher.new items.new.items taken) }
     ensures capacity { OnOk result (window.new.capacity ≡ window.old.capacity) }
     ensures ended { OnOk result (window.new.has_ended ≡ window.old.has_ended) }
     ensures settings { OnOk result (HasSettings weigher.new weigher.old) }
-    ensures room { OnOk result (window.old.has_ended ≡ false → is_closed window.old.points ≡ true → length window.new.points ≤ longest_mapped (W.table table.now)) }
-    ensures last { OnOk result (window.old.has_ended ≡ false → is_closed window.old.points ≡ true → is_closed window.new.points ≡ true) }
+    ensures room { OnOk result (window.old.has_ended ≡ false → is_closed window.old.points ≡ true
+        → length window.new.points ≤ longest_mapped (W.table table.now)) }
+    ensures last { OnOk result (window.old.has_ended ≡ false → is_closed window.old.points ≡ true
+        → is_closed window.new.points ≡ true) }
     ensures all { OnOk result (window.old.has_ended ≡ true → window.new.points ≡ []) }
 {
     while let Some(unit) = window.next_unit(table) {

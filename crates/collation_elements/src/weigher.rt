@@ -43,8 +43,10 @@ impl Weigher {
     /// A weigher in the midst of a text, which goes on as the one of the text before, whose answer `after_variable` is.
     pub fn restore(strength: Strength, variable: Variable, after_variable: bool) -> Self
         ensures value { result ≡ weigher strength variable after_variable }
-        ensures stands_for { (table : TableMap) (read : Weigher) (units : List (List Point)) (given : List Item)
-            → WeigherStandsFor table read units given → read.strength ≡ strength → read.variable ≡ variable
+        ensures stands_for { (table : TableMap) (read : Weigher) (units : List (List Point))
+            (given : List Item)
+            → WeigherStandsFor table read units given → read.strength ≡ strength
+            → read.variable ≡ variable
             → is_after_variable read ≡ after_variable → WeigherStandsFor table result units given }
     {
         Weigher {
@@ -67,7 +69,8 @@ impl Weigher {
         ensures items { items.new.items ≡ value_items self.old unit.now }
         ensures after { self.new ≡ weigher_after self.old unit.now }
         ensures few { array_vec_len items.new ≤ 1 + length unit.now.elements }
-        ensures stands { (table : TableMap) (points : List Point) (units : List (List Point)) (given : List Item)
+        ensures stands { (table : TableMap) (points : List Point) (units : List (List Point))
+            (given : List Item)
             → IsUnitOf table points unit.now
             → WeigherStandsFor table self.old units given
             → WeigherStandsFor table self.new (units ++ points ∷ []) (given ++ items.new.items) }
@@ -157,7 +160,8 @@ fn add_keys(
 #[inline(always)]
 fn add_key(strength: Strength, e: Element, items: &mut ArrayVec<Item, MOST_ITEMS>)
     requires { array_vec_len items.old < MOST_ITEMS }
-    ensures keys { items.new.items ≡ items.old.items ++ map (λ key. Item.Element key) (element_keys strength e) }
+    ensures keys { items.new.items
+        ≡ items.old.items ++ map (λ key. Item.Element key) (element_keys strength e) }
     ensures few { array_vec_len items.new ≤ array_vec_len items.old + 1 }
 {
     if let Some(key) = key_of(strength, e) {

@@ -44,7 +44,8 @@ impl Window {
     pub fn with_capacity(alloc: Global, longest_key: usize) -> Result<Self, AllocError>
         requires some { 1 ≤ longest_key }
         requires few { longest_key ≤ MOST_STRING_POINTS }
-        ensures empty { IfOk result (λ w. w ≡ record { points = []; capacity = longest_key + MOST_GIVEN; has_ended = false }) }
+        ensures empty { IfOk result
+            (λ w. w ≡ record { points = []; capacity = longest_key + MOST_GIVEN; has_ended = false }) }
         ensures stands { IfOk result (λ w. (table : TableMap) → WindowStandsFor table w [] []) }
     {
         Ok(Window {
@@ -115,8 +116,10 @@ impl Window {
         requires room { length points.now ≤ self.old.capacity }
         requires sound { All IsSoundPoint points.now }
         ensures points { self.new ≡ record self.old { points = points.now } }
-        ensures stands_for { (table : TableMap) (read : Held) (taken : List Point) (given : List (List Point))
-            → WindowStandsFor table read taken given → read.has_ended ≡ false → read.points ≡ points.now
+        ensures stands_for { (table : TableMap) (read : Held) (taken : List Point)
+            (given : List (List Point))
+            → WindowStandsFor table read taken given → read.has_ended ≡ false
+            → read.points ≡ points.now
             → WindowStandsFor table self.new taken given }
     {
         self.push_all(points);
@@ -134,7 +137,8 @@ impl Window {
 
     /// Takes out all points, and forgets that the end was announced: it is as a new window, for the points of another text.
     pub fn clear(&mut self)
-        ensures empty { self.new ≡ record { points = []; capacity = self.old.capacity; has_ended = false } }
+        ensures empty { self.new
+            ≡ record { points = []; capacity = self.old.capacity; has_ended = false } }
         ensures stands { (table : TableMap) → WindowStandsFor table self.new [] [] }
     {
         self.queue.clear();
@@ -195,9 +199,13 @@ fn decided_front<'t, W: Weights>(
       has_ended = has_ended;
     } in
         is_some result ≡ is_decided (W.table table.now) held }
-    ensures length { IfSome result (λ front. front.taken ≡ prefix_length (W.table table.now) points.now.items) }
-    ensures alone { IfSome result (λ front. OnSome front.lone (BeginsAlone (W.table table.now) points.now.items)) }
-    ensures row { IfSome result (λ front. IfSome front.lone (λ row. HasFirstRow (W.table table.now) points.now.items (option_copied row))) }
+    ensures length { IfSome result
+        (λ front. front.taken ≡ prefix_length (W.table table.now) points.now.items) }
+    ensures alone { IfSome result
+        (λ front. OnSome front.lone (BeginsAlone (W.table table.now) points.now.items)) }
+    ensures row { IfSome result
+        (λ front. IfSome front.lone
+        (λ row. HasFirstRow (W.table table.now) points.now.items (option_copied row))) }
 {
     if points.len() == 0 || (!has_ended && points.len() < table.longest_key()) {
         return None;
@@ -270,10 +278,12 @@ fn cut<'t, W: Weights>(
     requires some { 0 < length points.old.items }
     requires beginning { front.taken ≡ prefix_length (W.table table.now) points.old.items }
     requires alone { OnSome front.lone (BeginsAlone (W.table table.now) points.old.items) }
-    requires row { IfSome front.lone (λ row. HasFirstRow (W.table table.now) points.old.items (option_copied row)) }
+    requires row { IfSome front.lone
+        (λ row. HasFirstRow (W.table table.now) points.old.items (option_copied row)) }
     ensures rest { let cut = next_cut (W.table table.now) points.old.items in
         points.new ≡ buffer cut.rest points.old.capacity }
-    ensures unit { IsUnitOf (W.table table.now) (next_cut (W.table table.now) points.old.items).unit result }
+    ensures unit { IsUnitOf (W.table table.now)
+        (next_cut (W.table table.now) points.old.items).unit result }
 {
     if let Some(row) = front.lone {
         let first_point = points.point(0);
@@ -296,7 +306,8 @@ fn cut_string<'t, W: Weights>(
     requires beginning { taken ≡ prefix_length (W.table table.now) points.old.items }
     ensures rest { let cut = next_cut (W.table table.now) points.old.items in
         points.new ≡ buffer cut.rest points.old.capacity }
-    ensures unit { IsUnitOf (W.table table.now) (next_cut (W.table table.now) points.old.items).unit result }
+    ensures unit { IsUnitOf (W.table table.now)
+        (next_cut (W.table table.now) points.old.items).unit result }
 {
     let first_point = points.point(0);
     points.copy_prefix(taken, string);
@@ -313,7 +324,8 @@ fn take_joining<W: Weights>(
     string: &mut ArrayVec<u32, MOST_STRING_POINTS>,
 )
     ensures string { (unit : List Point) → code_points unit ≡ string.old.items
-        → string.new.items ≡ code_points (extended (W.table table.now) unit [] points.old.items).unit }
+        → string.new.items
+        ≡ code_points (extended (W.table table.now) unit [] points.old.items).unit }
     ensures rest { (unit : List Point) → code_points unit ≡ string.old.items
         → points.new
         ≡ buffer (extended (W.table table.now) unit [] points.old.items).rest points.old.capacity }
@@ -337,7 +349,8 @@ fn take_joining<W: Weights>(
 /// Appends the code point to `string` where that makes a mapped string of the table, and says whether it did.
 fn lengthen<W: Weights>(string: &mut ArrayVec<u32, MOST_STRING_POINTS>, table: &W, cp: u32) -> bool
     ensures value { result ≡ is_mapped (W.table table.now) (string.old.items ++ cp ∷ []) }
-    ensures string { string.new.items ≡ (if result then string.old.items ++ cp ∷ [] else string.old.items) }
+    ensures string { string.new.items
+        ≡ (if result then string.old.items ++ cp ∷ [] else string.old.items) }
 {
     if string.is_full() {
         return false;

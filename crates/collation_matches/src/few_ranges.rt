@@ -8,8 +8,10 @@ ghost use Rattle.collation_matches.specs.Matches.{settled};
 
 /// At most one minimal match begins at each offset of a text, so there are no more of them than bytes, and one.
 pub fn one_range_begins_at_an_offset()
-    ensures answer { (table : TableMap) (strength : Strength) (variable : Variable) (pattern bytes : List ℕ)
+    ensures answer { (table : TableMap) (strength : Strength) (variable : Variable)
+        (pattern bytes : List ℕ)
         → length (answer table strength variable pattern bytes).ranges ≤ length bytes + 1 }
-    ensures settled { (table : TableMap) (strength : Strength) (variable : Variable) (pattern text : List ℕ)
+    ensures settled { (table : TableMap) (strength : Strength) (variable : Variable)
+        (pattern text : List ℕ)
         → length (settled table strength variable pattern text) ≤ length text + 1 }
 {}

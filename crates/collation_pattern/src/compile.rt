@@ -24,10 +24,12 @@ pub fn keys_of_pattern<W: Weights>(
     strength: Strength,
     variable: Variable,
 ) -> Result<Vec<Key>, PatternFault>
-    ensures keys { IfOk result (λ keys. keys.items ≡ text_keys (W.table table.now) strength variable text.now) }
+    ensures keys { IfOk result
+        (λ keys. keys.items ≡ text_keys (W.table table.now) strength variable text.now) }
     ensures some { IfOk result (λ keys. 1 ≤ length keys.items) }
     ensures accepted { OnOk result (IsFault (W.table table.now) strength variable text.now None) }
-    ensures refused { IfErr result (λ f. f.kind ≢ 24 → IsFault (W.table table.now) strength variable text.now (Some f.kind)) }
+    ensures refused { IfErr result (λ f. f.kind ≢ 24
+        → IsFault (W.table table.now) strength variable text.now (Some f.kind)) }
 {
     items_are_keys_and_starts();
     if text.len() > MOST_PATTERN_BYTES {

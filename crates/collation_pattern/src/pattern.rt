@@ -54,10 +54,20 @@ impl Pattern {
         strength: Strength,
         variable: Variable,
     ) -> Result<Pattern, PatternFault>
-        ensures compiled { IfOk result (λ pattern. pattern ≡ record { keys = text_keys (W.table table.now) strength variable text.now; strength = strength; variable = variable }) }
-        ensures from_text { IfOk result (λ pattern. IsCompiledWith (W.table table.now) pattern text.now) }
-        ensures accepted { OnOk result (pattern_fault (W.table table.now) strength variable text.now ≡ None) }
-        ensures refused { IfErr result (λ f. f.kind ≢ 24 → pattern_fault (W.table table.now) strength variable text.now ≡ Some f.kind) }
+        ensures compiled { IfOk result
+            (λ pattern. pattern
+            ≡ record {
+              keys = text_keys
+                  (W.table table.now) strength variable text.now;
+              strength = strength;
+              variable = variable;
+            }) }
+        ensures from_text { IfOk result
+            (λ pattern. IsCompiledWith (W.table table.now) pattern text.now) }
+        ensures accepted { OnOk result
+            (pattern_fault (W.table table.now) strength variable text.now ≡ None) }
+        ensures refused { IfErr result (λ f. f.kind ≢ 24
+            → pattern_fault (W.table table.now) strength variable text.now ≡ Some f.kind) }
     {
         let keys = keys_of_pattern(alloc, table, text, strength, variable)?;
         let Ok(borders) = borders_of(alloc, &keys) else {
@@ -110,7 +120,8 @@ impl Pattern {
     /// keys of a text the calls take time proportional to their number.
     pub fn advance(&self, state: usize, key: &Key) -> usize
         requires { state ≤ length self.now.keys }
-        ensures border { (ks : List Key) → border self.now.keys ks ≡ state → result ≡ border self.now.keys (ks ++ key.now ∷ []) }
+        ensures border { (ks : List Key) → border self.now.keys ks ≡ state
+            → result ≡ border self.now.keys (ks ++ key.now ∷ []) }
         ensures within { result ≤ length self.now.keys }
     {
         state_after(&self.keys, &self.borders, state, key)
@@ -122,7 +133,8 @@ impl Pattern {
     /// Two lists may differ and yet have the same levels, as a pair and two primary keys of its weights; under a
     /// well-formed table no two texts have such lists.
     pub fn same_key(&self, keys: &[Key]) -> bool
-        ensures { IsTrue result ↔ (levels self.now.strength keys.now ≡ levels self.now.strength self.now.keys) }
+        ensures { IsTrue result ↔
+            (levels self.now.strength keys.now ≡ levels self.now.strength self.now.keys) }
     {
         same_levels(self.strength, keys, self.keys.as_slice())
     }

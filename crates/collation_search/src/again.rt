@@ -66,9 +66,11 @@ impl Finder {
         requires longest { self.old.longest_key ≡ longest_key_of (W.table table.now) }
         requires pattern_len { self.old.pattern_len ≡ length pattern.now.keys }
         requires empty { found.old.items ≡ [] }
-        ensures ended { (taken : List ℕ) (ranges : List _) → FinderStandsFor (W.table table.now) pattern.now self.old taken ranges
+        ensures ended { (taken : List ℕ) (ranges : List _)
+            → FinderStandsFor (W.table table.now) pattern.now self.old taken ranges
             → WalksOver pattern.now.keys
-            (items_of_units (W.table table.now) pattern.now.strength pattern.now.variable false (units (W.table table.now) (points taken)))
+            (items_of_units (W.table table.now) pattern.now.strength pattern.now.variable false
+            (units (W.table table.now) (points taken)))
             (ranges ++ found.new.items) self.new.walk }
         ensures few { array_vec_len found.new ≤ longest_key_of (W.table table.now) + MOST_WAITING }
         ensures open { self.new.window.has_ended ≡ false }
@@ -107,11 +109,18 @@ impl<'a, W: Weights> Search<'a, W> {
     ///
     /// Those of [`Search::finish`]. The search is then at the beginning of another text too.
     pub fn finish_text(&mut self, found: &mut Found) -> Result<(), TextFault>
-        ensures good { (text u : List ℕ) (handed : List _) → IsCompiledFrom (sought self.old) text → HasSearched self.old u handed
-            → OnOk result (answer_to (sought self.old) text u ≡ record { ranges = handed ++ found.new.items; fault = None }) }
-        ensures bad { (text u : List ℕ) (handed : List _) → IsCompiledFrom (sought self.old) text → HasSearched self.old u handed
-            → IfErr result (λ f. answer_to (sought self.old) text u ≡ record { ranges = handed ++ found.new.items; fault = Some f }) }
-        ensures again { (f : TextFault) → HasReported self.old f → (result ≡ Err f) × (found.new.items ≡ []) }
+        ensures good { (text u : List ℕ) (handed : List _) → IsCompiledFrom (sought self.old) text
+            → HasSearched self.old u handed
+            → OnOk result
+            (answer_to (sought self.old) text u
+            ≡ record { ranges = handed ++ found.new.items; fault = None }) }
+        ensures bad { (text u : List ℕ) (handed : List _) → IsCompiledFrom (sought self.old) text
+            → HasSearched self.old u handed
+            → IfErr result
+            (λ f. answer_to (sought self.old) text u
+            ≡ record { ranges = handed ++ found.new.items; fault = Some f }) }
+        ensures again { (f : TextFault) → HasReported self.old f
+            → (result ≡ Err f) × (found.new.items ≡ []) }
         ensures memory { IfErr result (λ f. f.kind ≡ 35 → HasReported self.old f) }
         ensures stands { HasSearched self.new [] [] }
         ensures sought { sought self.new ≡ sought self.old }

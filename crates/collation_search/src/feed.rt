@@ -30,7 +30,8 @@ fn reach<W: Weights>(query: &Query<'_, W>, letters: &mut Letters, piece: &[u8]) 
     requires { AreLetters (W.table query.now.table.now) query.now.pattern.now letters.old }
     ensures right { AreLetters (W.table query.now.table.now) query.now.pattern.now letters.new }
     ensures enough { (u : List ℕ) → is_good_so_far (u ++ piece.now) ≡ true → 0 < result
-        → max 2 (longest_mapped (W.table query.now.table.now)) ≤ starters_from (length u + result) (chars (whole (u ++ piece.now))) }
+        → max 2 (longest_mapped (W.table query.now.table.now)) ≤ starters_from (length u + result)
+        (chars (whole (u ++ piece.now))) }
 {
     whole_characters_are_the_longest_text();
     text_may_stand_before();
@@ -54,7 +55,9 @@ fn starter_comes_first<W: Weights>(
 ) -> bool
     requires { AreLetters (W.table query.now.table.now) query.now.pattern.now letters.old }
     ensures right { AreLetters (W.table query.now.table.now) query.now.pattern.now letters.new }
-    ensures starter { result ≡ true → (c : ℕ) × (len_utf8 c ≤ length bytes.now) × SpellsCharacter (take (len_utf8 c) bytes.now) c
+    ensures starter { result ≡ true
+        → (c : ℕ) × (len_utf8 c ≤ length bytes.now)
+        × SpellsCharacter (take (len_utf8 c) bytes.now) c
         × (begins_with_starter (points_of 0 c) ≡ true) }
 {
     match first_character(bytes) {
@@ -67,7 +70,8 @@ fn starter_comes_first<W: Weights>(
 #[inline(always)]
 pub(crate) fn call<F: FnMut(u64, u64)>(range: Option<(u64, u64)>, sink: &mut F)
     requires { F.IsAlwaysCallable sink.old }
-    ensures called { FoldsTo (λ f range g. F.step f range.0 range.1 tt g) sink.old (option_to_list range) sink.new }
+    ensures called { FoldsTo (λ f range g. F.step f range.0 range.1 tt g) sink.old
+        (option_to_list range) sink.new }
     ensures callable { F.IsAlwaysCallable sink.new }
 {
     if let Some((start, end)) = range {
@@ -78,7 +82,8 @@ pub(crate) fn call<F: FnMut(u64, u64)>(range: Option<(u64, u64)>, sink: &mut F)
 /// Calls the sink once for each range, in order.
 pub(crate) fn hand_out<F: FnMut(u64, u64)>(ranges: &[(u64, u64)], sink: &mut F)
     requires { F.IsAlwaysCallable sink.old }
-    ensures called { FoldsTo (λ f range g. F.step f range.0 range.1 tt g) sink.old ranges.now sink.new }
+    ensures called { FoldsTo
+        (λ f range g. F.step f range.0 range.1 tt g) sink.old ranges.now sink.new }
     ensures callable { F.IsAlwaysCallable sink.new }
 {
     let mut rest = ranges;
@@ -108,7 +113,8 @@ impl<'a, W: Weights> Search<'a, W> {
     /// so that 35 is only a fault that the search began with.
     pub fn feed<F: FnMut(u64, u64)>(&mut self, piece: &[u8], sink: &mut F) -> Result<(), TextFault>
         requires { F.IsAlwaysCallable sink.old }
-        ensures fed { (found : List (ℕ × ℕ)) × FoldsTo (λ f range g. F.step f range.0 range.1 tt g) sink.old found sink.new
+        ensures fed { (found : List (ℕ × ℕ))
+            × FoldsTo (λ f range g. F.step f range.0 range.1 tt g) sink.old found sink.new
             × Feeds self.old piece.now result found self.new }
         ensures callable { F.IsAlwaysCallable sink.new }
     {
@@ -140,7 +146,8 @@ impl<'a, W: Weights> Search<'a, W> {
         requires none { self.old.fault ≡ None }
         ensures taken { Takes self.old 0 [] (Ok tt) [] self.new }
         ensures enough { (u : List ℕ) → is_good_so_far (u ++ piece.now) ≡ true → 0 < result
-            → max 2 (longest_mapped (sought self.old).table) ≤ starters_from (length u + result) (chars (whole (u ++ piece.now))) }
+            → max 2 (longest_mapped (sought self.old).table) ≤ starters_from (length u + result)
+            (chars (whole (u ++ piece.now))) }
     {
         reach(&self.query, &mut self.cache.letters, piece)
     }
@@ -157,7 +164,8 @@ impl<'a, W: Weights> Search<'a, W> {
         requires none { self.old.fault ≡ None }
         requires callable { F.IsAlwaysCallable sink.old }
         ensures within { result ≤ length piece.now }
-        ensures taken { (ranges : List (ℕ × ℕ)) × FoldsTo (λ f range g. F.step f range.0 range.1 tt g) sink.old ranges sink.new
+        ensures taken { (ranges : List (ℕ × ℕ))
+            × FoldsTo (λ f range g. F.step f range.0 range.1 tt g) sink.old ranges sink.new
             × Takes self.old reach (take result piece.now) (Ok tt) ranges self.new }
         ensures callable { F.IsAlwaysCallable sink.new }
     {

@@ -68,7 +68,8 @@ impl Finder {
         pattern: &Pattern,
         select: Select,
     ) -> Result<Finder, AllocError>
-        ensures stands { IfOk result (λ f. FinderStandsFor (W.table table.now) pattern.now f [] []) }
+        ensures stands { IfOk result
+            (λ f. FinderStandsFor (W.table table.now) pattern.now f [] []) }
         ensures open { IfOk result (λ f. f.window.has_ended ≡ false) }
         ensures empty { IfOk result (λ f. f.window.points ≡ []) }
         ensures longest { IfOk result (λ f. f.longest_key ≡ longest_key_of (W.table table.now)) }
@@ -105,26 +106,40 @@ impl Finder {
         requires longest { self.old.longest_key ≡ longest_key_of (W.table table.now) }
         requires pattern_len { self.old.pattern_len ≡ length pattern.now.keys }
         requires empty { found.old.items ≡ [] }
-        ensures stands { (taken : List ℕ) (ranges : List _) → FinderStandsFor (W.table table.now) pattern.now self.old taken ranges
+        ensures stands { (taken : List ℕ) (ranges : List _)
+            → FinderStandsFor (W.table table.now) pattern.now self.old taken ranges
             → offset ≡ byte_len taken
-            → OnOk result (FinderStandsFor (W.table table.now) pattern.now self.new (taken ++ c ∷ []) (ranges ++ found.new.items)) }
-        ensures kept { (taken : List ℕ) (ranges : List _) → FinderStandsFor (W.table table.now) pattern.now self.old taken ranges
+            → OnOk result
+            (FinderStandsFor (W.table table.now) pattern.now self.new (taken ++ c ∷ [])
+            (ranges ++ found.new.items)) }
+        ensures kept { (taken : List ℕ) (ranges : List _)
+            → FinderStandsFor (W.table table.now) pattern.now self.old taken ranges
             → OnErr result (FinderStandsFor (W.table table.now) pattern.now self.new taken ranges) }
-        ensures fault { (taken rest : List ℕ) (ranges : List _) → FinderStandsFor (W.table table.now) pattern.now self.old taken ranges
+        ensures fault { (taken rest : List ℕ) (ranges : List _)
+            → FinderStandsFor (W.table table.now) pattern.now self.old taken ranges
             → IfErr result (λ f. point_fault (taken ++ c ∷ rest) ≡ Some (byte_len taken, f.kind)) }
         // after a pause, in which none waits, it goes on with a character that begins with a starter
         ensures afresh { (taken : List ℕ) (ranges : List _)
-            → IsPausedBefore (W.table table.now) pattern.now self.old.reorder self.old.window self.old.weigher self.old.walk taken ranges c
+            → IsPausedBefore
+            (W.table table.now) pattern.now self.old.reorder self.old.window self.old.weigher self.old.walk taken ranges c
             → offset ≡ byte_len taken → begins_with_starter (points_of offset c) ≡ true
-            → OnOk result (FinderStandsFor (W.table table.now) pattern.now self.new (taken ++ c ∷ []) (ranges ++ found.new.items)) }
+            → OnOk result
+            (FinderStandsFor (W.table table.now) pattern.now self.new (taken ++ c ∷ [])
+            (ranges ++ found.new.items)) }
         // the points left are those of which no unit is decided, but for units that were cut early
-        ensures left { (place : ℕ) (taken : List ℕ) (ranges : List _) → FinderStandsFor (W.table table.now) pattern.now self.old taken ranges
-            → offset ≡ byte_len taken → IsCutUpTo (W.table table.now) place taken self.old.window.points
-            → OnOk result (IsCutUpTo (W.table table.now) place (taken ++ c ∷ []) self.new.window.points) }
+        ensures left { (place : ℕ) (taken : List ℕ) (ranges : List _)
+            → FinderStandsFor (W.table table.now) pattern.now self.old taken ranges
+            → offset ≡ byte_len taken
+            → IsCutUpTo (W.table table.now) place taken self.old.window.points
+            → OnOk result
+            (IsCutUpTo (W.table table.now) place (taken ++ c ∷ []) self.new.window.points) }
         ensures left_afresh { (taken : List ℕ) (ranges : List _)
-            → IsPausedBefore (W.table table.now) pattern.now self.old.reorder self.old.window self.old.weigher self.old.walk taken ranges c
+            → IsPausedBefore
+            (W.table table.now) pattern.now self.old.reorder self.old.window self.old.weigher self.old.walk taken ranges c
             → offset ≡ byte_len taken → begins_with_starter (points_of offset c) ≡ true
-            → OnOk result (IsCutUpTo (W.table table.now) (byte_len taken) (taken ++ c ∷ []) self.new.window.points) }
+            → OnOk result
+            (IsCutUpTo (W.table table.now) (byte_len taken)
+            (taken ++ c ∷ []) self.new.window.points) }
         ensures undecided { OnOk result (is_decided (W.table table.now) self.new.window ≡ false) }
         ensures apart { self.old.reorder.held ≡ [] → result ≡ Ok tt }
         ensures kind { IfErr result (λ f. f.kind ≡ 32) }
@@ -163,13 +178,18 @@ impl Finder {
         requires longest { self.old.longest_key ≡ longest_key_of (W.table table.now) }
         requires pattern_len { self.old.pattern_len ≡ length pattern.now.keys }
         requires empty { found.old.items ≡ [] }
-        ensures ended { (taken : List ℕ) (ranges : List _) → FinderStandsFor (W.table table.now) pattern.now self.old taken ranges
+        ensures ended { (taken : List ℕ) (ranges : List _)
+            → FinderStandsFor (W.table table.now) pattern.now self.old taken ranges
             → WalksOver pattern.now.keys
-            (items_of_units (W.table table.now) pattern.now.strength pattern.now.variable false (units (W.table table.now) (points taken)))
+            (items_of_units (W.table table.now) pattern.now.strength pattern.now.variable false
+            (units (W.table table.now) (points taken)))
             (ranges ++ found.new.items) self.new.walk }
-        ensures walked { (taken : List ℕ) (ranges : List _) → FinderStandsFor (W.table table.now) pattern.now self.old taken ranges
-            → HasWalked (W.table table.now) pattern.now self.new.weigher self.new.walk (units (W.table table.now) (points taken)) (ranges ++ found.new.items) }
-        ensures good { (taken : List ℕ) (ranges : List _) → FinderStandsFor (W.table table.now) pattern.now self.old taken ranges
+        ensures walked { (taken : List ℕ) (ranges : List _)
+            → FinderStandsFor (W.table table.now) pattern.now self.old taken ranges
+            → HasWalked (W.table table.now) pattern.now self.new.weigher self.new.walk
+            (units (W.table table.now) (points taken)) (ranges ++ found.new.items) }
+        ensures good { (taken : List ℕ) (ranges : List _)
+            → FinderStandsFor (W.table table.now) pattern.now self.old taken ranges
             → point_fault taken ≡ None }
         ensures none_waits { self.new.reorder.held ≡ [] }
         ensures none_left { self.new.window.points ≡ [] }
@@ -195,8 +215,11 @@ impl Finder {
     /// Puts the range that ends with the last cluster, at the byte offset `end`, after those found, if one does.
     pub(crate) fn last(&self, pattern: &Pattern, end: u64, found: &mut Found)
         requires { array_vec_len found.old < 128 }
-        ensures { (items : List _) (ranges : List _) → WalksOver pattern.now.keys items (ranges ++ found.old.items) self.now.walk
-            → ranges ++ found.new.items ≡ selected self.now.walk.select (all_found pattern.now.keys (clusters_from text_begin items) end) }
+        ensures { (items : List _) (ranges : List _)
+            → WalksOver pattern.now.keys items (ranges ++ found.old.items) self.now.walk
+            → ranges ++ found.new.items
+            ≡ selected self.now.walk.select
+            (all_found pattern.now.keys (clusters_from text_begin items) end) }
     {
         let range = self.walk.end(pattern, end);
         keep(found, range);

@@ -33,8 +33,11 @@ pub fn index<W: Weights>(
     pattern: &Pattern,
     text: &[u8],
 ) -> Result<Option<(u64, u64)>, TextFault>
-    ensures first { (p : List ℕ) → IsCompiledFrom (record { table = W.table table.now; pattern = pattern.now; select = All }) p
-        → IsFirstOf (answer_to (record { table = W.table table.now; pattern = pattern.now; select = All }) p text.now) result }
+    ensures first { (p : List ℕ)
+        → IsCompiledFrom
+        (record { table = W.table table.now; pattern = pattern.now; select = All }) p
+        → IsFirstOf (answer_to
+        (record { table = W.table table.now; pattern = pattern.now; select = All }) p text.now) result }
 {
     let Ok(mut search) = Search::new(alloc, table, pattern) else {
         return Err(TextFault {
@@ -63,7 +66,8 @@ pub fn index_from<W: Weights>(
     from: usize,
 ) -> Result<Option<(u64, u64)>, TextFault>
     ensures first { (p : List ℕ)
-        → IsCompiledFrom (record { table = W.table table.now; pattern = pattern.now; select = All }) p
+        → IsCompiledFrom
+        (record { table = W.table table.now; pattern = pattern.now; select = All }) p
         → IsFirstOf
         (answer_from (record { table = W.table table.now; pattern = pattern.now; select = All })
         p text.now from)
@@ -96,7 +100,8 @@ impl<'a, W: Weights> Search<'a, W> {
     /// The first fault of the text, where no range was found before it.
     pub fn first_in(&mut self, text: &[u8]) -> Result<Option<(u64, u64)>, TextFault>
         ensures first { (p : List ℕ) → IsCompiledFrom (sought self.old) p
-            → result ≡ first_range (answer_to (sought self.old) p text.now).ranges (answer_to (sought self.old) p text.now).fault }
+            → result ≡ first_range (answer_to (sought self.old) p text.now).ranges
+            (answer_to (sought self.old) p text.now).fault }
         ensures stands { HasSearched self.new [] [] }
         ensures sought { sought self.new ≡ sought self.old }
     {
@@ -136,7 +141,8 @@ impl<'a, W: Weights> Search<'a, W> {
     fn first_of(&mut self, text: &[u8]) -> Result<Option<(u64, u64)>, TextFault>
         requires { HasSearched self.old [] [] }
         ensures first { (p : List ℕ) → IsCompiledFrom (sought self.old) p
-            → result ≡ first_range (answer_to (sought self.old) p text.now).ranges (answer_to (sought self.old) p text.now).fault }
+            → result ≡ first_range (answer_to (sought self.old) p text.now).ranges
+            (answer_to (sought self.old) p text.now).fault }
         ensures sought { sought self.new ≡ sought self.old }
     {
         let mut rest = text;
@@ -165,14 +171,16 @@ impl<'a, W: Weights> Search<'a, W> {
     ///
     /// The first fault of the text, where none became known before it.
     fn feed_first(&mut self, piece: &[u8]) -> Result<Option<(u64, u64)>, TextFault>
-        ensures fed { (found : List (ℕ × ℕ)) × (answer : Result (Unit {0}) TextFault) × Feeds self.old piece.now answer found self.new
+        ensures fed { (found : List (ℕ × ℕ)) × (answer : Result (Unit {0}) TextFault)
+            × Feeds self.old piece.now answer found self.new
             × (result ≡ first_range found (fault_of answer)) }
     {
         let mut first = None;
         let fed = self.feed(
             piece,
             &mut |start, end|
-                ensures kept { (items : List (ℕ × ℕ)) → first.entry ≡ slice_get items 0 → first.exit ≡ slice_get (items ++ (start, end) ∷ []) 0 }
+                ensures kept { (items : List (ℕ × ℕ)) → first.entry ≡ slice_get items 0
+                    → first.exit ≡ slice_get (items ++ (start, end) ∷ []) 0 }
             {
                 if first.is_none() {
                     first = Some((start, end));

@@ -33,7 +33,8 @@ pub(crate) fn push_points(window: &mut Window, points: &[Point])
     requires open { window.old.has_ended ≡ false }
     requires sound { All IsSoundPoint points.now }
     ensures points { window.new ≡ record window.old { points = window.old.points ++ points.now } }
-    ensures stands { (table : TableMap) (taken : List Point) (given : List (List Point)) → WindowStandsFor table window.old taken given
+    ensures stands { (table : TableMap) (taken : List Point) (given : List (List Point))
+        → WindowStandsFor table window.old taken given
         → WindowStandsFor table window.new (taken ++ points.now) given }
 {
     for point in points {
@@ -62,9 +63,11 @@ pub(crate) fn keep(found: &mut Found, range: Option<(u64, u64)>)
 fn walk_over(walk: &mut Walk, pattern: &Pattern, items: &[Item], found: &mut Found)
     requires state { walk.old.state ≤ length pattern.now.keys }
     requires room { array_vec_len found.old + length (item_starts items.now) ≤ MOST_FOUND }
-    ensures stands { (before : List _) (ranges : List _) → WalksOver pattern.now.keys before (ranges ++ found.old.items) walk.old
+    ensures stands { (before : List _) (ranges : List _)
+        → WalksOver pattern.now.keys before (ranges ++ found.old.items) walk.old
         → WalksOver pattern.now.keys (before ++ items.now) (ranges ++ found.new.items) walk.new }
-    ensures few { array_vec_len found.new ≤ array_vec_len found.old + length (item_starts items.now) }
+    ensures few { array_vec_len found.new ≤ array_vec_len found.old + length
+        (item_starts items.now) }
     ensures state { walk.new.state ≤ length pattern.now.keys }
     ensures select { walk.new.select ≡ walk.old.select }
     ensures room { walk.new.places.capacity ≡ walk.old.places.capacity }
@@ -80,8 +83,11 @@ fn walk_over(walk: &mut Walk, pattern: &Pattern, items: &[Item], found: &mut Fou
 fn walk_start(walk: &mut Walk, pattern: &Pattern, start: Option<u64>, found: &mut Found)
     requires state { walk.old.state ≤ length pattern.now.keys }
     requires room { array_vec_len found.old < MOST_FOUND }
-    ensures stands { (before : List _) (ranges : List _) → WalksOver pattern.now.keys before (ranges ++ found.old.items) walk.old
-        → WalksOver pattern.now.keys (before ++ map (λ at. Item.ClusterStart at) (option_to_list start)) (ranges ++ found.new.items) walk.new }
+    ensures stands { (before : List _) (ranges : List _)
+        → WalksOver pattern.now.keys before (ranges ++ found.old.items) walk.old
+        → WalksOver pattern.now.keys
+        (before ++ map (λ at. Item.ClusterStart at) (option_to_list start))
+        (ranges ++ found.new.items) walk.new }
     ensures few { array_vec_len found.new ≤ array_vec_len found.old + 1 }
     ensures state { walk.new.state ≤ length pattern.now.keys }
     ensures select { walk.new.select ≡ walk.old.select }
@@ -97,8 +103,10 @@ fn walk_start(walk: &mut Walk, pattern: &Pattern, start: Option<u64>, found: &mu
 #[inline(always)]
 fn walk_key(walk: &mut Walk, pattern: &Pattern, key: Option<Key>)
     requires state { walk.old.state ≤ length pattern.now.keys }
-    ensures stands { (before : List _) (ranges : List _) → WalksOver pattern.now.keys before ranges walk.old
-        → WalksOver pattern.now.keys (before ++ map (λ k. Item.Element k) (option_to_list key)) ranges walk.new }
+    ensures stands { (before : List _) (ranges : List _)
+        → WalksOver pattern.now.keys before ranges walk.old
+        → WalksOver pattern.now.keys
+        (before ++ map (λ k. Item.Element k) (option_to_list key)) ranges walk.new }
     ensures state { walk.new.state ≤ length pattern.now.keys }
     ensures select { walk.new.select ≡ walk.old.select }
     ensures room { walk.new.places.capacity ≡ walk.old.places.capacity }
@@ -121,12 +129,16 @@ fn take_long(
 )
     requires state { walk.old.state ≤ length pattern.now.keys }
     requires room { array_vec_len found.old < MOST_FOUND }
-    ensures weighed { (table : TableMap) (points : List Point) (units : List (List Point)) (given : List Item) → IsUnitOf table points unit.entry
+    ensures weighed { (table : TableMap) (points : List Point) (units : List (List Point))
+        (given : List Item) → IsUnitOf table points unit.entry
         → WeigherStandsFor table weigher.old units given
-        → WeigherStandsFor table weigher.new (units ++ points ∷ []) (given ++ value_items weigher.old unit.entry) }
+        → WeigherStandsFor table weigher.new (units ++ points ∷ [])
+        (given ++ value_items weigher.old unit.entry) }
     ensures after { weigher.new ≡ weigher_after weigher.old unit.entry }
-    ensures walked { (before : List _) (ranges : List _) → WalksOver pattern.now.keys before (ranges ++ found.old.items) walk.old
-        → WalksOver pattern.now.keys (before ++ value_items weigher.old unit.entry) (ranges ++ found.new.items) walk.new }
+    ensures walked { (before : List _) (ranges : List _)
+        → WalksOver pattern.now.keys before (ranges ++ found.old.items) walk.old
+        → WalksOver pattern.now.keys (before ++ value_items weigher.old unit.entry)
+        (ranges ++ found.new.items) walk.new }
     ensures few { array_vec_len found.new ≤ array_vec_len found.old + 1 }
     ensures state { walk.new.state ≤ length pattern.now.keys }
     ensures select { walk.new.select ≡ walk.old.select }
@@ -148,12 +160,16 @@ fn take_unit(
 )
     requires state { walk.old.state ≤ length pattern.now.keys }
     requires room { array_vec_len found.old < MOST_FOUND }
-    ensures weighed { (table : TableMap) (points : List Point) (units : List (List Point)) (given : List Item) → IsUnitOf table points unit.entry
+    ensures weighed { (table : TableMap) (points : List Point) (units : List (List Point))
+        (given : List Item) → IsUnitOf table points unit.entry
         → WeigherStandsFor table weigher.old units given
-        → WeigherStandsFor table weigher.new (units ++ points ∷ []) (given ++ value_items weigher.old unit.entry) }
+        → WeigherStandsFor table weigher.new (units ++ points ∷ [])
+        (given ++ value_items weigher.old unit.entry) }
     ensures after { weigher.new ≡ weigher_after weigher.old unit.entry }
-    ensures walked { (before : List _) (ranges : List _) → WalksOver pattern.now.keys before (ranges ++ found.old.items) walk.old
-        → WalksOver pattern.now.keys (before ++ value_items weigher.old unit.entry) (ranges ++ found.new.items) walk.new }
+    ensures walked { (before : List _) (ranges : List _)
+        → WalksOver pattern.now.keys before (ranges ++ found.old.items) walk.old
+        → WalksOver pattern.now.keys (before ++ value_items weigher.old unit.entry)
+        (ranges ++ found.new.items) walk.new }
     ensures few { array_vec_len found.new ≤ array_vec_len found.old + 1 }
     ensures state { walk.new.state ≤ length pattern.now.keys }
     ensures select { walk.new.select ≡ walk.old.select }
@@ -181,19 +197,25 @@ pub(crate) fn cut_units<W: Weights>(
     requires state { walk.old.state ≤ length pattern.now.keys }
     requires room { array_vec_len found.old + length window.old.points ≤ MOST_FOUND }
     ensures stands { (points : List Point) (ranges : List _)
-        → HasMatched (W.table table.now) pattern.now window.old weigher.old walk.old points (ranges ++ found.old.items)
-        → HasMatched (W.table table.now) pattern.now window.new weigher.new walk.new points (ranges ++ found.new.items) }
+        → HasMatched (W.table table.now) pattern.now window.old weigher.old walk.old points
+        (ranges ++ found.old.items)
+        → HasMatched (W.table table.now) pattern.now window.new weigher.new walk.new points
+        (ranges ++ found.new.items) }
     ensures few { array_vec_len found.new + length window.new.points ≤ array_vec_len found.old + length window.old.points }
     ensures kept { All (Contains window.old.points) window.new.points }
-    ensures short { All IsSoundPoint window.old.points → has_short_runs 0 (code_points window.old.points) ≡ true
+    ensures short { All IsSoundPoint window.old.points
+        → has_short_runs 0 (code_points window.old.points) ≡ true
         → has_short_runs 0 (code_points window.new.points) ≡ true }
     ensures capacity { window.new.capacity ≡ window.old.capacity }
     ensures ended { window.new.has_ended ≡ window.old.has_ended }
-    ensures rest { window.old.has_ended ≡ false → is_closed window.old.points ≡ true → length window.new.points ≤ longest_mapped (W.table table.now) }
-    ensures last { window.old.has_ended ≡ false → is_closed window.old.points ≡ true → is_closed window.new.points ≡ true }
+    ensures rest { window.old.has_ended ≡ false → is_closed window.old.points ≡ true
+        → length window.new.points ≤ longest_mapped (W.table table.now) }
+    ensures last { window.old.has_ended ≡ false → is_closed window.old.points ≡ true
+        → is_closed window.new.points ≡ true }
     ensures all { window.old.has_ended ≡ true → window.new.points ≡ [] }
     ensures undecided { is_decided (W.table table.now) window.new ≡ false }
-    ensures left { window.old.has_ended ≡ false → window.new.points ≡ left_points (W.table table.now) window.old.points }
+    ensures left { window.old.has_ended ≡ false
+        → window.new.points ≡ left_points (W.table table.now) window.old.points }
     ensures state { walk.new.state ≤ length pattern.now.keys }
     ensures select { walk.new.select ≡ walk.old.select }
     ensures room { walk.new.places.capacity ≡ walk.old.places.capacity }

@@ -35,7 +35,8 @@ impl<'a, W: Weights> Search<'a, W> {
     pub fn park(self) -> Parked
         ensures fits { IsFor (sought self.entry).table (sought self.entry).pattern result }
         ensures select { parked_select result ≡ (sought self.entry).select }
-        ensures stands { (u : List ℕ) (handed : List (ℕ × ℕ)) → HasSearched self.entry u handed → HasParked (sought self.entry) result u handed }
+        ensures stands { (u : List ℕ) (handed : List (ℕ × ℕ)) → HasSearched self.entry u handed
+            → HasParked (sought self.entry) result u handed }
         ensures reported { parked_fault result ≡ self.entry.fault }
         ensures words { parked_words (sought self.entry) result ≡ words_of self.entry }
     {
@@ -66,8 +67,10 @@ impl Parked {
     /// memory is asked for.
     pub fn unpark<'a, W: Weights>(self, table: &'a W, pattern: &'a Pattern) -> Search<'a, W>
         requires fits { IsFor (W.table table.now) pattern.now self }
-        ensures sought { sought result ≡ record { table = W.table table.now; pattern = pattern.now; select = parked_select self } }
-        ensures stands { (u : List ℕ) (handed : List (ℕ × ℕ)) → HasParked (sought result) self u handed → HasSearched result u handed }
+        ensures sought { sought result
+            ≡ record { table = W.table table.now; pattern = pattern.now; select = parked_select self } }
+        ensures stands { (u : List ℕ) (handed : List (ℕ × ℕ))
+            → HasParked (sought result) self u handed → HasSearched result u handed }
         ensures reported { result.fault ≡ parked_fault self }
         ensures words { words_of result ≡ parked_words (sought result) self }
     {

@@ -43,15 +43,27 @@ pub fn search_in_pieces<W: Weights, F: FnMut(u64, u64)>(
     sink: &mut F,
 ) -> Result<PiecesSearched, AllocError>
     requires { F.IsAlwaysCallable sink.old }
-    ensures answer { (text : List ℕ) → IsCompiledFrom (record { table = W.table table.now; pattern = pattern.now; select = select }) text
-        → IfOk result (λ told. (found : List (ℕ × ℕ)) × FoldsTo (λ f range g. F.step f range.0 range.1 tt g) sink.old found sink.new
-        × (answer_to (record { table = W.table table.now; pattern = pattern.now; select = select }) text (joined pieces.now) ≡ record { ranges = found; fault = told.fault })) }
+    ensures answer { (text : List ℕ)
+        → IsCompiledFrom
+        (record { table = W.table table.now; pattern = pattern.now; select = select }) text
+        → IfOk result
+        (λ told. (found : List (ℕ × ℕ))
+        × FoldsTo (λ f range g. F.step f range.0 range.1 tt g) sink.old found sink.new
+        × (answer_to
+        (record { table = W.table table.now; pattern = pattern.now; select = select }) text
+        (joined pieces.now) ≡ record { ranges = found; fault = told.fault })) }
     ensures states { IfOk result (λ told. (states : List (List ℕ)) × (last : List ℕ)
-        × HasStates W.Weights (record { table = W.table table.now; pattern = pattern.now; select = select }) pieces.now states last
+        × HasStates W.Weights
+        (record { table = W.table table.now; pattern = pattern.now; select = select }) pieces.now states last
         × (4 * told.most_records ≡ most_words states)) }
-    ensures few { IfOk result (λ told. told.most_records ≤ most_records (record { table = W.table table.now; pattern = pattern.now; select = select })) }
+    ensures few { IfOk result
+        (λ told. told.most_records ≤ most_records
+        (record { table = W.table table.now; pattern = pattern.now; select = select })) }
     // how many records the greatest state has depends on the cuts alone
-    ensures most { IfOk result (λ told. told.most_records ≡ most_records_after (record { table = W.table table.now; pattern = pattern.now; select = select }) [] pieces.now) }
+    ensures most { IfOk result
+        (λ told. told.most_records
+        ≡ most_records_after
+        (record { table = W.table table.now; pattern = pattern.now; select = select }) [] pieces.now) }
     ensures callable { F.IsAlwaysCallable sink.new }
 {
     decided_units_stay();
@@ -84,7 +96,9 @@ fn first_state<W: Weights>(
     pattern: &Pattern,
     select: Select,
 ) -> Result<Vec<u64>, AllocError>
-    ensures begun { IfOk result (λ words. HasStates W.Weights (record { table = W.table table.now; pattern = pattern.now; select = select }) [] [] words.items) }
+    ensures begun { IfOk result
+        (λ words. HasStates W.Weights
+        (record { table = W.table table.now; pattern = pattern.now; select = select }) [] [] words.items) }
 {
     let mut words = Vec::new(alloc);
     let search = Search::new_with(alloc, table, pattern, select)?;
@@ -108,11 +122,18 @@ fn take_piece<W: Weights, F: FnMut(u64, u64)>(
     sink: &mut F,
 ) -> Result<usize, AllocError>
     requires callable { F.IsAlwaysCallable sink.old }
-    requires under_way { (taken : List ℕ) × (handed : List (ℕ × ℕ)) × AreUnderWay W.Weights (record { table = W.table table.now; pattern = pattern.now; select = select }) words.old.items taken handed }
-    ensures passed { IfOk result (λ records. (found : List (ℕ × ℕ)) × FoldsTo (λ f range g. F.step f range.0 range.1 tt g) sink.old found sink.new
-        × Passes W.Weights (record { table = W.table table.now; pattern = pattern.now; select = select }) words.old.items piece.now found words.new.items) }
+    requires under_way { (taken : List ℕ) × (handed : List (ℕ × ℕ))
+        × AreUnderWay W.Weights
+        (record { table = W.table table.now; pattern = pattern.now; select = select }) words.old.items taken handed }
+    ensures passed { IfOk result
+        (λ records. (found : List (ℕ × ℕ))
+        × FoldsTo (λ f range g. F.step f range.0 range.1 tt g) sink.old found sink.new
+        × Passes W.Weights
+        (record { table = W.table table.now; pattern = pattern.now; select = select }) words.old.items piece.now found words.new.items) }
     ensures counted { IfOk result (λ records. length words.new.items ≡ 4 * records) }
-    ensures few { IfOk result (λ records. records ≤ most_records (record { table = W.table table.now; pattern = pattern.now; select = select })) }
+    ensures few { IfOk result
+        (λ records. records ≤ most_records
+        (record { table = W.table table.now; pattern = pattern.now; select = select })) }
     ensures callable { F.IsAlwaysCallable sink.new }
 {
     let mut search = go_on(alloc, table, pattern, select, words)?;
@@ -134,8 +155,12 @@ fn go_on<'a, W: Weights>(
     select: Select,
     words: &[u64],
 ) -> Result<Search<'a, W>, AllocError>
-    requires { (taken : List ℕ) × (handed : List (ℕ × ℕ)) × AreUnderWay W.Weights (record { table = W.table table.now; pattern = pattern.now; select = select }) words.now taken handed }
-    ensures goes_on { IfOk result (λ search. GoesOn search (record { table = W.table table.now; pattern = pattern.now; select = select }) words.now) }
+    requires { (taken : List ℕ) × (handed : List (ℕ × ℕ))
+        × AreUnderWay W.Weights
+        (record { table = W.table table.now; pattern = pattern.now; select = select }) words.now taken handed }
+    ensures goes_on { IfOk result
+        (λ search. GoesOn search
+        (record { table = W.table table.now; pattern = pattern.now; select = select }) words.now) }
 {
     match Search::resume_with(alloc, table, pattern, select, words) {
         Ok(search) => Ok(search),

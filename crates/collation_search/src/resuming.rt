@@ -28,8 +28,10 @@ impl Finder {
         requires room { self.old.walk.places.capacity ≡ self.old.pattern_len }
         requires few_points { length state.now.window.items ≤ self.old.longest_key }
         ensures held { self.new.reorder.held ≡ state.now.waiting.items }
-        ensures window { self.new.window ≡ record { points = state.now.window.items; capacity = self.old.window.capacity; has_ended = false } }
-        ensures weigher { self.new.weigher ≡ weigher pattern.now.strength pattern.now.variable state.now.after_variable }
+        ensures window { self.new.window
+            ≡ record { points = state.now.window.items; capacity = self.old.window.capacity; has_ended = false } }
+        ensures weigher { self.new.weigher
+            ≡ weigher pattern.now.strength pattern.now.variable state.now.after_variable }
         ensures state { self.new.walk.state ≡ length self.new.walk.places.items }
         ensures start { self.new.walk.start ≡ state.now.start }
         ensures has_keys { self.new.walk.has_keys ≡ state.now.has_keys }
@@ -72,11 +74,18 @@ impl<'a, W: Weights> Search<'a, W> {
         pattern: &'a Pattern,
         words: &[u64],
     ) -> Result<Self, StateFault>
-        ensures goes_on { IfOk result (λ s. GoesOn s (record { table = W.table table.now; pattern = pattern.now; select = AllRanges }) words.now) }
+        ensures goes_on { IfOk result
+            (λ s. GoesOn s
+            (record { table = W.table table.now; pattern = pattern.now; select = AllRanges }) words.now) }
         ensures begins { IfOk result (λ s. BeginsWithFault s (state_in AllRanges words.now).fault) }
-        ensures accepted { OnOk result (state_fault (sizes_of (record { table = W.table table.now; pattern = pattern.now; select = AllRanges })) words.now ≡ None) }
-        ensures refused { IfErr result (λ f. IsRefused (sizes_of (record { table = W.table table.now; pattern = pattern.now; select = AllRanges })) words.now f.kind) }
-        ensures kept { KeepsSaved result (record { table = W.table table.now; pattern = pattern.now; select = AllRanges }) words.now }
+        ensures accepted { OnOk result
+            (state_fault
+            (sizes_of (record { table = W.table table.now; pattern = pattern.now; select = AllRanges })) words.now ≡ None) }
+        ensures refused { IfErr result
+            (λ f. IsRefused
+            (sizes_of (record { table = W.table table.now; pattern = pattern.now; select = AllRanges })) words.now f.kind) }
+        ensures kept { KeepsSaved result
+            (record { table = W.table table.now; pattern = pattern.now; select = AllRanges }) words.now }
     {
         Search::resume_with(alloc, table, pattern, Select::All, words)
     }
@@ -97,11 +106,18 @@ impl<'a, W: Weights> Search<'a, W> {
         select: Select,
         words: &[u64],
     ) -> Result<Self, StateFault>
-        ensures goes_on { IfOk result (λ s. GoesOn s (record { table = W.table table.now; pattern = pattern.now; select = select }) words.now) }
+        ensures goes_on { IfOk result
+            (λ s. GoesOn s
+            (record { table = W.table table.now; pattern = pattern.now; select = select }) words.now) }
         ensures begins { IfOk result (λ s. BeginsWithFault s (state_in select words.now).fault) }
-        ensures accepted { OnOk result (state_fault (sizes_of (record { table = W.table table.now; pattern = pattern.now; select = select })) words.now ≡ None) }
-        ensures refused { IfErr result (λ f. IsRefused (sizes_of (record { table = W.table table.now; pattern = pattern.now; select = select })) words.now f.kind) }
-        ensures kept { KeepsSaved result (record { table = W.table table.now; pattern = pattern.now; select = select }) words.now }
+        ensures accepted { OnOk result
+            (state_fault
+            (sizes_of (record { table = W.table table.now; pattern = pattern.now; select = select })) words.now ≡ None) }
+        ensures refused { IfErr result
+            (λ f. IsRefused
+            (sizes_of (record { table = W.table table.now; pattern = pattern.now; select = select })) words.now f.kind) }
+        ensures kept { KeepsSaved result
+            (record { table = W.table table.now; pattern = pattern.now; select = select }) words.now }
     {
         clusters_are_parts();
         laws_of_points();
@@ -122,9 +138,11 @@ impl<'a, W: Weights> Search<'a, W> {
     /// 51 and 52 as [`Search::resume_with`] answers them. Then the search is as it was.
     pub fn resume_from(&mut self, words: &[u64]) -> Result<(), StateFault>
         ensures goes_on { OnOk result (GoesOn self.new (sought self.old) words.now) }
-        ensures begins { OnOk result (BeginsWithFault self.new (state_in (sought self.old).select words.now).fault) }
+        ensures begins { OnOk result
+            (BeginsWithFault self.new (state_in (sought self.old).select words.now).fault) }
         ensures accepted { OnOk result (state_fault (sizes_of (sought self.old)) words.now ≡ None) }
-        ensures refused { IfErr result (λ f. state_fault (sizes_of (sought self.old)) words.now ≡ Some f.kind) }
+        ensures refused { IfErr result
+            (λ f. state_fault (sizes_of (sought self.old)) words.now ≡ Some f.kind) }
         ensures kept { AcceptsSaved W.Weights result (sought self.old) words.now }
         ensures unchanged { OnErr result (self.new ≡ self.old) }
     {
@@ -147,9 +165,13 @@ impl<'a, W: Weights> Search<'a, W> {
     /// Goes on from what a state says, where it is at the beginning of a text.
     fn go_on_from(&mut self, state: &ReadState)
         requires new { HasSearched self.old [] [] }
-        requires few_places { length state.now.places.now ≤ 4 * (sizes_of (sought self.old)).pattern_len }
-        requires few_points { length state.now.window.items ≤ (sizes_of (sought self.old)).longest_key }
-        ensures goes_on { (words : List ℕ) → Says state.now (state_in (sought self.old).select words) → GoesOn self.new (sought self.old) words }
+        requires few_places { length state.now.places.now ≤ 4 *
+            (sizes_of (sought self.old)).pattern_len }
+        requires few_points { length state.now.window.items ≤
+            (sizes_of (sought self.old)).longest_key }
+        ensures goes_on { (words : List ℕ)
+            → Says state.now (state_in (sought self.old).select words)
+            → GoesOn self.new (sought self.old) words }
         ensures begins { BeginsWithFault self.new state.now.fault }
     {
         clusters_are_parts();

@@ -24,7 +24,8 @@ use std::alloc::AllocError;
 
 /// The sizes and the settings of what is looked for.
 pub(crate) fn sizes<W: Weights>(table: &W, pattern: &Pattern, select: Select) -> Sizes
-    ensures { result ≡ sizes_of (record { table = W.table table.now; pattern = pattern.now; select = select }) }
+    ensures { result
+        ≡ sizes_of (record { table = W.table table.now; pattern = pattern.now; select = select }) }
 {
     Sizes {
         pattern_len: pattern.len(),
@@ -46,11 +47,14 @@ impl<'a, W: Weights> Search<'a, W> {
     pub fn save(&self, words: &mut Vec<u64>) -> Result<(), AllocError>
         ensures saved { OnOk result (words.new.items ≡ words.old.items ++ words_of self.now) }
         ensures kept { OnErr result (words.new.items ≡ words.old.items) }
-        ensures full { OnErr result (vec_capacity words.old < vec_len words.old + length (words_of self.now)) }
+        ensures full { OnErr result
+            (vec_capacity words.old < vec_len words.old + length (words_of self.now)) }
         ensures few { HasRecords (words_of self.now) (most_records (sought self.now)) }
         // the words are those of the state after the bytes taken, however these were cut, and whatever was saved and resumed before
-        ensures state { (u : List ℕ) (handed : List (ℕ × ℕ)) → IsUnderWay self.now (sought self.now) u handed
-            → words_of self.now ≡ state_words (sizes_of (sought self.now)) (state_after (sought self.now) u) }
+        ensures state { (u : List ℕ) (handed : List (ℕ × ℕ))
+            → IsUnderWay self.now (sought self.now) u handed
+            → words_of self.now
+            ≡ state_words (sizes_of (sought self.now)) (state_after (sought self.now) u) }
     {
         decided_units_stay();
         laws_of_reordering();
@@ -65,10 +69,15 @@ impl<'a, W: Weights> Search<'a, W> {
     /// Two searches for the same that have taken the same bytes agree, however these were cut into pieces and whatever was saved and
     /// resumed on the way: they have handed out the same ranges, and they save the same words.
     pub fn agrees_with(&self, other: &Self)
-        ensures handed { (u : List ℕ) (mine theirs : List (ℕ × ℕ)) → sought other.now ≡ sought self.now
-            → IsUnderWay self.now (sought self.now) u mine → IsUnderWay other.now (sought other.now) u theirs → mine ≡ theirs }
-        ensures words { (u : List ℕ) (mine theirs : List (ℕ × ℕ)) → sought other.now ≡ sought self.now
-            → IsUnderWay self.now (sought self.now) u mine → IsUnderWay other.now (sought other.now) u theirs → words_of self.now ≡ words_of other.now }
+        ensures handed { (u : List ℕ) (mine theirs : List (ℕ × ℕ))
+            → sought other.now ≡ sought self.now
+            → IsUnderWay self.now (sought self.now) u mine
+            → IsUnderWay other.now (sought other.now) u theirs → mine ≡ theirs }
+        ensures words { (u : List ℕ) (mine theirs : List (ℕ × ℕ))
+            → sought other.now ≡ sought self.now
+            → IsUnderWay self.now (sought self.now) u mine
+            → IsUnderWay other.now (sought other.now) u theirs
+            → words_of self.now ≡ words_of other.now }
     {
         decided_units_stay();
         laws_of_reordering();
@@ -78,7 +87,8 @@ impl<'a, W: Weights> Search<'a, W> {
     fn append_state(&self, words: &mut Vec<u64>) -> Result<(), AllocError>
         ensures saved { OnOk result (words.new.items ≡ words.old.items ++ words_of self.now) }
         ensures begun { OnErr result (BeginsWith words.old.items words.new.items) }
-        ensures full { OnErr result (vec_capacity words.old < vec_len words.old + length (words_of self.now)) }
+        ensures full { OnErr result
+            (vec_capacity words.old < vec_len words.old + length (words_of self.now)) }
         ensures few { HasRecords (words_of self.now) (most_records (sought self.now)) }
     {
         let finder = &self.finder;
@@ -95,7 +105,8 @@ impl<'a, W: Weights> Search<'a, W> {
 
     /// Of a chain where the last range ends that was handed out; after a fault 0.
     fn last_end(&self) -> u64
-        ensures { result ≡ (state_of self.now.query.pattern.now self.now.cut self.now.finder self.now.fault).last_end }
+        ensures { result
+            ≡ (state_of self.now.query.pattern.now self.now.cut self.now.finder self.now.fault).last_end }
     {
         match self.fault {
             Some(_) => 0,
@@ -105,7 +116,8 @@ impl<'a, W: Weights> Search<'a, W> {
 
     /// The numbers of the first five records.
     fn head(&self) -> Head
-        ensures numbers { result ≡ head_of (state_of self.now.query.pattern.now self.now.cut self.now.finder self.now.fault) }
+        ensures numbers { result
+            ≡ head_of (state_of self.now.query.pattern.now self.now.cut self.now.finder self.now.fault) }
         ensures few { HasRecords (words_of self.now) (most_records (sought self.now)) }
     {
         laws_of_states();
@@ -155,9 +167,12 @@ pub(crate) fn match_waits(walk: &Walk, pattern_len: usize) -> bool
 
 /// Appends the places of the last keys, as many as the walk's state says.
 fn append_places(words: &mut Vec<u64>, walk: &Walk) -> Result<(), AllocError>
-    ensures saved { OnOk result (words.new.items ≡ words.old.items ++ place_words (saved_places (kept_places walk.now))) }
+    ensures saved { OnOk result
+        (words.new.items ≡ words.old.items ++ place_words (saved_places (kept_places walk.now))) }
     ensures begun { OnErr result (BeginsWith words.old.items words.new.items) }
-    ensures full { OnErr result (vec_capacity words.old < vec_len words.old + length (place_words (saved_places (kept_places walk.now)))) }
+    ensures full { OnErr result
+        (vec_capacity words.old < vec_len words.old + length
+        (place_words (saved_places (kept_places walk.now)))) }
     ensures capacity { vec_capacity words.old ≤ vec_capacity words.new }
 {
     let mut at = walk.places.len().saturating_sub(walk.state);
@@ -170,9 +185,11 @@ fn append_places(words: &mut Vec<u64>, walk: &Walk) -> Result<(), AllocError>
 
 /// Appends the points in a window.
 fn append_window(words: &mut Vec<u64>, window: &Window) -> Result<(), AllocError>
-    ensures saved { OnOk result (words.new.items ≡ words.old.items ++ point_words window.now.points) }
+    ensures saved { OnOk result
+        (words.new.items ≡ words.old.items ++ point_words window.now.points) }
     ensures begun { OnErr result (BeginsWith words.old.items words.new.items) }
-    ensures full { OnErr result (vec_capacity words.old < vec_len words.old + length (point_words window.now.points)) }
+    ensures full { OnErr result
+        (vec_capacity words.old < vec_len words.old + length (point_words window.now.points)) }
     ensures capacity { vec_capacity words.old ≤ vec_capacity words.new }
 {
     for i in 0..window.len() {

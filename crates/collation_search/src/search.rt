@@ -70,7 +70,9 @@ impl<'a, W: Weights> Search<'a, W> {
     /// Where memory was refused. That it is for no other reason no clause says: the body has no other `Err`, and it is tested.
     pub fn new(alloc: Global, table: &'a W, pattern: &'a Pattern) -> Result<Self, AllocError>
         ensures stands { IfOk result (λ s. HasSearched s [] []) }
-        ensures sought { IfOk result (λ s. sought s ≡ record { table = W.table table.now; pattern = pattern.now; select = All }) }
+        ensures sought { IfOk result
+            (λ s. sought s
+            ≡ record { table = W.table table.now; pattern = pattern.now; select = All }) }
     {
         Search::new_with(alloc, table, pattern, Select::All)
     }
@@ -87,7 +89,9 @@ impl<'a, W: Weights> Search<'a, W> {
         select: Select,
     ) -> Result<Self, AllocError>
         ensures stands { IfOk result (λ s. HasSearched s [] []) }
-        ensures sought { IfOk result (λ s. sought s ≡ record { table = W.table table.now; pattern = pattern.now; select = select }) }
+        ensures sought { IfOk result
+            (λ s. sought s
+            ≡ record { table = W.table table.now; pattern = pattern.now; select = select }) }
     {
         let _some = pattern.len();
         let finder = Finder::new(alloc, table, pattern, select)?;
@@ -109,15 +113,22 @@ impl<'a, W: Weights> Search<'a, W> {
     fn take(&mut self, byte: u8, found: &mut Found) -> Result<(), TextFault>
         requires none { self.old.fault ≡ None }
         requires empty { found.old.items ≡ [] }
-        ensures stands { (place : ℕ) (u : List ℕ) (ranges : List _) → HasTaken self.old place u ranges
+        ensures stands { (place : ℕ) (u : List ℕ) (ranges : List _)
+            → HasTaken self.old place u ranges
             → OnOk result (HasTaken self.new place (u ++ byte ∷ []) (ranges ++ found.new.items)) }
         ensures kept { (place : ℕ) (u : List ℕ) (ranges : List _) → HasTaken self.old place u ranges
-            → OnErr result (FinderStandsFor (W.table self.new.query.table.now) self.new.query.pattern.now self.new.finder (chars (whole u)) ranges) }
-        ensures fault { (place : ℕ) (u more : List ℕ) (ranges : List _) → HasTaken self.old place u ranges
+            → OnErr result
+            (FinderStandsFor
+            (W.table self.new.query.table.now) self.new.query.pattern.now self.new.finder
+            (chars (whole u)) ranges) }
+        ensures fault { (place : ℕ) (u more : List ℕ) (ranges : List _)
+            → HasTaken self.old place u ranges
             → IfErr result (λ f. fault_of (u ++ byte ∷ more) ≡ Some f) }
-        ensures offset { (place : ℕ) (u : List ℕ) (ranges : List _) → HasTaken self.old place u ranges
+        ensures offset { (place : ℕ) (u : List ℕ) (ranges : List _)
+            → HasTaken self.old place u ranges
             → IfErr result (λ f. f.offset ≡ characters_end u) }
-        ensures closed { (place : ℕ) (u more : List ℕ) (ranges : List _) → HasTaken self.old place u ranges
+        ensures closed { (place : ℕ) (u more : List ℕ) (ranges : List _)
+            → HasTaken self.old place u ranges
             → OnErr result (is_good_so_far (u ++ byte ∷ more) ≡ false) }
         ensures kind { IfErr result (λ f. (31 ≤ f.kind) × (f.kind ≤ 34)) }
         ensures place { IfErr result (λ f. f.offset ≤ most_bytes) }
@@ -125,7 +136,8 @@ impl<'a, W: Weights> Search<'a, W> {
         ensures same { self.new.query ≡ self.old.query }
         ensures select { self.new.finder.walk.select ≡ self.old.finder.walk.select }
         ensures good { self.new.fault ≡ None }
-        ensures few { array_vec_len found.new ≤ longest_key_of (W.table self.old.query.table.now) + MOST_GIVEN }
+        ensures few { array_vec_len found.new ≤ longest_key_of
+            (W.table self.old.query.table.now) + MOST_GIVEN }
     {
         any_bytes_may_follow();
         whole_characters_are_the_longest_text();
@@ -166,18 +178,26 @@ impl<'a, W: Weights> Search<'a, W> {
     pub fn step(&mut self, byte: u8, found: &mut Found) -> Result<(), TextFault>
         ensures stands { (u : List ℕ) (handed : List _) → HasSearched self.old u handed
             → OnOk result (HasSearched self.new (u ++ byte ∷ []) (handed ++ found.new.items)) }
-        ensures answer { (text u more : List ℕ) (handed : List _) → IsCompiledFrom (sought self.old) text → HasSearched self.old u handed
-            → IfErr result (λ f. answer_to (sought self.old) text (u ++ byte ∷ more) ≡ record { ranges = handed ++ found.new.items; fault = Some f }) }
-        ensures closed { (u more : List ℕ) (handed : List _) → HasSearched self.old u handed → OnErr result (is_good_so_far (u ++ byte ∷ more) ≡ false) }
+        ensures answer { (text u more : List ℕ) (handed : List _)
+            → IsCompiledFrom (sought self.old) text → HasSearched self.old u handed
+            → IfErr result
+            (λ f. answer_to (sought self.old) text (u ++ byte ∷ more)
+            ≡ record { ranges = handed ++ found.new.items; fault = Some f }) }
+        ensures closed { (u more : List ℕ) (handed : List _) → HasSearched self.old u handed
+            → OnErr result (is_good_so_far (u ++ byte ∷ more) ≡ false) }
         // what was handed out, and whether a fault stands in the bytes, is known from the bytes alone
         ensures known { (u : List ℕ) (handed : List _) → HasSearched self.old u handed
             → handed ++ found.new.items ≡ reported_after (sought self.old) (u ++ byte ∷ []) }
-        ensures fault { (u : List ℕ) (handed : List _) → HasSearched self.old u handed → told result ≡ fault_so_far (u ++ byte ∷ []) }
+        ensures fault { (u : List ℕ) (handed : List _) → HasSearched self.old u handed
+            → told result ≡ fault_so_far (u ++ byte ∷ []) }
         ensures ended { (u more : List ℕ) (handed : List _) → HasSearched self.old u handed
-            → IfErr result (λ f. IsReported (sought self.old) (u ++ byte ∷ more) (handed ++ found.new.items) (Some f)) }
+            → IfErr result
+            (λ f. IsReported (sought self.old) (u ++ byte ∷ more) (handed ++ found.new.items)
+            (Some f)) }
         ensures few { length found.new.items ≤ longest_key_of (sought self.old).table + MOST_GIVEN }
         ensures reported { IfErr result (λ f. HasReported self.new f) }
-        ensures again { (f : TextFault) → HasReported self.old f → (result ≡ Err f) × (found.new.items ≡ []) }
+        ensures again { (f : TextFault) → HasReported self.old f
+            → (result ≡ Err f) × (found.new.items ≡ []) }
         ensures none { OnOk result (HasReportedNone self.new) }
         ensures memory { IfErr result (λ f. f.kind ≡ 35 → HasReported self.old f) }
         ensures sought { sought self.new ≡ sought self.old }
@@ -190,17 +210,26 @@ impl<'a, W: Weights> Search<'a, W> {
 
     /// The same, also within a piece, where units may have been cut early.
     pub(crate) fn step_on(&mut self, byte: u8, found: &mut Found) -> Result<(), TextFault>
-        ensures stands { (place : ℕ) (u : List ℕ) (handed : List _) → HasTaken self.old place u handed
+        ensures stands { (place : ℕ) (u : List ℕ) (handed : List _)
+            → HasTaken self.old place u handed
             → OnOk result (HasTaken self.new place (u ++ byte ∷ []) (handed ++ found.new.items)) }
-        ensures ended { (place : ℕ) (u more : List ℕ) (handed : List _) → HasTaken self.old place u handed
-            → IfErr result (λ f. IsReported (sought self.old) (u ++ byte ∷ more) (handed ++ found.new.items) (Some f)) }
-        ensures answer { (place : ℕ) (text u more : List ℕ) (handed : List _) → IsCompiledFrom (sought self.old) text → HasTaken self.old place u handed
-            → IfErr result (λ f. answer_to (sought self.old) text (u ++ byte ∷ more) ≡ record { ranges = handed ++ found.new.items; fault = Some f }) }
-        ensures closed { (place : ℕ) (u more : List ℕ) (handed : List _) → HasTaken self.old place u handed
+        ensures ended { (place : ℕ) (u more : List ℕ) (handed : List _)
+            → HasTaken self.old place u handed
+            → IfErr result
+            (λ f. IsReported (sought self.old) (u ++ byte ∷ more) (handed ++ found.new.items)
+            (Some f)) }
+        ensures answer { (place : ℕ) (text u more : List ℕ) (handed : List _)
+            → IsCompiledFrom (sought self.old) text → HasTaken self.old place u handed
+            → IfErr result
+            (λ f. answer_to (sought self.old) text (u ++ byte ∷ more)
+            ≡ record { ranges = handed ++ found.new.items; fault = Some f }) }
+        ensures closed { (place : ℕ) (u more : List ℕ) (handed : List _)
+            → HasTaken self.old place u handed
             → OnErr result (is_good_so_far (u ++ byte ∷ more) ≡ false) }
         ensures few { length found.new.items ≤ longest_key_of (sought self.old).table + MOST_GIVEN }
         ensures reported { IfErr result (λ f. HasReported self.new f) }
-        ensures again { (f : TextFault) → HasReported self.old f → (result ≡ Err f) × (found.new.items ≡ []) }
+        ensures again { (f : TextFault) → HasReported self.old f
+            → (result ≡ Err f) × (found.new.items ≡ []) }
         ensures none { OnOk result (HasReportedNone self.new) }
         ensures memory { IfErr result (λ f. f.kind ≡ 35 → HasReported self.old f) }
         ensures sought { sought self.new ≡ sought self.old }
@@ -229,11 +258,18 @@ impl<'a, W: Weights> Search<'a, W> {
     ///
     /// The fault of the text: one that was reported before, or 31 where a character that its end cuts starts.
     pub fn finish(self, found: &mut Found) -> Result<(), TextFault>
-        ensures good { (text u : List ℕ) (handed : List _) → IsCompiledFrom (sought self.entry) text → HasSearched self.entry u handed
-            → OnOk result (answer_to (sought self.entry) text u ≡ record { ranges = handed ++ found.new.items; fault = None }) }
-        ensures bad { (text u : List ℕ) (handed : List _) → IsCompiledFrom (sought self.entry) text → HasSearched self.entry u handed
-            → IfErr result (λ f. answer_to (sought self.entry) text u ≡ record { ranges = handed ++ found.new.items; fault = Some f }) }
-        ensures again { (f : TextFault) → HasReported self.entry f → (result ≡ Err f) × (found.new.items ≡ []) }
+        ensures good { (text u : List ℕ) (handed : List _) → IsCompiledFrom (sought self.entry) text
+            → HasSearched self.entry u handed
+            → OnOk result
+            (answer_to (sought self.entry) text u
+            ≡ record { ranges = handed ++ found.new.items; fault = None }) }
+        ensures bad { (text u : List ℕ) (handed : List _) → IsCompiledFrom (sought self.entry) text
+            → HasSearched self.entry u handed
+            → IfErr result
+            (λ f. answer_to (sought self.entry) text u
+            ≡ record { ranges = handed ++ found.new.items; fault = Some f }) }
+        ensures again { (f : TextFault) → HasReported self.entry f
+            → (result ≡ Err f) × (found.new.items ≡ []) }
         ensures memory { IfErr result (λ f. f.kind ≡ 35 → HasReported self.entry f) }
     {
         let mut search = self;
@@ -247,11 +283,18 @@ impl<'a, W: Weights> Search<'a, W> {
     ///
     /// Those of [`Search::finish`].
     pub(crate) fn end_text(&mut self, found: &mut Found) -> Result<(), TextFault>
-        ensures good { (text u : List ℕ) (handed : List _) → IsCompiledFrom (sought self.old) text → HasSearched self.old u handed
-            → OnOk result (answer_to (sought self.old) text u ≡ record { ranges = handed ++ found.new.items; fault = None }) }
-        ensures bad { (text u : List ℕ) (handed : List _) → IsCompiledFrom (sought self.old) text → HasSearched self.old u handed
-            → IfErr result (λ f. answer_to (sought self.old) text u ≡ record { ranges = handed ++ found.new.items; fault = Some f }) }
-        ensures again { (f : TextFault) → HasReported self.old f → (result ≡ Err f) × (found.new.items ≡ []) }
+        ensures good { (text u : List ℕ) (handed : List _) → IsCompiledFrom (sought self.old) text
+            → HasSearched self.old u handed
+            → OnOk result
+            (answer_to (sought self.old) text u
+            ≡ record { ranges = handed ++ found.new.items; fault = None }) }
+        ensures bad { (text u : List ℕ) (handed : List _) → IsCompiledFrom (sought self.old) text
+            → HasSearched self.old u handed
+            → IfErr result
+            (λ f. answer_to (sought self.old) text u
+            ≡ record { ranges = handed ++ found.new.items; fault = Some f }) }
+        ensures again { (f : TextFault) → HasReported self.old f
+            → (result ≡ Err f) × (found.new.items ≡ []) }
         ensures memory { IfErr result (λ f. f.kind ≡ 35 → HasReported self.old f) }
         ensures sought { sought self.new ≡ sought self.old }
     {
@@ -280,7 +323,8 @@ impl<'a, W: Weights> Search<'a, W> {
     /// Gives the search up, for the text can't be read further: `found` is emptied, and then holds the rest of the settled ranges
     /// of the whole characters so far. After a fault there are none.
     pub fn stop(self, found: &mut Found)
-        ensures settled { (text u : List ℕ) (handed : List _) → IsCompiledFrom (sought self.entry) text → HasSearched self.entry u handed
+        ensures settled { (text u : List ℕ) (handed : List _)
+            → IsCompiledFrom (sought self.entry) text → HasSearched self.entry u handed
             → handed ++ found.new.items ≡ settled_in (sought self.entry) text (whole u) }
         ensures again { (f : TextFault) → HasReported self.entry f → found.new.items ≡ [] }
     {
@@ -302,12 +346,18 @@ impl<'a, W: Weights> Search<'a, W> {
     /// has 31 code points more than the longest key has at or after its end among the whole characters so far is one of them. They are
     /// those that are reported after the bytes taken, however these were cut into pieces.
     pub fn has_handed_out(&self)
-        ensures known { (u : List ℕ) (handed : List (ℕ × ℕ)) → HasSearched self.now u handed → handed ≡ reported_after (sought self.now) u }
-        ensures begins { (text u later : List ℕ) (handed : List (ℕ × ℕ)) → IsCompiledFrom (sought self.now) text → HasSearched self.now u handed
-            → (rest : List (ℕ × ℕ)) × ((answer_to (sought self.now) text (u ++ later)).ranges ≡ handed ++ rest) }
-        ensures in_time { (text u later : List ℕ) (handed : List (ℕ × ℕ)) (range : ℕ × ℕ) → IsCompiledFrom (sought self.now) text → HasSearched self.now u handed
-            → longest_key_of (sought self.now).table + (MOST_WAITING + 1) ≤ code_points_from range.1 (chars (whole u))
-            → Contains (answer_to (sought self.now) text (u ++ later)).ranges range → Contains handed range }
+        ensures known { (u : List ℕ) (handed : List (ℕ × ℕ)) → HasSearched self.now u handed
+            → handed ≡ reported_after (sought self.now) u }
+        ensures begins { (text u later : List ℕ) (handed : List (ℕ × ℕ))
+            → IsCompiledFrom (sought self.now) text → HasSearched self.now u handed
+            → (rest : List (ℕ × ℕ))
+            × ((answer_to (sought self.now) text (u ++ later)).ranges ≡ handed ++ rest) }
+        ensures in_time { (text u later : List ℕ) (handed : List (ℕ × ℕ)) (range : ℕ × ℕ)
+            → IsCompiledFrom (sought self.now) text → HasSearched self.now u handed
+            → longest_key_of (sought self.now).table + (MOST_WAITING + 1) ≤ code_points_from range.1
+            (chars (whole u))
+            → Contains (answer_to (sought self.now) text (u ++ later)).ranges range
+            → Contains handed range }
     {
         matches_by_clusters(self.query.table);
         answers_in_time(self.query.table);
@@ -320,7 +370,8 @@ impl<'a, W: Weights> Search<'a, W> {
     /// The fault that was reported, at which the text counts as ended.
     pub fn reported(&self) -> Option<TextFault>
         ensures reported { IfSome result (λ f. HasReported self.now f) }
-        ensures none { (u : List ℕ) (handed : List _) → HasSearched self.now u handed → result ≡ None }
+        ensures none { (u : List ℕ) (handed : List _) → HasSearched self.now u handed
+            → result ≡ None }
         ensures again { (f : TextFault) → HasReported self.now f → result ≡ Some f }
     {
         self.fault

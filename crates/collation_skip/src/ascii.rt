@@ -63,7 +63,8 @@ impl AsciiBlocks {
         ensures reach { IfSome result (λ r. r.end ≤ reach) }
         ensures next { IfSome result (λ r.
             SpellsCharacter (take (len_utf8 r.next) (drop r.end piece.now)) r.next) }
-        ensures letter { IfSome result (λ r. IsLetter (W.table table.now) pattern.now (r.next ∷ []) r.letter) }
+        ensures letter { IfSome result
+            (λ r. IsLetter (W.table table.now) pattern.now (r.next ∷ []) r.letter) }
         ensures text { IfSome result (λ r. IsUtf8 (take r.end piece.now)) }
         ensures passed { IfSome result (λ r. (at : ℕ)
             → IsPassed (W.table table.now) pattern.now at (at + r.start)

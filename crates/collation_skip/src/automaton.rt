@@ -86,11 +86,14 @@ impl Automaton {
         ensures within { IfSome result (λ it. it.end + len_utf8 it.next ≤ length piece.now) }
         ensures order { IfSome result (λ it. it.start ≤ it.end) }
         ensures reach { IfSome result (λ it. it.end ≤ reach) }
-        ensures next { IfSome result (λ it. SpellsCharacter (take (len_utf8 it.next) (drop it.end piece.now)) it.next) }
-        ensures letter { IfSome result (λ it. IsLetter (W.table table.now) pattern.now (it.next ∷ []) it.letter) }
+        ensures next { IfSome result
+            (λ it. SpellsCharacter (take (len_utf8 it.next) (drop it.end piece.now)) it.next) }
+        ensures letter { IfSome result
+            (λ it. IsLetter (W.table table.now) pattern.now (it.next ∷ []) it.letter) }
         ensures text { IfSome result (λ it. IsUtf8 (take it.end piece.now)) }
         ensures passed { IfSome result (λ it. (at : ℕ)
-            → IsPassed (W.table table.now) pattern.now at (at + it.start) (chars (take it.end piece.now)) it.next) }
+            → IsPassed (W.table table.now) pattern.now at (at + it.start)
+            (chars (take it.end piece.now)) it.next) }
         ensures right { AreRight (W.table table.now) pattern.now self.new }
         ensures letters { AreLetters (W.table table.now) pattern.now letters.new }
     {
@@ -109,16 +112,20 @@ impl Automaton {
         cursor: Cursor,
     ) -> Option<Passed>
         requires passed { 0 < cursor.passed_at
-            → (cursor.passed_at ≤ length piece.now) × Stands (W.table table.now) pattern.now self.now piece.now cursor.passed_at cursor.passed_row }
+            → (cursor.passed_at ≤ length piece.now)
+            × Stands (W.table table.now) pattern.now self.now piece.now cursor.passed_at cursor.passed_row }
         requires letters { AreLetters (W.table table.now) pattern.now letters.old }
         ensures within { IfSome result (λ it. it.end + len_utf8 it.next ≤ length piece.now) }
         ensures order { IfSome result (λ it. it.start ≤ it.end) }
         ensures reach { IfSome result (λ it. it.end ≤ cursor.passed_at) }
-        ensures next { IfSome result (λ it. SpellsCharacter (take (len_utf8 it.next) (drop it.end piece.now)) it.next) }
-        ensures letter { IfSome result (λ it. IsLetter (W.table table.now) pattern.now (it.next ∷ []) it.letter) }
+        ensures next { IfSome result
+            (λ it. SpellsCharacter (take (len_utf8 it.next) (drop it.end piece.now)) it.next) }
+        ensures letter { IfSome result
+            (λ it. IsLetter (W.table table.now) pattern.now (it.next ∷ []) it.letter) }
         ensures text { IfSome result (λ it. IsUtf8 (take it.end piece.now)) }
         ensures passed { IfSome result (λ it. (at : ℕ)
-            → IsPassed (W.table table.now) pattern.now at (at + it.start) (chars (take it.end piece.now)) it.next) }
+            → IsPassed (W.table table.now) pattern.now at (at + it.start)
+            (chars (take it.end piece.now)) it.next) }
         ensures letters { AreLetters (W.table table.now) pattern.now letters.new }
     {
         laws_of_points();
@@ -153,7 +160,8 @@ impl Automaton {
         requires right { AreRight (W.table table.now) pattern.now self.old }
         requires letters { AreLetters (W.table table.now) pattern.now letters.old }
         ensures passed { IfSome result (λ it. 0 < it.passed_at
-            → (it.passed_at ≤ length piece.now) × Stands (W.table table.now) pattern.now self.new piece.now it.passed_at it.passed_row) }
+            → (it.passed_at ≤ length piece.now)
+            × Stands (W.table table.now) pattern.now self.new piece.now it.passed_at it.passed_row) }
         ensures right { AreRight (W.table table.now) pattern.now self.new }
         ensures letters { AreLetters (W.table table.now) pattern.now letters.new }
     {
@@ -184,7 +192,8 @@ impl Automaton {
         ensures stands { IfSome result (λ it.
             Stands (W.table table.now) pattern.now self.new piece.now it.at it.row) }
         ensures passed { IfSome result (λ it. 0 < it.passed_at
-            → (it.passed_at ≤ length piece.now) × Stands (W.table table.now) pattern.now self.new piece.now it.passed_at it.passed_row) }
+            → (it.passed_at ≤ length piece.now)
+            × Stands (W.table table.now) pattern.now self.new piece.now it.passed_at it.passed_row) }
         ensures right { AreRight (W.table table.now) pattern.now self.new }
         ensures letters { AreLetters (W.table table.now) pattern.now letters.new }
     {
@@ -233,10 +242,12 @@ impl Automaton {
     ) -> Option<usize>
         requires right { AreRight (W.table table.now) pattern.now self.old }
         requires letters { AreLetters (W.table table.now) pattern.now letters.old }
-        ensures stands { IfSome result (λ row. (piece : List ℕ) → SpellsCharacter (take (len_utf8 first) piece) first
+        ensures stands { IfSome result (λ row. (piece : List ℕ)
+            → SpellsCharacter (take (len_utf8 first) piece) first
             → Stands (W.table table.now) pattern.now self.new piece (len_utf8 first) row) }
         ensures row { IfSome result (IsSomeRow self.new) }
-        ensures grows { (other : ℕ) (state : StateValue) → IsRow self.old other state → IsRow self.new other state }
+        ensures grows { (other : ℕ) (state : StateValue) → IsRow self.old other state
+            → IsRow self.new other state }
         ensures right { AreRight (W.table table.now) pattern.now self.new }
         ensures letters { AreLetters (W.table table.now) pattern.now letters.new }
     {
@@ -259,11 +270,16 @@ impl Automaton {
     ) -> Cursor
         requires to { to ≤ length piece.now }
         requires right { AreRight (W.table table.now) pattern.now self.now }
-        requires stands { Stands (W.table table.now) pattern.now self.now piece.now from.at from.row }
-        requires passed { 0 < from.passed_at → (from.passed_at ≤ length piece.now) × Stands (W.table table.now) pattern.now self.now piece.now from.passed_at from.passed_row }
-        ensures stands { Stands (W.table table.now) pattern.now self.now piece.now result.at result.row }
+        requires stands { Stands
+            (W.table table.now) pattern.now self.now piece.now from.at from.row }
+        requires passed { 0 < from.passed_at
+            → (from.passed_at ≤ length piece.now)
+            × Stands (W.table table.now) pattern.now self.now piece.now from.passed_at from.passed_row }
+        ensures stands { Stands
+            (W.table table.now) pattern.now self.now piece.now result.at result.row }
         ensures passed { 0 < result.passed_at
-            → (result.passed_at ≤ length piece.now) × Stands (W.table table.now) pattern.now self.now piece.now result.passed_at result.passed_row }
+            → (result.passed_at ≤ length piece.now)
+            × Stands (W.table table.now) pattern.now self.now piece.now result.passed_at result.passed_row }
         ensures on { from.at ≤ result.at }
     {
         let cells: &[u32] = &self.cells;
@@ -307,7 +323,9 @@ fn moved(cursor: Cursor, row: usize) -> Cursor
     requires { cursor.at < 2 ^ 64 - 1 }
     ensures at { result.at ≡ cursor.at + 1 }
     ensures row { result.row ≡ row }
-    ensures passed { (result.passed_at ≡ cursor.passed_at) × (result.passed_row ≡ cursor.passed_row) ⊎ (result.passed_at ≡ cursor.at + 1) × (result.passed_row ≡ row) }
+    ensures passed { (result.passed_at ≡ cursor.passed_at)
+        × (result.passed_row ≡ cursor.passed_row) ⊎ (result.passed_at ≡ cursor.at + 1)
+        × (result.passed_row ≡ row) }
 {
     let at = cursor.at + 1;
     let (passed_at, passed_row) = if row % 2 == 1 {

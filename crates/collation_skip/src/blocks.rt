@@ -35,7 +35,8 @@ pub(crate) fn pass_blocks<W: Weights>(
     ensures reach { IfSome result (λ r. r.end ≤ reach) }
     ensures next { IfSome result (λ r.
         SpellsCharacter (take (len_utf8 r.next) (drop r.end piece.now)) r.next) }
-    ensures letter { IfSome result (λ r. IsLetter (W.table table.now) pattern.now (r.next ∷ []) r.letter) }
+    ensures letter { IfSome result
+        (λ r. IsLetter (W.table table.now) pattern.now (r.next ∷ []) r.letter) }
     ensures text { IfSome result (λ r. IsUtf8 (take r.end piece.now)) }
     ensures passed { IfSome result (λ r. (at : ℕ)
         → IsPassed (W.table table.now) pattern.now at (at + r.start)
@@ -113,7 +114,8 @@ pub(crate) fn block_passes(classes: &Classes, bytes: &[u8], at: usize) -> bool
     requires behind { 1 ≤ at }
     requires within { at + 16 ≤ length bytes.now }
     ensures { result ≡ true → (k : ℕ) → k < 16
-        → PassesBehind classes.now (slice_index bytes.now (at + k - 1)) (slice_index bytes.now (at + k)) }
+        → PassesBehind classes.now (slice_index bytes.now (at + k - 1))
+        (slice_index bytes.now (at + k)) }
 {
     is_zero(stops(classes, load(bytes, at - 1), load(bytes, at)))
 }
@@ -125,7 +127,8 @@ fn lanes_that_pass(classes: &Classes, bytes: &[u8], at: usize) -> usize
     requires within { at + 16 ≤ length bytes.now }
     ensures within { result ≤ 16 }
     ensures passes { (k : ℕ) → k < result
-        → PassesBehind classes.now (slice_index bytes.now (at + k - 1)) (slice_index bytes.now (at + k)) }
+        → PassesBehind classes.now (slice_index bytes.now (at + k - 1))
+        (slice_index bytes.now (at + k)) }
 {
     zeros_in_front(stops(classes, load(bytes, at - 1), load(bytes, at)))
 }
@@ -135,7 +138,8 @@ fn lanes_that_pass(classes: &Classes, bytes: &[u8], at: usize) -> usize
 fn followed_len(piece: &[u8], len: usize) -> usize
     requires { len ≤ length piece.now }
     ensures within { result ≤ len }
-    ensures followed { 0 < result → len ≤ result → (len < length piece.now) × (slice_index piece.now len < 128) }
+    ensures followed { 0 < result → len ≤ result
+        → (len < length piece.now) × (slice_index piece.now len < 128) }
 {
     if len < piece.len() && piece[len] < 128 {
         return len;

@@ -58,7 +58,8 @@ pub(crate) fn classes_for<W: Weights>(
 ) -> Option<Classes>
     requires { AreLetters (W.table table.now) pattern.now letters.old }
     ensures right { AreLetters (W.table table.now) pattern.now letters.new }
-    ensures classes { IfSome result (λ classes. AreClassesRight (W.table table.now) pattern.now classes) }
+    ensures classes { IfSome result
+        (λ classes. AreClassesRight (W.table table.now) pattern.now classes) }
 {
     let count = pattern.keys().len();
     if count == 0 {

@@ -11,7 +11,8 @@ use collation_pattern::Pattern;
 pub(crate) fn depth_after(pattern: &Pattern, depth: usize, symbols: Symbols) -> usize
     requires { depth ≤ length pattern.now.keys }
     ensures { (before keys : List KeyValue) → AreLastSymbols pattern.now.keys keys (listed symbols)
-        → border pattern.now.keys before ≡ depth → border pattern.now.keys (before ++ keys) ≡ result }
+        → border pattern.now.keys before ≡ depth
+        → border pattern.now.keys (before ++ keys) ≡ result }
 {
     laws_of_symbols();
     let depth = depth_after_one(pattern, depth, symbols.first);
@@ -22,8 +23,10 @@ pub(crate) fn depth_after(pattern: &Pattern, depth: usize, symbols: Symbols) -> 
 /// The same of the keys of one symbol, or of none.
 fn depth_after_one(pattern: &Pattern, depth: usize, symbol: u8) -> usize
     requires { depth ≤ length pattern.now.keys }
-    ensures border { (before keys : List KeyValue) → AreLastSymbols pattern.now.keys keys (some_symbol symbol)
-        → border pattern.now.keys before ≡ depth → border pattern.now.keys (before ++ keys) ≡ result }
+    ensures border { (before keys : List KeyValue)
+        → AreLastSymbols pattern.now.keys keys (some_symbol symbol)
+        → border pattern.now.keys before ≡ depth
+        → border pattern.now.keys (before ++ keys) ≡ result }
     ensures within { result ≤ length pattern.now.keys }
 {
     laws_of_symbols();

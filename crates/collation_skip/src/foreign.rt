@@ -32,7 +32,8 @@ pub(crate) fn pass_foreign(
     ensures letter { (table : TableMap) → AreLetters table pattern.now letters.now
         → IfSome result (λ r. IsLetter table pattern.now (r.next ∷ []) r.letter) }
     ensures text { IfSome result (λ r. IsUtf8 (take r.end piece.now)) }
-    ensures passed { (table : TableMap) → AreLetters table pattern.now letters.now → IfSome result (λ r. (at : ℕ)
+    ensures passed { (table : TableMap) → AreLetters table pattern.now letters.now
+        → IfSome result (λ r. (at : ℕ)
         → IsPassed table pattern.now at (at + r.start) (chars (take r.end piece.now)) r.next) }
 {
     laws_of_points();

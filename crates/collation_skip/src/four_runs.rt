@@ -56,11 +56,16 @@ impl Automaton {
     ) -> Cursor
         requires right { AreRight (W.table table.now) pattern.now self.now }
         requires home { IsSomeRow self.now home }
-        requires stands { Stands (W.table table.now) pattern.now self.now piece.now from.at from.row }
-        requires passed { 0 < from.passed_at → (from.passed_at ≤ length piece.now) × Stands (W.table table.now) pattern.now self.now piece.now from.passed_at from.passed_row }
-        ensures stands { Stands (W.table table.now) pattern.now self.now piece.now result.at result.row }
+        requires stands { Stands
+            (W.table table.now) pattern.now self.now piece.now from.at from.row }
+        requires passed { 0 < from.passed_at
+            → (from.passed_at ≤ length piece.now)
+            × Stands (W.table table.now) pattern.now self.now piece.now from.passed_at from.passed_row }
+        ensures stands { Stands
+            (W.table table.now) pattern.now self.now piece.now result.at result.row }
         ensures passed { 0 < result.passed_at
-            → (result.passed_at ≤ length piece.now) × Stands (W.table table.now) pattern.now self.now piece.now result.passed_at result.passed_row }
+            → (result.passed_at ≤ length piece.now)
+            × Stands (W.table table.now) pattern.now self.now piece.now result.passed_at result.passed_row }
     {
         let Some(begun) = self.lead_in(table, pattern, piece, from, home) else {
             return from;
@@ -88,7 +93,8 @@ impl Automaton {
     ) -> Option<Spots>
         requires right { AreRight (W.table table.now) pattern.now self.now }
         requires home { IsSomeRow self.now home }
-        requires stands { Stands (W.table table.now) pattern.now self.now piece.now from.at from.row }
+        requires stands { Stands
+            (W.table table.now) pattern.now self.now piece.now from.at from.row }
         ensures stands { IfSome result (λ to.
             Stands (W.table table.now) pattern.now self.now piece.now to.first.at to.first.row) }
         ensures spots { IfSome result (AreSpots self.now piece.now) }
@@ -157,7 +163,8 @@ impl Automaton {
         requires second { from.second.at + len ≤ length piece.now }
         requires third { from.third.at + len ≤ length piece.now }
         requires fourth { from.fourth.at + len ≤ length piece.now }
-        ensures run { IfSome result (HaveRun (W.table table.now) pattern.now self.now piece.now from) }
+        ensures run { IfSome result
+            (HaveRun (W.table table.now) pattern.now self.now piece.now from) }
         ensures on { IfSome result (λ to. to.fourth.at ≡ from.fourth.at + len) }
     {
         let cells: &[u32] = &self.cells;
@@ -213,11 +220,16 @@ impl Automaton {
         requires right { AreRight (W.table table.now) pattern.now self.now }
         requires begun { IsSpot self.now piece.now begun }
         requires run { HasRun (W.table table.now) pattern.now self.now piece.now begun ended }
-        requires stands { Stands (W.table table.now) pattern.now self.now piece.now from.at from.row }
-        requires passed { 0 < from.passed_at → (from.passed_at ≤ length piece.now) × Stands (W.table table.now) pattern.now self.now piece.now from.passed_at from.passed_row }
-        ensures stands { Stands (W.table table.now) pattern.now self.now piece.now result.at result.row }
+        requires stands { Stands
+            (W.table table.now) pattern.now self.now piece.now from.at from.row }
+        requires passed { 0 < from.passed_at
+            → (from.passed_at ≤ length piece.now)
+            × Stands (W.table table.now) pattern.now self.now piece.now from.passed_at from.passed_row }
+        ensures stands { Stands
+            (W.table table.now) pattern.now self.now piece.now result.at result.row }
         ensures passed { 0 < result.passed_at
-            → (result.passed_at ≤ length piece.now) × Stands (W.table table.now) pattern.now self.now piece.now result.passed_at result.passed_row }
+            → (result.passed_at ≤ length piece.now)
+            × Stands (W.table table.now) pattern.now self.now piece.now result.passed_at result.passed_row }
     {
         let come = self.run(table, pattern, piece, from, begun.at);
         if come.at != begun.at || come.row != begun.row {

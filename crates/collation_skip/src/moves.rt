@@ -54,7 +54,8 @@ fn behind_character<W: Weights>(
     requires right { AreLetters (W.table table.now) pattern.now letters.old }
     requires letter { IsLetter (W.table table.now) pattern.now (c ∷ []) following }
     ensures right { AreLetters (W.table table.now) pattern.now letters.new }
-    ensures moves { IfSome result (λ to. (byte : ℕ) → SpellsCharacter (begun_bytes state.now.begun ++ byte ∷ []) c
+    ensures moves { IfSome result (λ to. (byte : ℕ)
+        → SpellsCharacter (begun_bytes state.now.begun ++ byte ∷ []) c
         → IsMove (W.table table.now) pattern.now state.now byte to) }
 {
     if following.role.is_mark() {
@@ -82,9 +83,12 @@ fn behind_letter<W: Weights>(
     following: Letter,
 ) -> Option<State>
     requires letter { IsLetter (W.table table.now) pattern.now (c ∷ []) following }
-    requires next { (at : ℕ) (cs : List ℕ) → IsLetter (W.table table.now) pattern.now cs state.now.letter → IsNext (W.table table.now) at cs c }
+    requires next { (at : ℕ) (cs : List ℕ)
+        → IsLetter (W.table table.now) pattern.now cs state.now.letter
+        → IsNext (W.table table.now) at cs c }
     requires known { (state.now.letter.role ≢ Steps) × (is_mark state.now.letter.role ≡ false) }
-    ensures moves { IfSome result (λ to. (byte : ℕ) → SpellsCharacter (begun_bytes state.now.begun ++ byte ∷ []) c
+    ensures moves { IfSome result (λ to. (byte : ℕ)
+        → SpellsCharacter (begun_bytes state.now.begun ++ byte ∷ []) c
         → IsMove (W.table table.now) pattern.now state.now byte to) }
 {
     laws_of_points();

@@ -40,8 +40,10 @@ impl Automaton {
         requires right { AreRight (W.table table.now) pattern.now self.old }
         requires letters { AreLetters (W.table table.now) pattern.now letters.old }
         ensures moves { IfSome result (λ to_row. (from : StateValue) → IsRow self.old row from
-            → (to : StateValue) × IsRow self.new to_row to × IsMove (W.table table.now) pattern.now from byte to) }
-        ensures grows { (other : ℕ) (state : StateValue) → IsRow self.old other state → IsRow self.new other state }
+            → (to : StateValue) × IsRow self.new to_row to
+            × IsMove (W.table table.now) pattern.now from byte to) }
+        ensures grows { (other : ℕ) (state : StateValue) → IsRow self.old other state
+            → IsRow self.new other state }
         ensures right { AreRight (W.table table.now) pattern.now self.new }
         ensures letters { AreLetters (W.table table.now) pattern.now letters.new }
     {
@@ -69,9 +71,12 @@ impl Automaton {
     ) -> Option<usize>
         requires right { AreRight (W.table table.now) pattern.now self.old }
         requires letters { AreLetters (W.table table.now) pattern.now letters.old }
-        ensures moves { IfSome result (λ row. (to : StateValue) × IsRow self.new row to × IsMove (W.table table.now) pattern.now state.now byte to) }
+        ensures moves { IfSome result
+            (λ row. (to : StateValue) × IsRow self.new row to
+            × IsMove (W.table table.now) pattern.now state.now byte to) }
         ensures below { IfSome result (λ row. row < STOP) }
-        ensures grows { (other : ℕ) (state : StateValue) → IsRow self.old other state → IsRow self.new other state }
+        ensures grows { (other : ℕ) (state : StateValue) → IsRow self.old other state
+            → IsRow self.new other state }
         ensures right { AreRight (W.table table.now) pattern.now self.new }
         ensures letters { AreLetters (W.table table.now) pattern.now letters.new }
     {
@@ -83,8 +88,10 @@ impl Automaton {
     pub(crate) fn row_of(&mut self, state: State) -> Option<usize>
         ensures row { IfSome result (λ row. IsRow self.new row state) }
         ensures below { IfSome result (λ row. row < STOP) }
-        ensures grows { (other : ℕ) (state : StateValue) → IsRow self.old other state → IsRow self.new other state }
-        ensures right { (table : TableMap) (pattern : Compiled) → AreRight table pattern self.old → AreRight table pattern self.new }
+        ensures grows { (other : ℕ) (state : StateValue) → IsRow self.old other state
+            → IsRow self.new other state }
+        ensures right { (table : TableMap) (pattern : Compiled) → AreRight table pattern self.old
+            → AreRight table pattern self.new }
     {
         let number = self.number_of(state)?;
         if number >= MOST_STATES {
@@ -108,9 +115,12 @@ impl Automaton {
 
     /// The number of a state, which is made where there is none.
     fn number_of(&mut self, state: State) -> Option<usize>
-        ensures number { IfSome result (λ number. slice_get self.new.states.items number ≡ Some state) }
-        ensures grows { (other : ℕ) (state : StateValue) → IsRow self.old other state → IsRow self.new other state }
-        ensures right { (table : TableMap) (pattern : Compiled) → AreRight table pattern self.old → AreRight table pattern self.new }
+        ensures number { IfSome result
+            (λ number. slice_get self.new.states.items number ≡ Some state) }
+        ensures grows { (other : ℕ) (state : StateValue) → IsRow self.old other state
+            → IsRow self.new other state }
+        ensures right { (table : TableMap) (pattern : Compiled) → AreRight table pattern self.old
+            → AreRight table pattern self.new }
     {
         self.make_places();
         let (place, number) = self.find(&state)?;
@@ -124,7 +134,9 @@ impl Automaton {
 
     /// The first place, from that of its hash on, that has a state's number, and this, or where no number stands.
     fn find(&self, state: &State) -> Option<(usize, Option<usize>)>
-        ensures { IfSome result (λ it. IfSome it.1 (λ number. slice_get self.now.states.items number ≡ Some state.now)) }
+        ensures { IfSome result
+            (λ it. IfSome it.1
+            (λ number. slice_get self.now.states.items number ≡ Some state.now)) }
     {
         let first = hash(state);
         for probe in 0..PLACES {
@@ -144,8 +156,10 @@ impl Automaton {
     fn note(&mut self, place: usize, number: usize)
         ensures cells { self.new.cells ≡ self.old.cells }
         ensures states { self.new.states ≡ self.old.states }
-        ensures grows { (other : ℕ) (state : StateValue) → IsRow self.old other state → IsRow self.new other state }
-        ensures right { (table : TableMap) (pattern : Compiled) → AreRight table pattern self.old → AreRight table pattern self.new }
+        ensures grows { (other : ℕ) (state : StateValue) → IsRow self.old other state
+            → IsRow self.new other state }
+        ensures right { (table : TableMap) (pattern : Compiled) → AreRight table pattern self.old
+            → AreRight table pattern self.new }
     {
         if place < self.places.len() && number < MOST_STATES {
             self.places[place] = number as u32;
@@ -166,8 +180,10 @@ impl Automaton {
     fn make_places(&mut self)
         ensures cells { self.new.cells ≡ self.old.cells }
         ensures states { self.new.states ≡ self.old.states }
-        ensures grows { (other : ℕ) (state : StateValue) → IsRow self.old other state → IsRow self.new other state }
-        ensures right { (table : TableMap) (pattern : Compiled) → AreRight table pattern self.old → AreRight table pattern self.new }
+        ensures grows { (other : ℕ) (state : StateValue) → IsRow self.old other state
+            → IsRow self.new other state }
+        ensures right { (table : TableMap) (pattern : Compiled) → AreRight table pattern self.old
+            → AreRight table pattern self.new }
     {
         if !self.places.is_empty() {
             return;
@@ -179,9 +195,12 @@ impl Automaton {
 
     /// Adds a state with a row of unknown moves; `None` where there is no room or no memory.
     fn add(&mut self, state: State) -> Option<usize>
-        ensures number { IfSome result (λ number. slice_get self.new.states.items number ≡ Some state) }
-        ensures grows { (other : ℕ) (state : StateValue) → IsRow self.old other state → IsRow self.new other state }
-        ensures right { (table : TableMap) (pattern : Compiled) → AreRight table pattern self.old → AreRight table pattern self.new }
+        ensures number { IfSome result
+            (λ number. slice_get self.new.states.items number ≡ Some state) }
+        ensures grows { (other : ℕ) (state : StateValue) → IsRow self.old other state
+            → IsRow self.new other state }
+        ensures right { (table : TableMap) (pattern : Compiled) → AreRight table pattern self.old
+            → AreRight table pattern self.new }
     {
         let number = self.states.len();
         if number >= MOST_STATES || self.states.reserve(1).is_err() {

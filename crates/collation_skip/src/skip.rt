@@ -80,11 +80,14 @@ impl Skip {
         ensures within { IfSome result (λ it. it.end + len_utf8 it.next ≤ length piece.now) }
         ensures order { IfSome result (λ it. it.start ≤ it.end) }
         ensures reach { IfSome result (λ it. it.end ≤ reach) }
-        ensures next { IfSome result (λ it. SpellsCharacter (take (len_utf8 it.next) (drop it.end piece.now)) it.next) }
-        ensures letter { IfSome result (λ it. IsLetter (W.table table.now) pattern.now (it.next ∷ []) it.letter) }
+        ensures next { IfSome result
+            (λ it. SpellsCharacter (take (len_utf8 it.next) (drop it.end piece.now)) it.next) }
+        ensures letter { IfSome result
+            (λ it. IsLetter (W.table table.now) pattern.now (it.next ∷ []) it.letter) }
         ensures text { IfSome result (λ it. IsUtf8 (take it.end piece.now)) }
         ensures passed { IfSome result (λ it. (at : ℕ)
-            → IsPassed (W.table table.now) pattern.now at (at + it.start) (chars (take it.end piece.now)) it.next) }
+            → IsPassed (W.table table.now) pattern.now at (at + it.start)
+            (chars (take it.end piece.now)) it.next) }
         ensures right { IsSkipRight (W.table table.now) pattern.now self.new }
         ensures letters { AreLetters (W.table table.now) pattern.now letters.new }
     {

@@ -54,7 +54,8 @@ fn read_state<'a>(sizes: &Sizes, words: &'a [u64]) -> Option<ReadState<'a>>
     requires long { tests.head_len sizes.now.select ≤ length words.now }
     ensures right { tests.is_state sizes.now words.now ≡ is_some result }
     ensures says { IfSome result (λ read. Says read (state_in sizes.now.select words.now)) }
-    ensures few_places { IfSome result (λ read. length read.places.now ≤ 4 * sizes.now.pattern_len) }
+    ensures few_places { IfSome result
+        (λ read. length read.places.now ≤ 4 * sizes.now.pattern_len) }
     ensures few_points { IfSome result (λ read. length read.window.items ≤ sizes.now.longest_key) }
 {
     let head = read_head(words);
@@ -155,7 +156,8 @@ fn read_open<'a>(
 
 /// The words after the first five records: of the places of keys, of the points in the window, and of those that wait.
 fn parts<'a>(head: &Head, words: &'a [u64]) -> (&'a [u64], &'a [u64], &'a [u64])
-    requires { 4 * (head.now.state + (head.now.window_len + head.now.waiting_len)) ≡ length words.now }
+    requires { 4 * (head.now.state + (head.now.window_len + head.now.waiting_len))
+        ≡ length words.now }
     ensures places { result.0.now ≡ tests.place_part head.now words.now }
     ensures window { result.1.now ≡ tests.window_part head.now words.now }
     ensures waiting { result.2.now ≡ tests.waiting_part head.now words.now }

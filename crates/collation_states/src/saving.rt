@@ -20,9 +20,14 @@ pub fn append_head(
     head: &Head,
     last_end: u64,
 ) -> Result<(), AllocError>
-    ensures saved { OnOk result (words.new.items ≡ words.old.items ++ (head_words sizes.now head.now ++ chain_record sizes.now.select last_end)) }
+    ensures saved { OnOk result
+        (words.new.items
+        ≡ words.old.items ++
+        (head_words sizes.now head.now ++ chain_record sizes.now.select last_end)) }
     ensures begun { OnErr result (BeginsWith words.old.items words.new.items) }
-    ensures full { OnErr result (vec_capacity words.old < vec_len words.old + length (head_words sizes.now head.now ++ chain_record sizes.now.select last_end)) }
+    ensures full { OnErr result
+        (vec_capacity words.old < vec_len words.old + length
+        (head_words sizes.now head.now ++ chain_record sizes.now.select last_end)) }
     ensures capacity { vec_capacity words.old ≤ vec_capacity words.new }
 {
     words.extend_from_slice(&[
@@ -123,7 +128,9 @@ pub fn number_of(bytes: &[u8]) -> u64
 ///
 /// Where memory was refused.
 pub fn append_place(words: &mut Vec<u64>, start: u64, is_first: bool) -> Result<(), AllocError>
-    ensures saved { OnOk result (words.new.items ≡ words.old.items ++ place_record (record { start = start; is_first = is_first })) }
+    ensures saved { OnOk result
+        (words.new.items
+        ≡ words.old.items ++ place_record (record { start = start; is_first = is_first })) }
     ensures kept { OnErr result (words.new.items ≡ words.old.items) }
     ensures full { OnErr result (vec_capacity words.old < vec_len words.old + 4) }
     ensures capacity { vec_capacity words.old ≤ vec_capacity words.new }
@@ -139,7 +146,8 @@ pub fn append_place(words: &mut Vec<u64>, start: u64, is_first: bool) -> Result<
 pub fn append_points(words: &mut Vec<u64>, points: &[Point]) -> Result<(), AllocError>
     ensures saved { OnOk result (words.new.items ≡ words.old.items ++ point_words points.now) }
     ensures begun { OnErr result (BeginsWith words.old.items words.new.items) }
-    ensures full { OnErr result (vec_capacity words.old < vec_len words.old + length (point_words points.now)) }
+    ensures full { OnErr result
+        (vec_capacity words.old < vec_len words.old + length (point_words points.now)) }
     ensures capacity { vec_capacity words.old ≤ vec_capacity words.new }
 {
     for point in points {

@@ -35,9 +35,17 @@ fn decomposed(c: char) -> char
 
 /// The point of a record, where the record has one with an offset before `end`.
 fn read_point(end: u64, cp: u64, offset: u64, is_first: u64, zero: u64) -> Option<Point>
-    ensures point { IfSome result (λ p. p ≡ record { cp = tests.decomposed cp; ccc = canonical_combining_class (tests.decomposed cp); offset = offset; first = is_first == 1 }) }
+    ensures point { IfSome result
+        (λ p. p ≡ record {
+          cp = tests.decomposed cp;
+          ccc = canonical_combining_class
+              (tests.decomposed cp);
+          offset = offset;
+          first = is_first == 1;
+        }) }
     ensures sound { IfSome result IsSoundPoint }
-    ensures right { is_some result ≡ (scalar cp && (nat_lt offset end && (tests.is_flag is_first && zero == 0))) }
+    ensures right { is_some result
+        ≡ (scalar cp && (nat_lt offset end && (tests.is_flag is_first && zero == 0))) }
 {
     if offset >= end || is_first > 1 || zero != 0 {
         return None;

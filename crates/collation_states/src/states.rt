@@ -114,7 +114,8 @@ pub(crate) fn read_head(words: &[u64]) -> Head
 pub(crate) fn bytes_in(len: u64, number: u64) -> Option<ArrayVec<u8, 3>>
     ensures bytes { IfSome result (λ bytes. bytes.items ≡ tests.bytes_in len number) }
     ensures few { IfSome result (λ bytes. length bytes.items ≡ len) }
-    ensures none { IfNone result (len ≤ 3 → is_incomplete_or_empty (tests.bytes_in len number) ≡ false) }
+    ensures none { IfNone result (len ≤ 3
+        → is_incomplete_or_empty (tests.bytes_in len number) ≡ false) }
 {
     let mut bytes = ArrayVec::new();
     let (first, later) = match len {

@@ -77,7 +77,8 @@ impl Pages {
 
     /// Makes room for a code point.
     fn make_room(&mut self, alloc: Global, cp: u32) -> Result<(), AllocError>
-        ensures same { OnOk result ((q : ℕ) → page_entry self.new.pages.items q ≡ page_entry self.old.pages.items q) }
+        ensures same { OnOk result ((q : ℕ)
+            → page_entry self.new.pages.items q ≡ page_entry self.old.pages.items q) }
         ensures room { OnOk result (HasRoom self.new.pages.items cp) }
     {
         let number = (cp / PAGE_POINTS) as usize;
@@ -93,7 +94,8 @@ impl Pages {
     /// Puts an entry in the place of that of a code point.
     pub fn set(&mut self, alloc: Global, cp: u32, entry: PageEntry) -> Result<(), AllocError>
         ensures here { OnOk result (page_entry self.new.pages.items cp ≡ entry) }
-        ensures others { OnOk result ((q : ℕ) → ((q ≡ cp) → ⊥) → page_entry self.new.pages.items q ≡ page_entry self.old.pages.items q) }
+        ensures others { OnOk result ((q : ℕ) → ((q ≡ cp) → ⊥)
+            → page_entry self.new.pages.items q ≡ page_entry self.old.pages.items q) }
     {
         self.make_room(alloc, cp)?;
         self.pages[(cp / PAGE_POINTS) as usize][(cp % PAGE_POINTS) as usize] = entry;

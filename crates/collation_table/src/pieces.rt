@@ -28,7 +28,8 @@ fn place_of(bytes: &[u8], byte: u8) -> Option<usize>
 
 /// What stands before the first `separator`, and what stands after it.
 pub(crate) fn cut(bytes: &[u8], separator: u8) -> Option<(&[u8], &[u8])>
-    ensures { option_map (λ parts. (parts.0.now, parts.1.now)) result ≡ split_once separator bytes.now }
+    ensures { option_map (λ parts. (parts.0.now, parts.1.now)) result
+        ≡ split_once separator bytes.now }
 {
     let at = place_of(bytes, separator)?;
     Some((&bytes[..at], &bytes[at + 1..]))

@@ -31,7 +31,9 @@ impl PlainTable {
     /// The table of these rows and ranges, or the fault, at line 0, of the first condition on the whole table that they break: 12 no
     /// row, 6 WF2, 8 WF4, 9 WF5. Takes no memory.
     fn seal(rows: PlainRows) -> Result<PlainTable, TableFault>
-        ensures { MatchResult result (λ t. (map_fault rows ≡ None) × (⟦<PlainTable as Weights>⟧.table t ≡ rows)) (λ fault. fault_at_line 0 (map_fault rows) ≡ Some fault) }
+        ensures { MatchResult result
+            (λ t. (map_fault rows ≡ None) × (⟦<PlainTable as Weights>⟧.table t ≡ rows))
+            (λ fault. fault_at_line 0 (map_fault rows) ≡ Some fault) }
     {
         match rows.fault() {
             Some(kind) => Err(TableFault { line: 0, kind }),
@@ -51,9 +53,12 @@ impl PlainTable {
     pub fn read(alloc: Global, bytes: &[u8]) -> Result<PlainTable, TableFault>
         // A table comes from a file with no fault, and is what the file spells.
         ensures accepted { OnOk result (table_fault bytes.now ≡ None) }
-        ensures spelled { IfOk result (λ table. SpellsTable bytes.now (⟦<PlainTable as Weights>⟧.table table)) }
-        ensures exact { IfOk result (λ table. ⟦<PlainTable as Weights>⟧.table table ≡ tailored_map bytes.now []) }
-        ensures well_formed { IfOk result (λ table. IsWellFormed (⟦<PlainTable as Weights>⟧.table table)) }
+        ensures spelled { IfOk result
+            (λ table. SpellsTable bytes.now (⟦<PlainTable as Weights>⟧.table table)) }
+        ensures exact { IfOk result
+            (λ table. ⟦<PlainTable as Weights>⟧.table table ≡ tailored_map bytes.now []) }
+        ensures well_formed { IfOk result
+            (λ table. IsWellFormed (⟦<PlainTable as Weights>⟧.table table)) }
         // The first fault is reported, unless memory was refused.
         ensures fault { IfErr result (IsFaultOrAllocationRefused (table_fault bytes.now)) }
     {

@@ -58,10 +58,17 @@ fn add_line<S: RowStore>(
     line: Option<Line>,
 ) -> Result<S, TableFault>
     requires parts { IfSome line HasParts }
-    ensures right { OnOk result (line_kind (earlier_ranges file) (S.table rows) (option_map form line) ≡ None) }
-    ensures rows { IfOk result (λ new. S.table new ≡ with_line (S.table rows) (option_map form line)) }
+    ensures right { OnOk result
+        (line_kind (earlier_ranges file) (S.table rows) (option_map form line) ≡ None) }
+    ensures rows { IfOk result
+        (λ new. S.table new ≡ with_line (S.table rows) (option_map form line)) }
     // A line at fault has its fault reported, whatever memory is refused.
-    ensures fault { IfErr result (λ fault. fault ≡ unwrap_or (option_map (reported file) (fault_at_line number (line_kind (earlier_ranges file) (S.table rows) (option_map form line)))) allocation_refused) }
+    ensures fault { IfErr result
+        (λ fault. fault
+        ≡ unwrap_or (option_map (reported file)
+        (fault_at_line number
+        (line_kind (earlier_ranges file) (S.table rows)
+        (option_map form line)))) allocation_refused) }
 {
     match line_fault(file.earlier_ranges(), &rows, &line) {
         Some(kind) => {
@@ -89,9 +96,15 @@ fn read_line<S: RowStore>(
     number: u64,
     text: &[u8],
 ) -> Result<S, TableFault>
-    ensures right { OnOk result (line_kind (earlier_ranges file) (S.table rows) (line_form text.now) ≡ None) }
-    ensures rows { IfOk result (λ new. S.table new ≡ with_line (S.table rows) (line_form text.now)) }
-    ensures fault { IfErr result (IsFaultOrAllocationRefused (option_map (reported file) (fault_at_line number (line_kind (earlier_ranges file) (S.table rows) (line_form text.now))))) }
+    ensures right { OnOk result
+        (line_kind (earlier_ranges file) (S.table rows) (line_form text.now) ≡ None) }
+    ensures rows { IfOk result
+        (λ new. S.table new ≡ with_line (S.table rows) (line_form text.now)) }
+    ensures fault { IfErr result
+        (IsFaultOrAllocationRefused
+        (option_map (reported file)
+        (fault_at_line number
+        (line_kind (earlier_ranges file) (S.table rows) (line_form text.now))))) }
 {
     let line = parse_line(alloc, text)?;
     add_line(alloc, file, rows, number, line)
@@ -107,9 +120,14 @@ pub(crate) fn read_lines<S: RowStore>(
 ) -> Result<S, TableFault>
     requires none { (S.table earlier).rows ≡ [] }
     requires ranges { earlier_ranges file ≡ length (S.table earlier).ranges }
-    ensures ok { OnOk result (first_line_fault (S.table earlier).ranges (forms_of bytes.now) ≡ None) }
-    ensures rows { IfOk result (λ rows. S.table rows ≡ map_after (S.table earlier).ranges (forms_of bytes.now)) }
-    ensures fault { IfErr result (IsFaultOrAllocationRefused (option_map (reported file) (first_line_fault (S.table earlier).ranges (forms_of bytes.now)))) }
+    ensures ok { OnOk result
+        (first_line_fault (S.table earlier).ranges (forms_of bytes.now) ≡ None) }
+    ensures rows { IfOk result
+        (λ rows. S.table rows ≡ map_after (S.table earlier).ranges (forms_of bytes.now)) }
+    ensures fault { IfErr result
+        (IsFaultOrAllocationRefused
+        (option_map (reported file)
+        (first_line_fault (S.table earlier).ranges (forms_of bytes.now)))) }
 {
     let mut rows = earlier;
     let mut rest = bytes;
@@ -158,10 +176,13 @@ impl Table {
     pub fn read(alloc: Global, bytes: &[u8]) -> Result<Table, TableFault>
         // A table comes from a file with no fault, and is what the file spells.
         ensures accepted { OnOk result (table_fault bytes.now ≡ None) }
-        ensures spelled { IfOk result (λ table. SpellsTable bytes.now (⟦<Table as Weights>⟧.table table)) }
+        ensures spelled { IfOk result
+            (λ table. SpellsTable bytes.now (⟦<Table as Weights>⟧.table table)) }
         // Two tables of one file are the same, row for row.
-        ensures exact { IfOk result (λ table. ⟦<Table as Weights>⟧.table table ≡ tailored_map bytes.now []) }
-        ensures well_formed { IfOk result (λ table. IsWellFormed (⟦<Table as Weights>⟧.table table)) }
+        ensures exact { IfOk result
+            (λ table. ⟦<Table as Weights>⟧.table table ≡ tailored_map bytes.now []) }
+        ensures well_formed { IfOk result
+            (λ table. IsWellFormed (⟦<Table as Weights>⟧.table table)) }
         // The first fault is reported, unless memory was refused.
         ensures fault { IfErr result (IsFaultOrAllocationRefused (table_fault bytes.now)) }
     {
@@ -180,11 +201,15 @@ impl Table {
     pub fn read_tailored(alloc: Global, base: &[u8], tailor: &[u8]) -> Result<Table, TableFault>
         // A table comes from files with no fault, and is what they spell.
         ensures accepted { OnOk result (tailored_fault base.now tailor.now ≡ None) }
-        ensures spelled { IfOk result (λ table. SpellsTailored base.now tailor.now (⟦<Table as Weights>⟧.table table)) }
-        ensures exact { IfOk result (λ table. ⟦<Table as Weights>⟧.table table ≡ tailored_map base.now tailor.now) }
-        ensures well_formed { IfOk result (λ table. IsWellFormed (⟦<Table as Weights>⟧.table table)) }
+        ensures spelled { IfOk result
+            (λ table. SpellsTailored base.now tailor.now (⟦<Table as Weights>⟧.table table)) }
+        ensures exact { IfOk result
+            (λ table. ⟦<Table as Weights>⟧.table table ≡ tailored_map base.now tailor.now) }
+        ensures well_formed { IfOk result
+            (λ table. IsWellFormed (⟦<Table as Weights>⟧.table table)) }
         // The first fault is reported, unless memory was refused.
-        ensures fault { IfErr result (IsFaultOrAllocationRefused (tailored_fault base.now tailor.now)) }
+        ensures fault { IfErr result
+            (IsFaultOrAllocationRefused (tailored_fault base.now tailor.now)) }
     {
         let base = read_lines(alloc, TableFile::Base, Rows::new(alloc), base)?;
         let (base, ranges) = base.apart(alloc);

@@ -34,12 +34,16 @@ pub(crate) trait RowStore: Drop {
     fn insert(self, alloc: Global, string: &[u32], row: &[Element]) -> Result<Self, AllocError>
         requires absent { is_mapped (table self) string.now ≡ false }
         requires sound { IsRowSound string.now row.now }
-        ensures { IfOk result (λ rows. table rows ≡ record (table self) { rows = (table self).rows ++ (string.now, row.now) ∷ [] }) };
+        ensures { IfOk result
+            (λ rows. table rows
+            ≡ record (table self) { rows = (table self).rows ++ (string.now, row.now) ∷ [] }) };
 
     /// The rows with one more range after the others.
     fn push_range(self, range: ImplicitRange) -> Result<Self, AllocError>
         requires { breaks_ranges (table self).ranges range ≡ false }
-        ensures { IfOk result (λ rows. table rows ≡ record (table self) { ranges = (table self).ranges ++ range ∷ [] }) };
+        ensures { IfOk result
+            (λ rows. table rows
+            ≡ record (table self) { ranges = (table self).ranges ++ range ∷ [] }) };
 }
 
 /// Whether a mapped string of three code points or more ends in a non-starter, and is not mapped without it (WF5).

@@ -145,7 +145,8 @@ impl Rows {
     pub fn insert(self, alloc: Global, string: &[u32], row: &[Element]) -> Result<Rows, AllocError>
         requires absent { is_mapped self string.now ≡ false }
         requires sound { IsRowSound string.now row.now }
-        ensures { IfOk result (λ rows. rows ≡ record self { rows = self.rows ++ (string.now, row.now) ∷ [] }) }
+        ensures { IfOk result
+            (λ rows. rows ≡ record self { rows = self.rows ++ (string.now, row.now) ∷ [] }) }
     {
         let Rows {
             mut points,

@@ -108,7 +108,8 @@ fn non_empty<T: Drop>(list: Vec<T>) -> Option<Vec<T>>
 
 /// The elements that `text` spells, one or more with or without blanks between them, or `None`.
 pub(crate) fn elements(alloc: Global, text: &[u8]) -> Result<Option<Vec<Element>>, AllocError>
-    ensures value { IfOk result (λ found. option_map (λ elements. elements.items) found ≡ elements_of text.now) }
+    ensures value { IfOk result
+        (λ found. option_map (λ elements. elements.items) found ≡ elements_of text.now) }
     ensures some { IfOk result (λ found. IfSome found (λ elements. 0 < length elements.items)) }
 {
     let mut elements = Vec::new(alloc);
@@ -128,7 +129,8 @@ pub(crate) fn elements(alloc: Global, text: &[u8]) -> Result<Option<Vec<Element>
 
 /// The code points that `text` spells, one or more with blanks between them, or `None`.
 pub(crate) fn string(alloc: Global, text: &[u8]) -> Result<Option<Vec<u32>>, AllocError>
-    ensures value { IfOk result (λ found. option_map (λ string. string.items) found ≡ string_of text.now) }
+    ensures value { IfOk result
+        (λ found. option_map (λ string. string.items) found ≡ string_of text.now) }
     ensures some { IfOk result (λ found. IfSome found (λ string. 0 < length string.items)) }
 {
     let mut string = Vec::new(alloc);

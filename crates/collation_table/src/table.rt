@@ -27,7 +27,9 @@ impl Table {
     /// The table of these rows and ranges, or the fault, at line 0, of the first condition on the whole table that they break: 12 no
     /// row, 6 WF2, 8 WF4, 9 WF5. Takes no memory.
     pub(crate) fn seal(rows: Rows) -> Result<Table, TableFault>
-        ensures { MatchResult result (λ t. (map_fault rows ≡ None) × (⟦<Table as Weights>⟧.table t ≡ rows)) (λ fault. fault_at_line 0 (map_fault rows) ≡ Some fault) }
+        ensures { MatchResult result
+            (λ t. (map_fault rows ≡ None) × (⟦<Table as Weights>⟧.table t ≡ rows))
+            (λ fault. fault_at_line 0 (map_fault rows) ≡ Some fault) }
     {
         match rows.fault() {
             Some(kind) => Err(TableFault { line: 0, kind }),

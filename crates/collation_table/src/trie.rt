@@ -100,8 +100,10 @@ impl Trie {
         requires none { at self.old node cp ≡ record { place = place; node = None } }
         ensures trie { OnOk result (IsTrie self.new) }
         ensures used { IfOk result (λ next. next < self.new.nodes) }
-        ensures same { OnOk result ((string : List ℕ) → place_of self.new string ≡ place_of self.old string) }
-        ensures leads { IfOk result (λ next. (prefix : List ℕ) → Leads (at self.old) 0 prefix node → Leads (at self.new) 0 (prefix ++ cp ∷ []) next) }
+        ensures same { OnOk result ((string : List ℕ)
+            → place_of self.new string ≡ place_of self.old string) }
+        ensures leads { IfOk result (λ next. (prefix : List ℕ) → Leads (at self.old) 0 prefix node
+            → Leads (at self.new) 0 (prefix ++ cp ∷ []) next) }
     {
         let next = self.nodes;
         let Some(nodes) = next.checked_add(1) else {
@@ -126,8 +128,10 @@ impl Trie {
         requires used { node < self.old.nodes }
         ensures trie { OnOk result (IsTrie self.new) }
         ensures used { IfOk result (λ next. next < self.new.nodes) }
-        ensures same { OnOk result ((string : List ℕ) → place_of self.new string ≡ place_of self.old string) }
-        ensures leads { IfOk result (λ next. (prefix : List ℕ) → Leads (at self.old) 0 prefix node → Leads (at self.new) 0 (prefix ++ cp ∷ []) next) }
+        ensures same { OnOk result ((string : List ℕ)
+            → place_of self.new string ≡ place_of self.old string) }
+        ensures leads { IfOk result (λ next. (prefix : List ℕ) → Leads (at self.old) 0 prefix node
+            → Leads (at self.new) 0 (prefix ++ cp ∷ []) next) }
     {
         let entry = self.step(node, cp);
         match entry.node {
@@ -141,7 +145,8 @@ impl Trie {
         requires trie { IsTrie self.old }
         ensures trie { OnOk result (IsTrie self.new) }
         ensures used { IfOk result (λ node. node < self.new.nodes) }
-        ensures same { OnOk result ((string : List ℕ) → place_of self.new string ≡ place_of self.old string) }
+        ensures same { OnOk result ((string : List ℕ)
+            → place_of self.new string ≡ place_of self.old string) }
         ensures leads { IfOk result (λ node. Leads (at self.new) 0 cps.now node) }
     {
         let mut node = 0;
@@ -157,7 +162,8 @@ impl Trie {
         requires some { 0 < length string.now }
         ensures trie { OnOk result (IsTrie self.new) }
         ensures here { OnOk result (place_of self.new string.now ≡ Some place) }
-        ensures others { OnOk result ((q : List ℕ) → ((q ≡ string.now) → ⊥) → place_of self.new q ≡ place_of self.old q) }
+        ensures others { OnOk result ((q : List ℕ) → ((q ≡ string.now) → ⊥)
+            → place_of self.new q ≡ place_of self.old q) }
     {
         let last = string.len() - 1;
         let node = self.follow_all(alloc, &string[..last])?;
@@ -195,7 +201,8 @@ impl Trie {
     /// Whether a mapped string that is longer than `string` begins with it; `true` for the empty string.
     pub fn goes_on(&self, string: &[u32]) -> bool
         requires { IsTrie self.now }
-        ensures { result ≡ false → (d : ℕ) (rest : List ℕ) → place_of self.now (string.now ++ d ∷ rest) ≡ None }
+        ensures { result ≡ false → (d : ℕ) (rest : List ℕ)
+            → place_of self.now (string.now ++ d ∷ rest) ≡ None }
     {
         let [first, rest @ ..] = string else {
             return true;
@@ -214,7 +221,9 @@ impl Trie {
     /// string goes on, which no clause says.
     pub fn longest(&self, points: &[u32]) -> usize
         requires { IsTrie self.now }
-        ensures value { (T : TableMap) → ((string : List ℕ) → is_mapped T string ≡ is_some (place_of self.now string)) → result ≡ longest_prefix T points.now }
+        ensures value { (T : TableMap)
+            → ((string : List ℕ) → is_mapped T string ≡ is_some (place_of self.now string))
+            → result ≡ longest_prefix T points.now }
         ensures within { result ≤ length points.now }
     {
         let [first, rest @ ..] = points else {
@@ -242,7 +251,8 @@ impl Trie {
     /// Whether a mapped string of two or more code points begins with `cp`.
     pub fn begins_longer_string(&self, cp: u32) -> bool
         requires { IsTrie self.now }
-        ensures { result ≡ false → (d : ℕ) (rest : List ℕ) → place_of self.now (cp ∷ d ∷ rest) ≡ None }
+        ensures { result ≡ false → (d : ℕ) (rest : List ℕ)
+            → place_of self.now (cp ∷ d ∷ rest) ≡ None }
     {
         self.pages.get(cp).entry.node.is_some()
     }
@@ -252,7 +262,8 @@ impl Trie {
     #[inline(always)]
     pub fn lone_place(&self, cp: u32) -> Option<Option<Place>>
         requires { IsTrie self.now }
-        ensures alone { OnSome result ((d : ℕ) (rest : List ℕ) → place_of self.now (cp ∷ d ∷ rest) ≡ None) }
+        ensures alone { OnSome result ((d : ℕ) (rest : List ℕ)
+            → place_of self.now (cp ∷ d ∷ rest) ≡ None) }
         ensures place { IfSome result (λ place. place ≡ place_of self.now (cp ∷ [])) }
     {
         let entry = self.pages.get(cp).entry;
@@ -265,7 +276,8 @@ impl Trie {
     /// Whether `cp` stands after the first place in a mapped string.
     pub fn continues_string(&self, cp: u32) -> bool
         requires { IsTrie self.now }
-        ensures { result ≡ false → (first : ℕ) (prefix rest : List ℕ) → place_of self.now (first ∷ (prefix ++ cp ∷ rest)) ≡ None }
+        ensures { result ≡ false → (first : ℕ) (prefix rest : List ℕ)
+            → place_of self.now (first ∷ (prefix ++ cp ∷ rest)) ≡ None }
     {
         self.pages.get(cp).continues
     }

@@ -24,7 +24,8 @@ pub struct Point {
 impl Point {
     /// The point `c`, with its class, of the code point at the byte `offset`.
     pub fn new(c: char, offset: u64, first: bool) -> Self
-        ensures value { result ≡ record { cp = c; ccc = canonical_combining_class c; offset = offset; first = first } }
+        ensures value { result
+            ≡ record { cp = c; ccc = canonical_combining_class c; offset = offset; first = first } }
         ensures sound { IsSoundPoint result }
     {
         Point {

@@ -62,11 +62,13 @@ impl Reorder {
         out: &mut ArrayVec<Point, MOST_GIVEN>,
     ) -> Result<(), PointFault>
         // a fault is answered exactly where one stands at `c`, with its kind
-        ensures fault { MatchResult result (λ _. fault_of_code_point (length self.old.held) c ≡ None)
+        ensures fault { MatchResult result
+            (λ _. fault_of_code_point (length self.old.held) c ≡ None)
             (λ f. fault_of_code_point (length self.old.held) c ≡ Some f.kind) }
         ensures ascii { c < 128 → result ≡ Ok tt }
         ensures ascii_given { c < 128 → out.new.items ≡ self.old.held ++ ascii_point offset c ∷ [] }
-        ensures pushed { OnOk result (out.new.items ++ self.new.held ≡ ordered (self.old.held ++ points_of offset c)) }
+        ensures pushed { OnOk result
+            (out.new.items ++ self.new.held ≡ ordered (self.old.held ++ points_of offset c)) }
         ensures closed { is_closed out.new.items ≡ true }
         // no more than `MOST_WAITING` non-starters follow each other
         ensures short { has_short_runs 0 (code_points out.new.items) ≡ true }
@@ -85,7 +87,8 @@ impl Reorder {
             begins_with_starter (points_of offset c) ≡ true → point_fault taken ≡ None →
             OnOk result (HasReordered self.new (taken ++ c ∷ []) (points taken ++ out.new.items)) }
         // the fault is the first one of the text, however it goes on
-        ensures stops { (taken : List ℕ) (given : List Point) (rest : List ℕ) → HasReordered self.old taken given →
+        ensures stops { (taken : List ℕ) (given : List Point) (rest : List ℕ)
+            → HasReordered self.old taken given →
             IfErr result (λ f. point_fault (taken ++ c ∷ rest) ≡ Some (byte_len taken, f.kind)) }
     {
         empty(out);
@@ -198,7 +201,8 @@ impl Reorder {
     /// Appends the points that wait to `out`, so that none waits.
     #[inline]
     fn release(&mut self, out: &mut ArrayVec<Point, MOST_GIVEN>)
-        requires { length self.old.held ≤ MOST_WAITING → array_vec_len out.old + length self.old.held ≤ MOST_GIVEN }
+        requires { length self.old.held ≤ MOST_WAITING
+            → array_vec_len out.old + length self.old.held ≤ MOST_GIVEN }
         ensures given { out.new.items ≡ out.old.items ++ self.old.held }
         ensures held { self.new.held ≡ [] }
         ensures was { IsHeld self.old.held }

@@ -30,7 +30,8 @@ fn point(cp: u32, ccc: u8, offset: u64, first: bool) -> Point {
 
 /// The definitions on texts that are written out. 16 times U+0F73 are 32 non-starters.
 fn worked_points()
-    ensures composed { points (0xE9 ∷ []) ≡ worked_point 0x65 0 0 true ∷ worked_point 0x301 230 0 false ∷ [] }
+    ensures composed { points (0xE9 ∷ [])
+        ≡ worked_point 0x65 0 0 true ∷ worked_point 0x301 230 0 false ∷ [] }
     ensures decomposed { points (0x65 ∷ 0x301 ∷ [])
         ≡ worked_point 0x65 0 0 true ∷ worked_point 0x301 230 1 true ∷ [] }
     ensures hangul { points (0xAC01 ∷ [])

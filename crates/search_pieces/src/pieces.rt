@@ -30,7 +30,8 @@ impl Ranges {
 
     /// Puts a range after the others, if no allocation was refused so far.
     fn put(&mut self, start: u64, end: u64)
-        ensures put { self.new.is_refused ≡ false → self.new.items.items ≡ self.old.items.items ++ (start, end) ∷ [] }
+        ensures put { self.new.is_refused ≡ false
+            → self.new.items.items ≡ self.old.items.items ++ (start, end) ∷ [] }
         ensures refused { self.new.is_refused ≡ false → self.old.is_refused ≡ false }
     {
         if !self.is_refused {
@@ -84,14 +85,17 @@ fn feed<W: Weights>(
     search: &mut Search<'_, W>,
     piece: &[u8],
 ) -> Result<Vec<(u64, u64)>, AllocError>
-    ensures fed { IfOk result (λ ranges. (answer : _) × Feeds search.old piece.now answer ranges.items search.new) }
+    ensures fed { IfOk result
+        (λ ranges. (answer : _) × Feeds search.old piece.now answer ranges.items search.new) }
 {
     let mut ranges = Ranges::new(alloc);
     let _fault = search.feed(
         piece,
         &mut |start, end|
-            ensures put { (items : List (ℕ × ℕ)) → (ranges.entry.is_refused ≡ false → ranges.entry.items.items ≡ items)
-                → ranges.exit.is_refused ≡ false → ranges.exit.items.items ≡ items ++ (start, end) ∷ [] }
+            ensures put { (items : List (ℕ × ℕ))
+                → (ranges.entry.is_refused ≡ false → ranges.entry.items.items ≡ items)
+                → ranges.exit.is_refused ≡ false
+                → ranges.exit.items.items ≡ items ++ (start, end) ∷ [] }
         { ranges.put(start, end) },
     );
     if ranges.is_refused {

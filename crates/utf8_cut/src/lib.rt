@@ -132,7 +132,8 @@ impl Cut {
         ensures state { self.new ≡ between_characters (self.old.count + n) }
         ensures stands_for { (taken text : List ℕ) (given : List (ℕ × ℕ))
             → StandsFor self.old taken given → length text ≡ n → IsUtf8 text
-            → StandsFor self.new (taken ++ text) (given ++ with_offsets self.old.count (chars text)) }
+            → StandsFor self.new (taken ++ text)
+            (given ++ with_offsets self.old.count (chars text)) }
     {
         let end = self.count + n;
         self.start = end;

@@ -75,7 +75,8 @@ impl Cut {
           is_bad = false;
         } }
         ensures stands_for { (cut : CutState) (taken : List ℕ) (given : List (ℕ × ℕ))
-            → StandsFor cut taken given → cut.is_bad ≡ false → cut.held ≡ held.now → cut.count ≡ count
+            → StandsFor cut taken given → cut.is_bad ≡ false → cut.held ≡ held.now
+            → cut.count ≡ count
             → StandsFor result taken given }
     {
         let mut bytes = ArrayVec::new();

@@ -41,7 +41,8 @@ fn worked_rows()
     ensures incomplete_is_not_ill_formed { ill_formed_at (0x61 ∷ 0xC3 ∷ []) ≡ None }
     ensures three_bytes_incomplete { IsTrue (is_incomplete_sequence (0xF0 ∷ 0x9F ∷ 0x98 ∷ [])) }
     ensures whole_is_not_incomplete { is_incomplete_sequence (0xC3 ∷ 0xA9 ∷ []) ≡ false }
-    ensures least_and_greatest { characters (0x7F ∷ 0xC2 ∷ 0x80 ∷ 0xDF ∷ 0xBF ∷ 0xE0 ∷ 0xA0 ∷ 0x80 ∷ [])
+    ensures least_and_greatest { characters
+        (0x7F ∷ 0xC2 ∷ 0x80 ∷ 0xDF ∷ 0xBF ∷ 0xE0 ∷ 0xA0 ∷ 0x80 ∷ [])
         ≡ (0x7F, 0) ∷ (0x80, 1) ∷ (0x7FF, 3) ∷ (0x800, 5) ∷ [] }
     ensures beside_surrogates { characters (0xED ∷ 0x9F ∷ 0xBF ∷ 0xEE ∷ 0x80 ∷ 0x80 ∷ [])
         ≡ (0xD7FF, 0) ∷ (0xE000, 3) ∷ [] }

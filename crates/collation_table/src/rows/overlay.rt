@@ -34,7 +34,8 @@ impl Rows {
 
     /// The rows whose strings `tailor` does not map. Where it maps none of them, nothing is built anew.
     fn without(self, alloc: Global, tailor: &Rows) -> Result<Rows, AllocError>
-        ensures { IfOk result (λ kept. kept.rows ≡ filter (λ row. not (is_mapped tailor.now row.0)) self.rows) }
+        ensures { IfOk result
+            (λ kept. kept.rows ≡ filter (λ row. not (is_mapped tailor.now row.0)) self.rows) }
     {
         if !self.shares_string(tailor) {
             return Ok(self);
@@ -64,7 +65,8 @@ impl Rows {
 
     /// The overlay of the rows by those of `tailor`, which has the ranges of both.
     pub fn overlaid(self, alloc: Global, tailor: Rows) -> Result<Rows, AllocError>
-        ensures { IfOk result (λ rows. rows ≡ record { rows = (overlay self tailor).rows; ranges = tailor.ranges }) }
+        ensures { IfOk result
+            (λ rows. rows ≡ record { rows = (overlay self tailor).rows; ranges = tailor.ranges }) }
     {
         let kept = self.without(alloc, &tailor)?;
         let mut rows = kept.followed_by(alloc, &tailor)?;
