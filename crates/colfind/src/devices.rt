@@ -43,7 +43,8 @@ pub trait Target {
         requires writes { failures self.old < 2 ^ 63 }
         ensures within { IfOk result (λ k. k ≤ length buf.now) }
         ensures bytes { held self.new ≡ with_piece (moved result buf.now) (held self.old) }
-        ensures count { failures self.new ≡ failures self.old + one_if (takes_nothing result buf.now) };
+        ensures count { failures self.new
+            ≡ failures self.old + one_if (takes_nothing result buf.now) };
 
     /// Sees to it that all that was written has gone out.
     fn flush(&mut self) -> Result<(), DeviceFault>

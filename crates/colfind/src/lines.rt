@@ -26,7 +26,8 @@ pub struct Lines {
 impl Lines {
     /// No lines so far.
     pub fn new(form: Output) -> Self
-        ensures prints { (held : Option (List ℕ)) (failures : ℕ) → Prints form result [] held held failures failures }
+        ensures prints { (held : Option (List ℕ)) (failures : ℕ)
+            → Prints form result [] held held failures failures }
         ensures good { result.failed ≡ false }
     {
         Lines {
@@ -47,7 +48,8 @@ impl Lines {
     /// Writes the lines that wait. After a failed write they are dropped.
     pub fn send<O: Target>(&mut self, out: &mut O)
         requires { self.old.failed ≡ false → O.failures out.old < 2 ^ 63 }
-        ensures prints { (form : Output) (ranges : List (ℕ × ℕ)) (before : Option (List ℕ)) (failures : ℕ)
+        ensures prints { (form : Output) (ranges : List (ℕ × ℕ)) (before : Option (List ℕ))
+            (failures : ℕ)
             → Prints form self.old ranges before (O.held out.old) failures (O.failures out.old)
             → Prints form self.new ranges before (O.held out.new) failures (O.failures out.new) }
         ensures sent { self.new.waiting.bytes ≡ [] }
@@ -65,7 +67,8 @@ impl Lines {
     /// Writes the lines that wait, if there is no room for the lines of one more range.
     fn make_room<O: Target>(&mut self, out: &mut O)
         requires { self.old.failed ≡ false → O.failures out.old < 2 ^ 63 }
-        ensures prints { (form : Output) (ranges : List (ℕ × ℕ)) (before : Option (List ℕ)) (failures : ℕ)
+        ensures prints { (form : Output) (ranges : List (ℕ × ℕ)) (before : Option (List ℕ))
+            (failures : ℕ)
             → Prints form self.old ranges before (O.held out.old) failures (O.failures out.old)
             → Prints form self.new ranges before (O.held out.new) failures (O.failures out.new) }
         ensures room { length self.new.waiting.bytes + MOST_LINE_BYTES ≤ MOST_WAITING_BYTES }
@@ -79,9 +82,11 @@ impl Lines {
     /// Appends the lines of a range, of which those so far may be written before.
     pub fn put<O: Target>(&mut self, out: &mut O, start: u64, end: u64)
         requires { self.old.failed ≡ false → O.failures out.old < 2 ^ 63 }
-        ensures prints { (form : Output) (ranges : List (ℕ × ℕ)) (before : Option (List ℕ)) (failures : ℕ)
+        ensures prints { (form : Output) (ranges : List (ℕ × ℕ)) (before : Option (List ℕ))
+            (failures : ℕ)
             → Prints form self.old ranges before (O.held out.old) failures (O.failures out.old)
-            → Prints form self.new (ranges ++ (start, end) ∷ []) before (O.held out.new) failures (O.failures out.new) }
+            → Prints form self.new (ranges ++ (start, end) ∷ []) before (O.held out.new) failures
+            (O.failures out.new) }
         ensures ready { self.new.failed ≡ false → O.failures out.new < 2 ^ 63 }
     {
         self.make_room(out);
@@ -93,9 +98,11 @@ impl Lines {
     /// Appends the lines of each of the ranges.
     pub fn put_all<O: Target>(&mut self, out: &mut O, ranges: &[(u64, u64)])
         requires { self.old.failed ≡ false → O.failures out.old < 2 ^ 63 }
-        ensures prints { (form : Output) (handed : List (ℕ × ℕ)) (before : Option (List ℕ)) (failures : ℕ)
+        ensures prints { (form : Output) (handed : List (ℕ × ℕ)) (before : Option (List ℕ))
+            (failures : ℕ)
             → Prints form self.old handed before (O.held out.old) failures (O.failures out.old)
-            → Prints form self.new (handed ++ ranges.now) before (O.held out.new) failures (O.failures out.new) }
+            → Prints form self.new (handed ++ ranges.now) before (O.held out.new) failures
+            (O.failures out.new) }
         ensures ready { self.new.failed ≡ false → O.failures out.new < 2 ^ 63 }
     {
         for (start, end) in ranges {
@@ -113,15 +120,18 @@ impl Lines {
     /// Writes the lines that wait, then what is printed after all ranges, and flushes. After an error nothing more is written.
     pub fn finish<O: Target>(&mut self, out: &mut O) -> Result<(), DeviceFault>
         requires { self.old.failed ≡ false → O.failures out.old < 2 ^ 63 }
-        ensures ok { (form : Output) (ranges : List (ℕ × ℕ)) (before : Option (List ℕ)) (failures : ℕ) → length ranges < 2 ^ 64
+        ensures ok { (form : Output) (ranges : List (ℕ × ℕ)) (before : Option (List ℕ))
+            (failures : ℕ) → length ranges < 2 ^ 64
             → Prints form self.old ranges before (O.held out.old) failures (O.failures out.old)
             → OnOk result (O.held out.new ≡ with_piece (output form ranges) before) }
-        ensures err { (form : Output) (ranges : List (ℕ × ℕ)) (before : Option (List ℕ)) (failures : ℕ) → length ranges < 2 ^ 64
+        ensures err { (form : Output) (ranges : List (ℕ × ℕ)) (before : Option (List ℕ))
+            (failures : ℕ) → length ranges < 2 ^ 64
             → Prints form self.old ranges before (O.held out.old) failures (O.failures out.old)
             → OnErr result (WritesPrefix before (O.held out.new) (output form ranges)) }
         ensures flushed { OnOk result (O.flushed out.new ≡ O.held out.new) }
         ensures same { self.new.count ≡ self.old.count }
-        ensures count { (form : Output) (ranges : List (ℕ × ℕ)) (before : Option (List ℕ)) (failures : ℕ)
+        ensures count { (form : Output) (ranges : List (ℕ × ℕ)) (before : Option (List ℕ))
+            (failures : ℕ)
             → Prints form self.old ranges before (O.held out.old) failures (O.failures out.old)
             → O.failures out.new ≡ failures + one_if (not (is_ok result)) }
     {

@@ -51,7 +51,8 @@ pub fn program<'a, F: Files, R: Source, O: Target, E: Target>(
         (E.failures err.old) (E.failures err.new) }
     // The fault is the first in the order of work, and before the text no device is asked.
     ensures first { result ≡ 2 → (stop : Stop)
-        × ReportsLine (fault_of stop) (E.held err.old) (E.held err.new) (E.failures err.old) (E.failures err.new)
+        × ReportsLine (fault_of stop) (E.held err.old) (E.held err.new) (E.failures err.old)
+        (E.failures err.new)
         × IsReason no_files (map (λ word. word.now) words.entry.now) (input.new ≡ input.old) stop
         (seen (R.left input.old) (R.failures input.old) (O.held out.old) (O.failures out.old))
         (seen (R.left input.new) (R.failures input.new) (O.held out.new) (O.failures out.new))
@@ -68,7 +69,8 @@ pub fn program<'a, F: Files, R: Source, O: Target, E: Target>(
 pub fn report<E: Target>(err: &mut E, fault: Fault) -> u8
     requires { E.failures err.old < 2 ^ 63 }
     ensures status { result ≡ 2 }
-    ensures line { ReportsLine fault (E.held err.old) (E.held err.new) (E.failures err.old) (E.failures err.new) }
+    ensures line { ReportsLine fault (E.held err.old) (E.held err.new) (E.failures err.old)
+        (E.failures err.new) }
 {
     let _ = write_all(err, fault.line().as_bytes());
     2
@@ -93,7 +95,8 @@ pub fn count_matches<'a, D: Folder, R: Source, O: Target>(
         (map (λ word. word.now) words.entry.now) (input.new ≡ input.old) stop
         (seen (R.left input.old) (R.failures input.old) (O.held out.old) (O.failures out.old))
         (seen (R.left input.new) (R.failures input.new) (O.held out.new) (O.failures out.new))) }
-    ensures unasked { IfErr result (λ stop. is_before_text stop ≡ true → (input.new ≡ input.old) × (out.new ≡ out.old)) }
+    ensures unasked { IfErr result (λ stop. is_before_text stop ≡ true
+        → (input.new ≡ input.old) × (out.new ≡ out.old)) }
 {
     let asked = settings(alloc, words)?;
     let table = read_table(folder, alloc, &asked)?;
@@ -112,7 +115,8 @@ fn search<D: Folder, W: Weights, R: Source, O: Target>(
 ) -> Result<u64, Stop>
     requires reads { R.failures input.old < 2 ^ 63 }
     requires writes { O.failures out.old < 2 ^ 63 }
-    ensures found { IfOk result (λ count. FindsSelected (W.table table.now) asked.now.strength asked.now.variable
+    ensures found { IfOk result
+        (λ count. FindsSelected (W.table table.now) asked.now.strength asked.now.variable
         asked.now.pattern.now asked.now.output asked.now.select count
         (left_of (D.bytes_at folder.now) asked.now (R.left input.old))
         (left_after (D.bytes_at folder.now) asked.now (R.left input.new))
@@ -123,7 +127,8 @@ fn search<D: Folder, W: Weights, R: Source, O: Target>(
         StopsSearch (D.bytes_at folder.now) (W.table table.now) asked.now stop
         (seen (R.left input.old) (R.failures input.old) (O.held out.old) (O.failures out.old))
         (seen (R.left input.new) (R.failures input.new) (O.held out.new) (O.failures out.new))) }
-    ensures unasked { IfErr result (λ stop. is_before_text stop ≡ true → (input.new ≡ input.old) × (out.new ≡ out.old)) }
+    ensures unasked { IfErr result (λ stop. is_before_text stop ≡ true
+        → (input.new ≡ input.old) × (out.new ≡ out.old)) }
     ensures file { is_some asked.now.text ≡ true → input.new ≡ input.old }
 {
     let pattern = Pattern::compile(alloc, table, asked.pattern, asked.strength, asked.variable)?;
@@ -165,13 +170,17 @@ fn search_in<W: Weights, R: Source, O: Target>(
     requires reads { R.failures reader.old < 2 ^ 63 }
     requires writes { O.failures out.old < 2 ^ 63 }
     // For each text `p` of which the pattern was compiled.
-    ensures found { IfOk result (λ count. (p : List ℕ) → IsCompiledWith (W.table table.now) pattern.now p
-        → FindsSelected (W.table table.now) pattern.now.strength pattern.now.variable p form select count
+    ensures found { IfOk result (λ count. (p : List ℕ)
+        → IsCompiledWith (W.table table.now) pattern.now p
+        → FindsSelected
+        (W.table table.now) pattern.now.strength pattern.now.variable p form select count
         (R.left reader.old) (R.left reader.new) (O.held out.old) (O.held out.new)) }
     ensures sound { OnOk result ((R.failures reader.new ≡ R.failures reader.old)
         × (O.failures out.new ≡ O.failures out.old)) }
-    ensures reason { IfErr result (λ stop. (p : List ℕ) → IsCompiledWith (W.table table.now) pattern.now p
-        → StopsAtText (W.table table.now) pattern.now.strength pattern.now.variable p form select stop
+    ensures reason { IfErr result (λ stop. (p : List ℕ)
+        → IsCompiledWith (W.table table.now) pattern.now p
+        → StopsAtText
+        (W.table table.now) pattern.now.strength pattern.now.variable p form select stop
         (seen (R.left reader.old) (R.failures reader.old) (O.held out.old) (O.failures out.old))
         (seen (R.left reader.new) (R.failures reader.new) (O.held out.new) (O.failures out.new))) }
     ensures inside { IfErr result (λ stop. is_before_text stop ≡ false) }

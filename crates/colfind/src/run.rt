@@ -47,9 +47,12 @@ enum TextEnd {
 
 /// Ends the search of a text whose reading has ended: `rest` is emptied, and then holds the ranges that were not handed out yet.
 fn close<'a, W: Weights>(search: Search<'a, W>, ending: Ending, rest: &mut Ranges) -> TextEnd
-    ensures found { (p bytes : List ℕ) (handed : List (ℕ × ℕ)) (left : Option (List ℕ)) → IsCompiledFrom (sought search.entry) p
+    ensures found { (p bytes : List ℕ) (handed : List (ℕ × ℕ)) (left : Option (List ℕ))
+        → IsCompiledFrom (sought search.entry) p
         → EndsBy search.entry ending bytes handed left
-        → IsFoundIn (λ b. search_answer (sought search.entry) p b) (λ b. search_settled (sought search.entry) p (whole b)) result (handed ++ rest.new.items) bytes left }
+        → IsFoundIn (λ b. search_answer (sought search.entry) p b)
+        (λ b. search_settled (sought search.entry) p (whole b)) result
+        (handed ++ rest.new.items) bytes left }
     ensures count { failures_of result ≡ failures_at ending }
 {
     match ending {
@@ -80,17 +83,23 @@ pub fn run<W: Weights, R: Source, O: Target>(
     requires reads { R.failures reader.old < 2 ^ 63 }
     requires writes { O.failures out.old < 2 ^ 63 }
     // What was read and printed, for each text `p` of which the pattern was compiled.
-    ensures done { IfDone result (λ count. (p : List ℕ) → IsCompiledWith (W.table table.now) pattern.now p
+    ensures done { IfDone result (λ count. (p : List ℕ)
+        → IsCompiledWith (W.table table.now) pattern.now p
         → PrintsAll (answer_to All (W.table table.now) p pattern.now) form count
         (R.left reader.old) (R.left reader.new) (O.held out.old) (O.held out.new)) }
-    ensures text_fault { IfText result (λ fault. (p : List ℕ) → IsCompiledWith (W.table table.now) pattern.now p
+    ensures text_fault { IfText result (λ fault. (p : List ℕ)
+        → IsCompiledWith (W.table table.now) pattern.now p
         → PrintsToFault (answer_to All (W.table table.now) p pattern.now) form fault
         (R.left reader.old) (R.left reader.new) (O.held out.old) (O.held out.new)) }
-    ensures read_failure { IfRead result (λ count. (p : List ℕ) → IsCompiledWith (W.table table.now) pattern.now p
+    ensures read_failure { IfRead result (λ count. (p : List ℕ)
+        → IsCompiledWith (W.table table.now) pattern.now p
         → PrintsSettled (settled_in All (W.table table.now) p pattern.now) form count
         (R.left reader.old) (R.left reader.new) (O.held out.old) (O.held out.new)) }
-    ensures write_failure { result ≡ Outcome.Write → (p : List ℕ) → IsCompiledWith (W.table table.now) pattern.now p
-        → PrintsPrefix (reported_ranges (answer_to All (W.table table.now) p pattern.now) (settled_in All (W.table table.now) p pattern.now)
+    ensures write_failure { result ≡ Outcome.Write → (p : List ℕ)
+        → IsCompiledWith (W.table table.now) pattern.now p
+        → PrintsPrefix
+        (reported_ranges (answer_to All (W.table table.now) p pattern.now)
+        (settled_in All (W.table table.now) p pattern.now)
         (nat_lt (R.failures reader.old) (R.failures reader.new))) form
         (R.left reader.old) (R.left reader.new) (O.held out.old) (O.held out.new) }
     ensures flushed { result ≢ Outcome.Write → result ≢ Outcome.Memory
@@ -120,17 +129,23 @@ pub fn run_with<W: Weights, R: Source, O: Target>(
     requires reads { R.failures reader.old < 2 ^ 63 }
     requires writes { O.failures out.old < 2 ^ 63 }
     // What was read and printed, for each text `p` of which the pattern was compiled.
-    ensures done { IfDone result (λ count. (p : List ℕ) → IsCompiledWith (W.table table.now) pattern.now p
+    ensures done { IfDone result (λ count. (p : List ℕ)
+        → IsCompiledWith (W.table table.now) pattern.now p
         → PrintsAll (answer_to select (W.table table.now) p pattern.now) form count
         (R.left reader.old) (R.left reader.new) (O.held out.old) (O.held out.new)) }
-    ensures text_fault { IfText result (λ fault. (p : List ℕ) → IsCompiledWith (W.table table.now) pattern.now p
+    ensures text_fault { IfText result (λ fault. (p : List ℕ)
+        → IsCompiledWith (W.table table.now) pattern.now p
         → PrintsToFault (answer_to select (W.table table.now) p pattern.now) form fault
         (R.left reader.old) (R.left reader.new) (O.held out.old) (O.held out.new)) }
-    ensures read_failure { IfRead result (λ count. (p : List ℕ) → IsCompiledWith (W.table table.now) pattern.now p
+    ensures read_failure { IfRead result (λ count. (p : List ℕ)
+        → IsCompiledWith (W.table table.now) pattern.now p
         → PrintsSettled (settled_in select (W.table table.now) p pattern.now) form count
         (R.left reader.old) (R.left reader.new) (O.held out.old) (O.held out.new)) }
-    ensures write_failure { result ≡ Outcome.Write → (p : List ℕ) → IsCompiledWith (W.table table.now) pattern.now p
-        → PrintsPrefix (reported_ranges (answer_to select (W.table table.now) p pattern.now) (settled_in select (W.table table.now) p pattern.now)
+    ensures write_failure { result ≡ Outcome.Write → (p : List ℕ)
+        → IsCompiledWith (W.table table.now) pattern.now p
+        → PrintsPrefix
+        (reported_ranges (answer_to select (W.table table.now) p pattern.now)
+        (settled_in select (W.table table.now) p pattern.now)
         (nat_lt (R.failures reader.old) (R.failures reader.new))) form
         (R.left reader.old) (R.left reader.new) (O.held out.old) (O.held out.new) }
     ensures flushed { result ≢ Outcome.Write → result ≢ Outcome.Memory

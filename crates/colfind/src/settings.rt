@@ -95,8 +95,11 @@ fn text_argument<'a>(alloc: Global) -> Arg<'a>
 
 /// The command as its argument parser sees it. Its words come without the program's name.
 fn command_line<'a>(alloc: Global) -> Result<Command<'a>, AllocError>
-    ensures { IfOk result (λ c. (strengths : _) × (variables : _) × (outputs : _) × (selections : _) × TakesNames strengths strength_names
-        × TakesNames variables variable_names × TakesNames outputs output_names × TakesNames selections select_names
+    ensures { IfOk result
+        (λ c. (strengths : _) × (variables : _) × (outputs : _) × (selections : _)
+        × TakesNames strengths strength_names
+        × TakesNames variables variable_names × TakesNames outputs output_names
+        × TakesNames selections select_names
         × (app_of c ≡ command strengths variables outputs selections)) }
 {
     Command::new(alloc, "colfind")
@@ -168,7 +171,8 @@ fn select_named(word: &str) -> Select
 
 /// The text of an entry that a parse has made, if there is one.
 fn given_text<'a>(matches: &ArgMatches<'a>, id: &str) -> Option<&'a str>
-    ensures { option_map (λ text. text.now) result ≡ first_of id.now (rows_of (found_of matches.now)) }
+    ensures { option_map (λ text. text.now) result
+        ≡ first_of id.now (rows_of (found_of matches.now)) }
 {
     matches.get_str(id)
 }

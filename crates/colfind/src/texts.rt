@@ -34,7 +34,8 @@ fn search_piece<'a, W: Weights, O: Target>(
     ensures fed { (found : List (ℕ × ℕ)) × Feeds search.old piece.now result found search.new
         × ((form : Output) (ranges : List (ℕ × ℕ)) (before : Option (List ℕ)) (failures : ℕ)
         → Prints form lines.old ranges before (O.held out.old) failures (O.failures out.old)
-        → Prints form lines.new (ranges ++ found) before (O.held out.new) failures (O.failures out.new)) }
+        → Prints form lines.new (ranges ++ found) before (O.held out.new) failures
+        (O.failures out.new)) }
     ensures sent { lines.new.waiting.bytes ≡ [] }
     ensures ready { lines.new.failed ≡ false → O.failures out.new < 2 ^ 63 }
 {
@@ -53,15 +54,18 @@ pub fn search_text<'a, W: Weights, R: Source, O: Target>(
     out: &mut O,
 ) -> Result<Ending, DeviceFault>
     requires begins { HasSearched search.old [] [] }
-    requires prints { Prints lines.old.form lines.old [] (O.held out.old) (O.held out.old) (O.failures out.old) (O.failures out.old) }
+    requires prints { Prints lines.old.form lines.old [] (O.held out.old) (O.held out.old)
+        (O.failures out.old) (O.failures out.old) }
     requires good { lines.old.failed ≡ false }
     requires reads { R.failures reader.old < 2 ^ 63 }
     requires writes { O.failures out.old < 2 ^ 63 }
-    ensures searched { Searches search.new lines.old.form result lines.new (R.left reader.old) (R.left reader.new)
+    ensures searched { Searches search.new lines.old.form result lines.new (R.left reader.old)
+        (R.left reader.new)
         (O.held out.old) (O.held out.new) (O.failures out.old) (O.failures out.new) }
     ensures sent { lines.new.waiting.bytes ≡ [] }
     ensures sought { sought search.new ≡ sought search.old }
-    ensures count { IfOk result (λ ending. R.failures reader.new ≡ R.failures reader.old + failures_at ending) }
+    ensures count { IfOk result
+        (λ ending. R.failures reader.new ≡ R.failures reader.old + failures_at ending) }
     ensures err { OnErr result (R.failures reader.new ≡ R.failures reader.old) }
 {
     let mut piece = [0u8; PIECE_BYTES];

@@ -29,7 +29,8 @@ pub fn write_all<O: Target>(out: &mut O, bytes: &[u8]) -> Result<(), DeviceFault
 /// an error nothing more is written.
 pub fn write_end<O: Target>(out: &mut O, form: Output, count: u64) -> Result<(), DeviceFault>
     requires { O.failures out.old < 2 ^ 63 }
-    ensures ok { OnOk result (O.held out.new ≡ with_piece (printed_end form count) (O.held out.old)) }
+    ensures ok { OnOk result
+        (O.held out.new ≡ with_piece (printed_end form count) (O.held out.old)) }
     ensures err { OnErr result
         (WritesPrefix (O.held out.old) (O.held out.new) (printed_end form count)) }
     ensures flushed { OnOk result (O.flushed out.new ≡ O.held out.new) }

@@ -95,14 +95,16 @@ impl FailingTarget {
     }
 
     pub fn taking_nothing(mut self) -> Self
-        ensures { ⟦<FailingTarget as Target>⟧.failures result ≡ ⟦<FailingTarget as Target>⟧.failures self }
+        ensures { ⟦<FailingTarget as Target>⟧.failures result
+            ≡ ⟦<FailingTarget as Target>⟧.failures self }
     {
         self.takes_nothing = true;
         self
     }
 
     pub fn failing_to_flush(mut self) -> Self
-        ensures { ⟦<FailingTarget as Target>⟧.failures result ≡ ⟦<FailingTarget as Target>⟧.failures self }
+        ensures { ⟦<FailingTarget as Target>⟧.failures result
+            ≡ ⟦<FailingTarget as Target>⟧.failures self }
     {
         self.fails_to_flush = true;
         self
