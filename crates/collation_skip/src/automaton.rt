@@ -191,8 +191,7 @@ impl Automaton {
         requires letters { AreLetters (W.table table.now) pattern.now letters.old }
         ensures stands { IfSome result (λ it.
             Stands (W.table table.now) pattern.now self.new piece.now it.at it.row) }
-        ensures passed { IfSome result (λ it. 0 < it.passed_at
-            → (it.passed_at ≤ length piece.now)
+        ensures passed { IfSome result (λ it. 0 < it.passed_at → (it.passed_at ≤ length piece.now)
             × Stands (W.table table.now) pattern.now self.new piece.now it.passed_at it.passed_row) }
         ensures right { AreRight (W.table table.now) pattern.now self.new }
         ensures letters { AreLetters (W.table table.now) pattern.now letters.new }

@@ -58,14 +58,14 @@ impl Automaton {
         requires home { IsSomeRow self.now home }
         requires stands { Stands
             (W.table table.now) pattern.now self.now piece.now from.at from.row }
-        requires passed { 0 < from.passed_at
-            → (from.passed_at ≤ length piece.now)
-            × Stands (W.table table.now) pattern.now self.now piece.now from.passed_at from.passed_row }
+        requires passed { 0 < from.passed_at → (from.passed_at ≤ length piece.now)
+            × Stands (W.table table.now) pattern.now self.now piece.now
+            from.passed_at from.passed_row }
         ensures stands { Stands
             (W.table table.now) pattern.now self.now piece.now result.at result.row }
-        ensures passed { 0 < result.passed_at
-            → (result.passed_at ≤ length piece.now)
-            × Stands (W.table table.now) pattern.now self.now piece.now result.passed_at result.passed_row }
+        ensures passed { 0 < result.passed_at → (result.passed_at ≤ length piece.now)
+            × Stands (W.table table.now) pattern.now self.now piece.now
+            result.passed_at result.passed_row }
     {
         let Some(begun) = self.lead_in(table, pattern, piece, from, home) else {
             return from;
@@ -222,14 +222,14 @@ impl Automaton {
         requires run { HasRun (W.table table.now) pattern.now self.now piece.now begun ended }
         requires stands { Stands
             (W.table table.now) pattern.now self.now piece.now from.at from.row }
-        requires passed { 0 < from.passed_at
-            → (from.passed_at ≤ length piece.now)
-            × Stands (W.table table.now) pattern.now self.now piece.now from.passed_at from.passed_row }
+        requires passed { 0 < from.passed_at → (from.passed_at ≤ length piece.now)
+            × Stands (W.table table.now) pattern.now self.now piece.now
+            from.passed_at from.passed_row }
         ensures stands { Stands
             (W.table table.now) pattern.now self.now piece.now result.at result.row }
-        ensures passed { 0 < result.passed_at
-            → (result.passed_at ≤ length piece.now)
-            × Stands (W.table table.now) pattern.now self.now piece.now result.passed_at result.passed_row }
+        ensures passed { 0 < result.passed_at → (result.passed_at ≤ length piece.now)
+            × Stands (W.table table.now) pattern.now self.now piece.now
+            result.passed_at result.passed_row }
     {
         let come = self.run(table, pattern, piece, from, begun.at);
         if come.at != begun.at || come.row != begun.row {
