@@ -542,7 +542,7 @@ pub extern "C" fn colfind_index(alloc: Global, pattern: &mut Handle, text: &[u8]
     }
 }
 
-/// The first range for a pattern of what stands in a text from an offset on, which is not behind the text.
+/// The first range for a pattern of what stands in a text from an offset on.
 fn first_from(
     alloc: Global,
     query: &Query,
@@ -560,7 +560,8 @@ fn first_from(
     }
 }
 
-/// The first range of what stands in a text from an offset on; its own offsets are from the beginning of the text.
+/// The first range of what stands in a text from an offset on; its own offsets are from the beginning
+/// of the text.
 #[unsafe(no_mangle)]
 pub extern "C" fn colfind_index_from(
     alloc: Global,
@@ -568,8 +569,7 @@ pub extern "C" fn colfind_index_from(
     text: &[u8],
     from: usize,
 ) -> First
-    ensures first { Says result.status
-        (λ outcome. OfPattern
+    ensures first { Says result.status (λ outcome. OfPattern
         (λ q how. AnswersFirstFrom q text.now from
         (first_of result) how) pattern.old.value outcome) }
     ensures same { pattern.new.value ≡ pattern.old.value }
@@ -594,7 +594,7 @@ fn first_owned(owned: &mut Owned, text: &[u8], from: usize) -> (Outcome, Option<
     }
 }
 
-/// The first range of what stands in a text from an offset on, found by a search that was made before.
+/// The first range of what stands in a text from an offset on, by a search that was made before.
 #[unsafe(no_mangle)]
 pub extern "C" fn colfind_first_in(
     alloc: Global,
@@ -602,10 +602,9 @@ pub extern "C" fn colfind_first_in(
     text: &[u8],
     from: usize,
 ) -> First
-    ensures first { Says result.status
-        (λ outcome. OfSearch
-        (λ old how new. FirstInSession old text.now from
-        (first_of result) how new) search.old.value outcome search.new.value) }
+    ensures first { Says result.status (λ outcome. OfSearch
+        (λ old how new. FirstInSession old text.now from (first_of result) how new)
+        search.old.value outcome search.new.value) }
 {
     match take(alloc, search) {
         Some(mut owned) => {
@@ -617,8 +616,8 @@ pub extern "C" fn colfind_first_in(
     }
 }
 
-/// Writes what a status says as text, with a zero byte behind it, or the front of it where the buffer is too small: how many bytes the
-/// whole text has, without the zero byte.
+/// Writes what a status says as text, with a zero byte behind it, or the front of it where the buffer
+/// is too small: how many bytes the whole text has, without the zero byte.
 #[unsafe(no_mangle)]
 pub extern "C" fn colfind_message(status: Status, out: &mut [u8]) -> usize
     ensures written { out.new ≡ as_text (message status) out.old }

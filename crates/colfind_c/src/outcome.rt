@@ -38,7 +38,8 @@ pub enum Outcome {
     Ended,
     /// There is no room for so many words.
     Short(u64),
-    /// A number is none of those that were asked for, a pattern is no UTF-8, or an offset stands behind the text.
+    /// A number is none of those that were asked for, a pattern is no UTF-8, or an offset stands behind
+    /// the text.
     BadArgument,
 }
 

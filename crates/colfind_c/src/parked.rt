@@ -26,8 +26,7 @@ fn search_piece<'a, W: Weights>(
     ensures fed { (found : List (ℕ × ℕ)) × Feeds search.old piece.now result found search.new
         × Gets queue.old found queue.new
         × ((text u : List ℕ) (handed : List (ℕ × ℕ)) → IsCompiledFrom (sought search.old) text
-        → HasSearched search.old u handed
-        → length found ≤ length piece.now + most_found_late) }
+        → HasSearched search.old u handed → length found ≤ length piece.now + most_found_late) }
 {
     whole_characters_are_the_longest_text();
     search.has_handed_out();
@@ -57,8 +56,8 @@ pub(crate) fn feed_parked<W: Weights>(
     (fed, search.park())
 }
 
-/// The first range of what stands in a text from an offset on, found by a search that was put away, which is then at the beginning of a
-/// text.
+/// The first range of what stands in a text from an offset on, found by a search that was put away,
+/// which is then at the beginning of a text.
 pub(crate) fn first_parked<W: Weights>(
     table: &W,
     pattern: &Pattern,

@@ -10,10 +10,11 @@ use std::mem::replace;
 use std::sync::Arc;
 
 /// How many bytes of a piece are searched at a time.
-const PART_LEN: usize = 16384;
+const PART_LEN: usize = 65536;
 
-/// How many ranges more than it has bytes a piece can make known. Ranges end one after the other. Those that were held back end at one of
-/// the last 94 code points before the piece, and these have 382 bytes at most, with those of a character that is cut on both sides.
+/// How many ranges more than it has bytes a piece can make known. Ranges end one after the other.
+/// Those that were held back end at one of the last 94 code points before the piece, and these have
+/// 382 bytes at most, with those of a character that is cut on both sides.
 const MOST_LATE: usize = 383;
 
 impl Session {
@@ -65,8 +66,8 @@ impl Session {
         self.feed_part(&piece[at..], at)
     }
 
-    /// Takes a part of a piece, before which so many bytes of the piece were taken. A range finds no room only where the search was resumed
-    /// from words that no search has saved, and then it has ended.
+    /// Takes a part of a piece, before which so many bytes of the piece were taken. A range finds no
+    /// room only where the search was resumed from words that no search has saved, and then it has ended.
     fn feed_part(&mut self, part: &[u8], before: usize) -> Outcome
         requires few { length part.now ≤ PART_LEN }
         requires open { IsSome self.old.parked }
@@ -137,8 +138,9 @@ impl Session {
         Outcome::Good
     }
 
-    /// The first range of what stands in a text from an offset on, if there is one, and how the call has ended. What was fed before is
-    /// given up, with the ranges that wait, and the search is at the beginning of a text.
+    /// The first range of what stands in a text from an offset on, if there is one, and how the call has
+    /// ended. What was fed before is given up, with the ranges that wait, and the search is at the
+    /// beginning of a text.
     pub(crate) fn first_in(&mut self, text: &[u8], from: usize) -> (Outcome, Option<(u64, u64)>)
         ensures first { FirstInSession self.old text.now from result.1 result.0 self.new }
     {
