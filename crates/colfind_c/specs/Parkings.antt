@@ -3,13 +3,24 @@ use Rattle.std.specs.Prelude.{◌≡◌, ℕ, ◌+◌, ◌≤◌, List, [], ◌+
 use Rattle.collation_matches.specs.declared.faults.TextFault.{TextFault}
 use Rattle.collation_matches.specs.Sought.{Sought, IsCompiledFrom, answer_to}
 use Rattle.collation_matches.specs.Offsets.{answer_from}
+use Rattle.collation_table.specs.declared.lookup.Weights.{Ghosts}
 use Rattle.collation_search.specs.declared.parking.Parked.{Parked}
+use Rattle.collation_search.specs.declared.search.Search.{Search}
+use Rattle.collation_search.specs.Search.{sought, HasSearched, HasReported}
 use Rattle.collation_search.specs.Indexing.{first_range}
 use Rattle.collation_search.specs.Parking.{HasParked, parked_fault}
 
 -- how many ranges more than it has bytes a piece can make known
 abbrev pub most_found_late : ℕ
 most_found_late = 383
+
+-- A search took a piece, in any parts: what FeedsParked says, but for how many ranges there are.
+pub record GoesOn {W : Type 0} {G : Ghosts W} (old : Search W G) (piece : List ℕ) (result : Result (Unit {0}) TextFault) (found : List (ℕ × ℕ)) (new : Search W G) : Type 0 where
+  pub stands : (u : List ℕ) (handed : List (ℕ × ℕ)) → HasSearched old u handed → OnOk result (HasSearched new (u ++ piece) (handed ++ found))
+  pub answer : (text u more : List ℕ) (handed : List (ℕ × ℕ)) → IsCompiledFrom (sought old) text → HasSearched old u handed
+      → IfErr result (λ f. answer_to (sought old) text ((u ++ piece) ++ more) ≡ record { ranges = handed ++ found; fault = Some f })
+  pub again : (f : TextFault) → HasReported old f → (result ≡ Err f) × (found ≡ [])
+  pub same_sought : sought new ≡ sought old
 
 -- A piece went in, and the ranges became known.
 --   stands: without a fault the piece is among the bytes

@@ -5,9 +5,8 @@ ghost use Rattle.collation_matches.specs.Sought.{IsCompiledFrom, answer_to, sett
 ghost use Rattle.collation_matches.specs.GoodPrefix.{whole};
 ghost use Rattle.collation_search.specs.declared.matching.TheConstants.{MOST_FOUND};
 ghost use Rattle.collation_search.specs.Feeding.{Feeds};
-ghost use Rattle.collation_search.specs.Search.{sought, HasSearched};
 ghost use Rattle.collation_search.specs.Parking.{IsFor, HasParked, parked_select, parked_words};
-ghost use Rattle.colfind_c.specs.Parkings.{FeedsParked, FinishesParked, IsFirstFrom, most_found_late};
+ghost use Rattle.colfind_c.specs.Parkings.{FeedsParked, FinishesParked, IsFirstFrom, GoesOn};
 ghost use Rattle.colfind_c.specs.Queues.{Gets};
 
 use crate::queue::Queue;
@@ -17,22 +16,40 @@ use collation_table::Weights;
 use std::alloc::AllocError;
 use utf8_cut::whole_characters_are_the_longest_text;
 
+/// How many bytes of a piece a search is given at a time, as many as by the program. Before and after
+/// each it looks for the fastest way to pass text by.
+const CHUNK: usize = 4096;
+
+/// Feeds bytes to a search, and puts the ranges that became known into the queue.
+fn search_chunk<'a, W: Weights>(
+    search: &mut Search<'a, W>,
+    chunk: &[u8],
+    queue: &mut Queue,
+) -> Result<(), TextFault>
+    ensures fed { (found : List (ℕ × ℕ)) × Feeds search.old chunk.now result found search.new
+        × Gets queue.old found queue.new }
+{
+    search.feed(chunk, &mut |start, end| queue.put(start, end))
+}
+
 /// Feeds a piece to a search, and puts the ranges that became known into the queue.
 fn search_piece<'a, W: Weights>(
     search: &mut Search<'a, W>,
     piece: &[u8],
     queue: &mut Queue,
 ) -> Result<(), TextFault>
-    ensures fed { (found : List (ℕ × ℕ)) × Feeds search.old piece.now result found search.new
-        × Gets queue.old found queue.new
-        × ((text u : List ℕ) (handed : List (ℕ × ℕ)) → IsCompiledFrom (sought search.old) text
-        → HasSearched search.old u handed → length found ≤ length piece.now + most_found_late) }
+    ensures fed { (found : List (ℕ × ℕ)) × GoesOn search.old piece.now result found search.new
+        × Gets queue.old found queue.new }
 {
-    whole_characters_are_the_longest_text();
-    search.has_handed_out();
-    let fed = search.feed(piece, &mut |start, end| queue.put(start, end));
-    search.has_handed_out();
-    fed
+    let mut rest = piece;
+    while rest.len() > CHUNK {
+        let (chunk, later) = rest.split_at(CHUNK);
+        match search_chunk(search, chunk, queue) {
+            Ok(()) => rest = later,
+            Err(fault) => return Err(fault),
+        }
+    }
+    search_chunk(search, rest, queue)
 }
 
 /// Feeds a piece to a search that was put away, and puts the ranges that became known into the queue.
@@ -52,7 +69,10 @@ pub(crate) fn feed_parked<W: Weights>(
         × Gets queue.old found queue.new }
 {
     let mut search = parked.unpark(table, pattern);
+    whole_characters_are_the_longest_text();
+    search.has_handed_out();
     let fed = search_piece(&mut search, piece, queue);
+    search.has_handed_out();
     (fed, search.park())
 }
 
