@@ -1,10 +1,15 @@
 /* Finds a pattern in UTF-8 text by Unicode collation (UTS #10). The calls are proved; what C must uphold is said here.
  *
- * - A handle begins as {0}, is never copied, and is given to one call at a time, and once to each call.
- * - Each pointer is valid for the length beside it, and not null, not even where the length is 0.
+ * What C upholds:
+ * - A handle begins as {0}, is never copied, and is given to one call at a time, and once to each call. Two threads may be in calls with
+ *   two handles, but not with handles that were made of one another: a table, its patterns and their searches belong together.
+ * - Each pointer is valid for the length beside it, and not null, not even where the length is 0. Buffers that are written overlap nothing
+ *   else that the call is given.
  * - malloc, realloc and free are those of one allocator. No call is made from a signal handler.
- * - A handle is let go of by colfind_free, once or more often; until then it holds memory. A pattern keeps its table and a search
- *   its pattern, so handles may be freed in any order.
+ * Who owns what:
+ * - What a handle holds belongs to the library until colfind_free. A call that makes something frees first what its handle held.
+ * - A pattern keeps its table and a search its pattern, so handles may be freed in any order, and more than once.
+ * - Texts, pieces, tables and words belong to C, and are looked at in the call alone.
  *
  * Offsets are in bytes from the beginning of the text; the end of a range is not part of it. */
 #ifndef COLFIND_H
@@ -18,53 +23,119 @@ extern "C" {
 typedef struct { void *at; } colfind_handle;
 typedef struct { uint64_t start, end; } colfind_range;
 
-/* What became of a call: 0 or a fault, and where it stands: the line of a table file, or the byte of a text. */
+/* How a call has ended: 0 or the number of a fault, and where it stands: the line of a table file, or the byte of a text; else 0. */
 typedef struct { uint32_t kind; uint64_t at; } colfind_status;
 
 enum colfind_kind {
     COLFIND_GOOD = 0,
-    /* 1 to 14: a line of a table file; 61 to 73: a line of a tailor. docs/USING.md explains each number. */
+    /* a table file; docs/USING.md says of each number what to do */
+    COLFIND_TABLE_MALFORMED_LINE = 1,
+    COLFIND_TABLE_BEYOND_UNICODE = 2,
+    COLFIND_TABLE_MAPPED_TWICE = 3,
+    COLFIND_TABLE_TOO_LONG = 4,
+    COLFIND_TABLE_BREAKS_WF1 = 5,
+    COLFIND_TABLE_BREAKS_WF2 = 6,
+    COLFIND_TABLE_BREAKS_WF3 = 7,
+    COLFIND_TABLE_BREAKS_WF4 = 8,
+    COLFIND_TABLE_BREAKS_WF5 = 9,
+    COLFIND_TABLE_BREAKS_PAIRS = 10,
+    COLFIND_TABLE_BAD_RANGE = 11,
+    COLFIND_TABLE_NO_ENTRY = 12,
+    COLFIND_TABLE_TOO_MANY_LINES = 13,
     COLFIND_TABLE_NO_MEMORY = 14,
-    COLFIND_PATTERN_TOO_LONG = 21, COLFIND_PATTERN_NO_KEY = 22, COLFIND_PATTERN_LONG_RUN = 23, COLFIND_PATTERN_NO_MEMORY = 24,
-    COLFIND_TEXT_ILL_FORMED = 31, COLFIND_TEXT_LONG_RUN = 32, COLFIND_TEXT_LONG_DECOMPOSITION = 33, COLFIND_TEXT_TOO_LONG = 34,
+    /* a pattern */
+    COLFIND_PATTERN_TOO_LONG = 21,
+    COLFIND_PATTERN_NO_KEY = 22,
+    COLFIND_PATTERN_LONG_RUN = 23,
+    COLFIND_PATTERN_NO_MEMORY = 24,
+    /* a text. 33 and 35 come from no text, but from words that say that a search reported them */
+    COLFIND_TEXT_ILL_FORMED = 31,
+    COLFIND_TEXT_LONG_RUN = 32,
+    COLFIND_TEXT_LONG_DECOMPOSITION = 33,
+    COLFIND_TEXT_TOO_LONG = 34,
+    COLFIND_TEXT_DECOMPOSITION_NO_MEMORY = 35,
     COLFIND_TEXT_NO_MEMORY = 36,
-    COLFIND_STATE_MALFORMED = 51, COLFIND_STATE_OF_ANOTHER = 52, COLFIND_STATE_NO_MEMORY = 53,
-    COLFIND_NO_MEMORY = 81,    /* memory was refused, and all handles are as they were: the call can be made again. Of colfind_feed `at`
-                                  says how many bytes of the piece were taken: go on with the others */
+    /* the words of a search */
+    COLFIND_STATE_MALFORMED = 51,
+    COLFIND_STATE_OF_ANOTHER = 52,
+    COLFIND_STATE_NO_MEMORY = 53,
+    /* the file that tailors a table: 60 more */
+    COLFIND_TAILOR_MALFORMED_LINE = 61,
+    COLFIND_TAILOR_BEYOND_UNICODE = 62,
+    COLFIND_TAILOR_MAPPED_TWICE = 63,
+    COLFIND_TAILOR_TOO_LONG = 64,
+    COLFIND_TAILOR_BREAKS_WF1 = 65,
+    COLFIND_TAILOR_BREAKS_WF3 = 67,
+    COLFIND_TAILOR_BREAKS_PAIRS = 70,
+    COLFIND_TAILOR_BAD_RANGE = 71,
+    COLFIND_TAILOR_TOO_MANY_LINES = 73,
+    /* a call */
+    COLFIND_NO_MEMORY = 81,    /* of colfind_feed `at` says how many bytes of the piece were taken: go on with the others */
     COLFIND_WRONG_HANDLE = 82, /* a handle holds something else, or nothing */
     COLFIND_ENDED = 83,        /* the search was finished or stopped */
     COLFIND_SMALL_BUFFER = 84, /* `at` says how many words are needed */
-    COLFIND_BAD_ARGUMENT = 85, /* a number that is none of the ones below, or a pattern that is no UTF-8 */
-    COLFIND_LOST = 86          /* no room for a range: none is known to come, for there is room for one a byte; the search has ended */
+    COLFIND_BAD_ARGUMENT = 85  /* a number that is none of the ones below, a pattern that is no UTF-8, or an offset behind the text */
 };
+/* With 14, 24, 36, 53 and 81 memory was refused: all handles are as they were, and the call can be made again. With each other fault but
+ * those of a text, 51 from colfind_feed and 83 all handles are as they were too. */
 
-enum { COLFIND_ALL = 0, COLFIND_CHAIN = 1 };             /* selection */
+enum { COLFIND_ALL = 0, COLFIND_CHAIN = 1 };             /* selection: all minimal matches, or a chain that do not overlap */
 enum { COLFIND_NON_IGNORABLE = 0, COLFIND_SHIFTED = 1 }; /* variable weighting */
 
-/* The table of a file in memory, and of one that tailors it, which may be empty. The bytes are not kept. */
+/* The table of a file in memory, and of one that tailors it, which may be empty. */
 colfind_status colfind_table(colfind_handle *out, const uint8_t *base, size_t n, const uint8_t *tailor, size_t m);
-/* A pattern of UTF-8, compiled at strength 1, 2 or 3. The text is not kept. */
+
+/* A pattern of UTF-8, compiled at strength 1, 2 or 3. */
 colfind_status colfind_pattern(colfind_handle *table, colfind_handle *out, const uint8_t *text, size_t n, uint8_t strength,
                                uint8_t variable);
+
 /* A search at the beginning of a text. */
 colfind_status colfind_search(colfind_handle *pattern, colfind_handle *out, uint8_t select);
-/* The search that goes on from the words of one with the same table, pattern and selection. */
+
+/* The search that goes on from the words of one with the same table, pattern and selection. Words that no search has saved, and that pass
+ * the tests all the same, are safe: what is found is then said by nothing. */
 colfind_status colfind_resume(colfind_handle *pattern, colfind_handle *out, uint8_t select, const uint64_t *words, size_t n);
-/* Takes the next piece of the text, cut anywhere. The ranges that became known wait. It asks for memory before it looks at any of the
- * next 16,384 bytes, for one range a byte, so that no range is lost where memory is refused. */
+
+/* Takes the next piece of the text, cut anywhere. The ranges that became known wait for colfind_take. A fault of the text is told with the
+ * ranges before it, and again by each later call; the search can then be saved, finished or freed. Before any of the next 65,536 bytes is
+ * looked at, memory is asked for one range a byte and 383 more, so that no range is lost where memory is refused. 51 says that the search
+ * was resumed from words that no search has saved, and has ended. */
 colfind_status colfind_feed(colfind_handle *search, const uint8_t *piece, size_t n);
-/* Ends the text, or gives it up: the rest of the ranges wait. No piece may follow. */
+
+/* Ends the text: the rest of the ranges waits. From then on 83. A fault, also one of a character that the end cuts, is told here. */
 colfind_status colfind_finish(colfind_handle *search);
+
+/* Gives the text up, as where it can't be read further: the ranges wait that end before its last whole character. From then on 83. */
 colfind_status colfind_stop(colfind_handle *search);
-/* How many ranges wait, and takes them, the oldest first. A handle that holds no search has none. */
+
+/* How many ranges wait. A handle that holds no search has none. */
 size_t colfind_pending(colfind_handle *search);
+
+/* Takes ranges that wait, the oldest first, as many as there are and have room: how many. */
 size_t colfind_take(colfind_handle *search, colfind_range *out, size_t room);
-/* Writes the search as words. Ranges that wait are not among them: take them first. */
+
+/* Writes the search as words. Where they have no room nothing is written, and 84 and `words` say how many there are. Ranges that wait are
+ * not among them: take them first. */
 typedef struct { colfind_status status; size_t words; } colfind_saved;
 colfind_saved colfind_save(colfind_handle *search, uint64_t *words, size_t room);
-/* The first range of a text in memory, if there is one. */
+
+/* The first range, if `is_found` is 1. With a fault there is none before it. */
 typedef struct { colfind_status status; uint32_t is_found; colfind_range range; } colfind_first;
+
+/* The first range of a text in memory. */
 colfind_first colfind_index(colfind_handle *pattern, const uint8_t *text, size_t n);
+
+/* The first range of what stands in the text from an offset on, taken as a text by itself. Offsets are from the beginning of the text. */
+colfind_first colfind_index_from(colfind_handle *pattern, const uint8_t *text, size_t n, size_t from);
+
+/* The same with a search that was made before, for many texts. It needs no memory: where some is refused for what a search keeps of
+ * characters, it goes on without. What the search was fed is given up, with the ranges that wait; then it is at the beginning of a text. */
+colfind_first colfind_first_in(colfind_handle *search, const uint8_t *text, size_t n, size_t from);
+
+/* Writes what a status says as `fault K at N: words`, ended by a zero byte, or as much of it as has room: how many bytes it has without
+ * the zero byte, so that a greater number than room - 1 says that it was cut. No text is longer than 160 bytes. */
+size_t colfind_message(colfind_status status, char *out, size_t room);
+
 /* Lets go of what a handle holds, if it holds anything. */
 void colfind_free(colfind_handle *handle);
 

@@ -1,94 +1,345 @@
-/* tests TABLE: each status, pieces of any size, save and resume, and each request for memory refused in turn. */
+/* tests TABLE COLFIND ROUNDS: the ranges and faults of random texts in random pieces beside those of the program COLFIND, with searches
+ * that are saved and resumed and requests for memory that are refused; each status that can come; and each request refused in turn. */
 #include "colfind.h"
 #include <assert.h>
 #include <stdio.h>
 #include <stdlib.h>
 #include <string.h>
+#include <unistd.h>
 
 #define BYTES(s) (const uint8_t *)(s), strlen(s)
+#define MOST 4096
 
-/* The request that is refused: the first, the second.. one from now on; 0 for none. */
-static long refuse_at, asked;
+/* ---- requests for memory: the one of this number is refused, 0 for none */
+
+static long refuse_at, asked, refusals;
 void *__real_malloc(size_t n);
 void *__real_realloc(void *p, size_t n);
-void *__wrap_malloc(size_t n) { return refuse_at && ++asked == refuse_at ? NULL : __real_malloc(n); }
-void *__wrap_realloc(void *p, size_t n) { return refuse_at && ++asked == refuse_at ? NULL : __real_realloc(p, n); }
+void *__wrap_malloc(size_t n) { return ++asked == refuse_at ? NULL : __real_malloc(n); }
+void *__wrap_realloc(void *p, size_t n) { return ++asked == refuse_at ? NULL : __real_realloc(p, n); }
 
-static uint8_t *base;
-static size_t base_len;
+/* ---- statuses: which have come */
+
+static char reached[128];
+
+static colfind_status seen(colfind_status status) {
+    assert(status.kind < sizeof reached);
+    reached[status.kind] = 1;
+    return status;
+}
+
+static int is(colfind_status status, uint32_t kind, uint64_t at) {
+    seen(status);
+    return status.kind == kind && status.at == at;
+}
 
 static int is_refusal(uint32_t kind) {
-    return kind == 14 || kind == 24 || kind == 36 || kind == 53 || kind == COLFIND_NO_MEMORY;
+    return kind == COLFIND_TABLE_NO_MEMORY || kind == COLFIND_PATTERN_NO_MEMORY || kind == COLFIND_TEXT_NO_MEMORY ||
+           kind == COLFIND_STATE_NO_MEMORY || kind == COLFIND_NO_MEMORY;
 }
 
-/* One call: refused at its first, second.. request until it succeeds. */
-#define REFUSED_IN_TURN(call) do { \
-    for (refuse_at = 1;; refuse_at++) { \
-        asked = 0; \
-        colfind_status status_ = (call); \
-        if (status_.kind == COLFIND_GOOD) break; \
-        assert(is_refusal(status_.kind)); \
-        assert(asked >= refuse_at); \
-        refusals++; \
+/* A call is made again and again, in which the first request is refused, the second.. HANDLE is as it was after a refusal. A call may go on
+ * without what was refused: one that changes a search is then done, each other one is made again until no request is refused. */
+#define IN_TURN(result, handle, call) EACH_IN_TURN(result, handle, asked < turn, call)
+#define ONCE_IN_TURN(result, handle, call) EACH_IN_TURN(result, handle, 1, call)
+#define EACH_IN_TURN(result, handle, is_last, call) do { \
+    for (long turn = 1;; turn++) { \
+        void *before = (handle).at; \
+        asked = 0, refuse_at = turn; \
+        result = seen((call)); \
+        refuse_at = 0; \
+        if (is_refusal((result).kind)) assert(asked == turn && (handle).at == before); \
+        else if (is_last) break; \
+        refusals += asked >= turn; \
     } \
-    refuse_at = 0; \
 } while (0)
 
-static const char *text = "r\303\251sum\303\251, re\314\201sume\314\201: resume. aaaa resumeresume";
-static long refusals;
+/* ---- random texts */
 
-/* The ranges of the text in pieces of a size, saved and resumed after each if asked for. */
-static size_t ranges_of(colfind_handle *pattern, size_t size, int saves, int refuses, colfind_range *out) {
-    colfind_handle search = {0};
-    size_t n = strlen(text), found = 0;
-    uint64_t words[4096];
-    if (refuses) REFUSED_IN_TURN(colfind_search(pattern, &search, COLFIND_ALL));
-    else assert(colfind_search(pattern, &search, COLFIND_ALL).kind == 0);
-    for (size_t at = 0; at < n; at += size) {
-        size_t len = at + size < n ? size : n - at;
-        if (refuses) REFUSED_IN_TURN(colfind_feed(&search, (const uint8_t *)text + at, len));
-        else assert(colfind_feed(&search, (const uint8_t *)text + at, len).kind == 0);
-        found += colfind_take(&search, out + found, 64 - found);
-        if (saves) {
-            colfind_saved saved = colfind_save(&search, words, 4096), again;
-            assert(saved.status.kind == 0);
-            again = colfind_save(&search, words, saved.words - 1);
-            assert(again.status.kind == COLFIND_SMALL_BUFFER && again.status.at == saved.words);
-            colfind_free(&search);
-            if (refuses) REFUSED_IN_TURN(colfind_resume(pattern, &search, COLFIND_ALL, words, saved.words));
-            else assert(colfind_resume(pattern, &search, COLFIND_ALL, words, saved.words).kind == 0);
-        }
-    }
-    if (refuses) REFUSED_IN_TURN(colfind_finish(&search));
-    else assert(colfind_finish(&search).kind == 0);
-    assert(colfind_feed(&search, BYTES("a")).kind == COLFIND_ENDED);
-    assert(colfind_finish(&search).kind == COLFIND_ENDED);
-    found += colfind_take(&search, out + found, 64 - found);
-    colfind_free(&search);
-    colfind_free(&search);
-    return found;
+static uint64_t random_state = 88172645463325252u;
+
+static size_t below(size_t n) {
+    random_state ^= random_state << 13, random_state ^= random_state >> 7, random_state ^= random_state << 17;
+    return random_state % n;
 }
 
-/* A piece of several parts, in which each request for memory is refused in turn: the call is made again with the bytes that were not
- * taken, and no range is lost. */
-static void long_piece(colfind_handle *pattern) {
+static const char *parts[] = {"resume", "r\303\251sum\303\251", "re\314\201sume\314\201", "a", "A", "aa", "ch", "c", "h", " ", "e", "s", "\n",
+                              "\303\251", "\314\201", "\303\272", "\314\247", "\302\255", "-", "\346\274\242", "\360\237\230\200", "\377"};
+static const char *sought[] = {"resume", "aa", "a", "e", "ch", "c", "r\303\251sum\303\251", "sumere", "\346\274\242", "-"};
+
+static size_t random_text(uint8_t *text) {
+    size_t n = 0, last = sizeof parts / sizeof *parts - (below(4) > 0); /* the last part is no UTF-8 */
+    for (size_t left = below(60); left > 0; left--) {
+        const char *part = parts[below(last)];
+        memcpy(text + n, part, strlen(part));
+        n += strlen(part);
+    }
+    return n;
+}
+
+/* ---- what is found */
+
+typedef struct { colfind_range ranges[MOST]; size_t count; colfind_status fault; } answer;
+
+static void by_program(const char *program, const char *table, const uint8_t *text, size_t n, const char *pattern, int strength, int shifted,
+                       int chain, answer *out) {
+    char name[] = "/tmp/colfind-tests-XXXXXX", line[256];
+    int fd = mkstemp(name);
+    assert(fd >= 0 && write(fd, text, n) == (ssize_t)n && close(fd) == 0);
+    snprintf(line, sizeof line, "%s --table %s --strength %d --variable %s --select %s -- '%s' %s 2>&1", program, table, strength,
+             shifted ? "shifted" : "non-ignorable", chain ? "chain" : "all", pattern, name);
+    FILE *pipe = popen(line, "r");
+    assert(pipe);
+    memset(out, 0, sizeof *out);
+    while (fgets(line, sizeof line, pipe)) {
+        unsigned long long a, b;
+        if (sscanf(line, "%llu:%llu", &a, &b) == 2) out->ranges[out->count++] = (colfind_range){a, b};
+        else {
+            char message[160];
+            assert(sscanf(line, "colfind: fault %llu at %llu", &a, &b) == 2);
+            out->fault = (colfind_status){(uint32_t)a, b};
+            colfind_message(out->fault, message, sizeof message);
+            line[strcspn(line, "\n")] = ':';
+            assert(strncmp(message, line + strlen("colfind: "), strlen(line) - strlen("colfind: ")) == 0);
+        }
+    }
+    pclose(pipe);
+    unlink(name);
+}
+
+static void take_some(colfind_handle *search, answer *out, size_t room) {
+    size_t waiting = colfind_pending(search), n = colfind_take(search, out->ranges + out->count, room);
+    assert(n == (waiting < room ? waiting : room) && colfind_pending(search) == waiting - n);
+    out->count += n;
+}
+
+/* A text in random pieces. */
+static void by_library(colfind_handle *pattern, const uint8_t *text, size_t n, int chain, int refuses, answer *out) {
+    colfind_handle search = {0};
+    colfind_status status;
+    uint64_t words[MOST];
+    memset(out, 0, sizeof *out);
+    if (refuses) IN_TURN(status, search, colfind_search(pattern, &search, chain));
+    else status = colfind_search(pattern, &search, chain);
+    assert(status.kind == 0);
+    for (size_t at = 0, len; at < n; at += len) {
+        len = 1 + below(below(3) ? 4 : 40);
+        if (len > n - at) len = n - at;
+        if (refuses) ONCE_IN_TURN(status, search, colfind_feed(&search, text + at, len));
+        else status = seen(colfind_feed(&search, text + at, len));
+        take_some(&search, out, below(4));
+        if (status.kind) break;
+        if (below(3)) continue;
+        take_some(&search, out, MOST - out->count);
+        colfind_saved saved = colfind_save(&search, words, below(2) ? MOST : 0);
+        if (saved.status.kind) assert(is(saved.status, COLFIND_SMALL_BUFFER, saved.words));
+        else if (refuses) IN_TURN(status, search, colfind_resume(pattern, &search, chain, words, saved.words));
+        else status = colfind_resume(pattern, &search, chain, words, saved.words);
+        assert(status.kind == 0);
+    }
+    if (!status.kind) {
+        if (refuses) ONCE_IN_TURN(status, search, colfind_finish(&search));
+        else status = seen(colfind_finish(&search));
+        assert(is(colfind_feed(&search, text, n), COLFIND_ENDED, 0) && is(colfind_finish(&search), COLFIND_ENDED, 0));
+        assert(is(colfind_stop(&search), COLFIND_ENDED, 0) && is(colfind_save(&search, words, MOST).status, COLFIND_ENDED, 0));
+        assert(is(colfind_first_in(&search, text, n, 0).status, COLFIND_ENDED, 0));
+    }
+    take_some(&search, out, MOST - out->count);
+    out->fault = status;
+    colfind_free(&search), colfind_free(&search);
+}
+
+static int same_first(colfind_first first, const answer *all, uint64_t from) {
+    seen(first.status);
+    if (all->count > 0)
+        return !first.status.kind && first.is_found == 1 && first.range.start == all->ranges[0].start + from && first.range.end == all->ranges[0].end + from;
+    return !first.is_found && first.status.kind == all->fault.kind && first.status.at == all->fault.at + (all->fault.kind ? from : 0);
+}
+
+static void random_round(const char *table_name, const char *program, colfind_handle *table, int refuses) {
+    colfind_handle pattern = {0}, search = {0};
+    colfind_status status;
+    static answer wanted, got;
+    uint8_t text[MOST];
+    size_t n = random_text(text), from = below(n + 1);
+    const char *word = sought[below(sizeof sought / sizeof *sought)];
+    int strength = 1 + (int)below(3), chain = (int)below(2), shifted = (int)below(2);
+    IN_TURN(status, pattern, colfind_pattern(table, &pattern, BYTES(word), (uint8_t)strength, (uint8_t)shifted));
+    if (is(status, COLFIND_PATTERN_NO_KEY, 0)) { assert(!pattern.at); return; }
+    by_program(program, table_name, text, n, word, strength, shifted, chain, &wanted);
+    by_library(&pattern, text, n, chain, refuses, &got);
+    assert(got.fault.kind == wanted.fault.kind && got.fault.at == wanted.fault.at && got.count == wanted.count);
+    assert(memcmp(got.ranges, wanted.ranges, got.count * sizeof *got.ranges) == 0);
+    /* the first range, with a new search each time and with one for all */
+    assert(colfind_search(&pattern, &search, COLFIND_ALL).kind == 0 && colfind_feed(&search, BYTES("resume aa res")).kind == 0);
+    for (int twice = 0; twice < 2; twice++) {
+        by_program(program, table_name, text + from, n - from, word, strength, shifted, 0, &wanted);
+        assert(same_first(colfind_index_from(&pattern, text, n, from), &wanted, from));
+        asked = 0, refuse_at = (long)below(3); /* it does without what is refused */
+        colfind_first first = colfind_first_in(&search, text, n, from);
+        refuse_at = 0;
+        assert(same_first(first, &wanted, from) && colfind_pending(&search) == 0);
+        if (from == 0) assert(same_first(colfind_index(&pattern, text, n), &wanted, 0));
+        from = 0;
+    }
+    assert(is(colfind_index_from(&pattern, text, n, n + 1).status, COLFIND_BAD_ARGUMENT, 0));
+    assert(is(colfind_first_in(&search, text, n, n + 1).status, COLFIND_BAD_ARGUMENT, 0));
+    colfind_free(&search), colfind_free(&pattern);
+}
+
+/* ---- each status */
+
+#define A "0061 ; [.1C00.0020.0002]\n"
+#define LONG "0061 0061 0061 0061 0061 0061 0061 0061 0061 0061 0061 0061 0061 "
+
+/* the faults of one line, which a tailor has too */
+static const struct { uint32_t kind; uint64_t at; const char *lines; } line_faults[] = {
+    {COLFIND_TABLE_MALFORMED_LINE, 2, A "nonsense\n"},
+    {COLFIND_TABLE_BEYOND_UNICODE, 1, "110000 ; [.1C00.0020.0002]\n"},
+    {COLFIND_TABLE_MAPPED_TWICE, 2, A A},
+    {COLFIND_TABLE_TOO_LONG, 1, LONG LONG LONG LONG LONG "; [.1C00.0020.0002]\n"},
+    {COLFIND_TABLE_BREAKS_WF1, 1, "0061 ; [.1C00.0000.0002]\n"},
+    {COLFIND_TABLE_BREAKS_WF3, 1, "0061 ; [*0000.0020.0002]\n"},
+    {COLFIND_TABLE_BREAKS_PAIRS, 1, "0061 ; [.FB40.0020.0002]\n"},
+    {COLFIND_TABLE_BAD_RANGE, 1, "@implicitweights 18AFF..17000; FB00\n"},
+};
+
+static void statuses_of_tables(void) {
+    colfind_handle table = {0};
+    for (size_t i = 0; i < sizeof line_faults / sizeof *line_faults; i++) {
+        assert(is(colfind_table(&table, BYTES(line_faults[i].lines), BYTES("")), line_faults[i].kind, line_faults[i].at));
+        assert(is(colfind_table(&table, BYTES(A), BYTES(line_faults[i].lines)), line_faults[i].kind + 60, line_faults[i].at));
+    }
+    char ranges[257 * 40], *end = ranges;
+    for (int i = 0; i < 257; i++) end += sprintf(end, "@implicitweights %X..%X; FB00\n", 0x17000 + i, 0x17000 + i);
+    assert(is(colfind_table(&table, BYTES(ranges), BYTES("")), COLFIND_TABLE_TOO_MANY_LINES, 257));
+    assert(is(colfind_table(&table, BYTES(A), BYTES(ranges)), COLFIND_TAILOR_TOO_MANY_LINES, 257));
+    assert(is(colfind_table(&table, BYTES(A "0301 ; [.0000.0010.0002]\n"), BYTES("")), COLFIND_TABLE_BREAKS_WF2, 0));
+    assert(is(colfind_table(&table, BYTES("0020 ; [*0201.0020.0002]\n0061 ; [.0202.0020.0002]\n002D ; [*0203.0020.0002]\n"), BYTES("")),
+              COLFIND_TABLE_BREAKS_WF4, 0));
+    assert(is(colfind_table(&table, BYTES(A "0061 0062 0301 ; [.1C00.0020.0002]\n"), BYTES("")), COLFIND_TABLE_BREAKS_WF5, 0));
+    assert(is(colfind_table(&table, BYTES(""), BYTES("")), COLFIND_TABLE_NO_ENTRY, 0));
+    assert(!table.at);
+}
+
+static void statuses_of_calls(colfind_handle *table) {
+    colfind_handle pattern = {0}, other = {0}, search = {0}, out = {0}, empty = {0};
+    uint64_t words[MOST], none[1] = {7};
+    colfind_range range;
+    static uint8_t many[65537];
+    memset(many, 'a', sizeof many);
+    assert(is(colfind_pattern(table, &out, many, sizeof many, 1, 0), COLFIND_PATTERN_TOO_LONG, 0));
+    assert(is(colfind_pattern(table, &out, BYTES(""), 1, 0), COLFIND_PATTERN_NO_KEY, 0));
+    for (size_t i = 0; i < 62; i += 2) memcpy(many + i, "\314\201", 2);
+    assert(is(colfind_pattern(table, &out, many, 62, 3, 0), COLFIND_PATTERN_LONG_RUN, 0));
+    assert(is(colfind_pattern(table, &out, BYTES("a"), 0, 0), COLFIND_BAD_ARGUMENT, 0));
+    assert(is(colfind_pattern(table, &out, BYTES("a"), 4, 0), COLFIND_BAD_ARGUMENT, 0));
+    assert(is(colfind_pattern(table, &out, BYTES("a"), 1, 2), COLFIND_BAD_ARGUMENT, 0));
+    assert(is(colfind_pattern(table, &out, BYTES("\377"), 1, 0), COLFIND_BAD_ARGUMENT, 0));
+    assert(is(colfind_pattern(&empty, &out, BYTES("a"), 1, 0), COLFIND_WRONG_HANDLE, 0) && !out.at);
+    assert(is(colfind_pattern(table, &pattern, BYTES("resume"), 1, 0), COLFIND_GOOD, 0));
+    assert(is(colfind_pattern(table, &other, BYTES("aa"), 1, 0), COLFIND_GOOD, 0));
+    assert(is(colfind_search(&pattern, &out, 2), COLFIND_BAD_ARGUMENT, 0));
+    assert(is(colfind_search(&pattern, &search, COLFIND_ALL), COLFIND_GOOD, 0));
+    size_t count = colfind_save(&search, words, MOST).words;
+    assert(is(colfind_save(&search, words, count - 1).status, COLFIND_SMALL_BUFFER, count));
+    assert(is(colfind_resume(&pattern, &out, 2, words, count), COLFIND_BAD_ARGUMENT, 0));
+    assert(is(colfind_resume(&pattern, &out, COLFIND_CHAIN, words, count), COLFIND_STATE_MALFORMED, 0));
+    assert(is(colfind_resume(&pattern, &out, COLFIND_ALL, none, 1), COLFIND_STATE_MALFORMED, 0));
+    assert(is(colfind_resume(&other, &out, COLFIND_ALL, words, count), COLFIND_STATE_OF_ANOTHER, 0) && !out.at);
+    /* a handle of the wrong kind, in each call */
+    colfind_handle *wrong[] = {&empty, table, &pattern, &search};
+    for (int i = 0; i < 4; i++) {
+        void *before = wrong[i]->at;
+        if (wrong[i] != table) assert(is(colfind_pattern(wrong[i], &out, BYTES("a"), 1, 0), COLFIND_WRONG_HANDLE, 0));
+        if (wrong[i] != &pattern) {
+            assert(is(colfind_search(wrong[i], &out, COLFIND_ALL), COLFIND_WRONG_HANDLE, 0));
+            assert(is(colfind_resume(wrong[i], &out, COLFIND_ALL, words, count), COLFIND_WRONG_HANDLE, 0));
+            assert(is(colfind_index(wrong[i], BYTES("a")).status, COLFIND_WRONG_HANDLE, 0));
+            assert(is(colfind_index_from(wrong[i], BYTES("a"), 0).status, COLFIND_WRONG_HANDLE, 0));
+        }
+        if (wrong[i] != &search) {
+            assert(is(colfind_feed(wrong[i], BYTES("a")), COLFIND_WRONG_HANDLE, 0) && is(colfind_finish(wrong[i]), COLFIND_WRONG_HANDLE, 0));
+            assert(is(colfind_stop(wrong[i]), COLFIND_WRONG_HANDLE, 0) && is(colfind_save(wrong[i], words, 1).status, COLFIND_WRONG_HANDLE, 0));
+            assert(is(colfind_first_in(wrong[i], BYTES("a"), 0).status, COLFIND_WRONG_HANDLE, 0));
+            assert(colfind_pending(wrong[i]) == 0 && colfind_take(wrong[i], &range, 1) == 0);
+        }
+        assert(wrong[i]->at == before && !out.at);
+    }
+    /* faults of a text, told again by each later call */
+    for (int again = 0; again < 2; again++) assert(is(colfind_feed(&search, BYTES("resume \377")), COLFIND_TEXT_ILL_FORMED, 7));
+    assert(colfind_pending(&search) == 1 && is(colfind_finish(&search), COLFIND_TEXT_ILL_FORMED, 7));
+    assert(is(colfind_feed(&search, BYTES("a")), COLFIND_ENDED, 0) && colfind_take(&search, &range, 1) == 1 && range.end == 6);
+    assert(is(colfind_index(&pattern, many, 62).status, COLFIND_TEXT_LONG_RUN, 60));
+    assert(is(colfind_search(&pattern, &search, COLFIND_ALL), COLFIND_GOOD, 0) && colfind_feed(&search, BYTES("resume, r\303")).kind == 0);
+    assert(is(colfind_stop(&search), COLFIND_GOOD, 0) && colfind_take(&search, &range, 1) == 1 && range.end == 6);
+    /* those that only words can say: a fault that was reported, and bytes up to the last that may be taken */
+    uint32_t kinds[] = {COLFIND_TEXT_LONG_DECOMPOSITION, COLFIND_TEXT_TOO_LONG, COLFIND_TEXT_DECOMPOSITION_NO_MEMORY};
+    for (int i = 0; i < 3; i++) {
+        words[7] = kinds[i];
+        assert(is(colfind_resume(&pattern, &search, COLFIND_ALL, words, count), COLFIND_GOOD, 0));
+        assert(is(colfind_feed(&search, BYTES("a")), kinds[i], 0));
+    }
+    words[7] = 0, words[6] = (uint64_t)1 << 62;
+    assert(is(colfind_resume(&pattern, &search, COLFIND_ALL, words, count), COLFIND_GOOD, 0));
+    assert(is(colfind_feed(&search, BYTES("a")), COLFIND_TEXT_TOO_LONG, (uint64_t)1 << 62));
+    colfind_free(&search), colfind_free(&pattern), colfind_free(&other), colfind_free(&empty);
+}
+
+/* ---- refused memory */
+
+static colfind_status save_into(colfind_handle *search, uint64_t *words, size_t *count) {
+    colfind_saved saved = colfind_save(search, words, MOST);
+    *count = saved.words;
+    return saved.status;
+}
+
+static void refusals_in_turn(const uint8_t *base, size_t n) {
+    colfind_handle table = {0}, pattern = {0}, search = {0};
+    colfind_status status;
+    uint64_t words[MOST];
+    size_t count = 0;
+    for (int twice = 0; twice < 2; twice++) { /* the second time each handle has something */
+        IN_TURN(status, table, colfind_table(&table, base, n, BYTES("0062 ; [.1C10.0020.0002]\n")));
+        assert(status.kind == 0);
+        IN_TURN(status, pattern, colfind_pattern(&table, &pattern, BYTES("resume"), 1, 0));
+        assert(status.kind == 0);
+        IN_TURN(status, search, colfind_search(&pattern, &search, COLFIND_ALL));
+        assert(status.kind == 0);
+        ONCE_IN_TURN(status, search, colfind_feed(&search, BYTES("a resume, res")));
+        assert(status.kind == 0);
+        IN_TURN(status, search, save_into(&search, words, &count));
+        assert(status.kind == 0);
+        IN_TURN(status, search, colfind_resume(&pattern, &search, COLFIND_ALL, words, count));
+        assert(status.kind == 0);
+        IN_TURN(status, pattern, colfind_index(&pattern, BYTES("a resume")).status);
+        assert(status.kind == 0);
+        IN_TURN(status, pattern, colfind_index_from(&pattern, BYTES("a resume"), 1).status);
+        assert(status.kind == 0);
+        ONCE_IN_TURN(status, search, twice ? colfind_finish(&search) : colfind_stop(&search));
+        assert(status.kind == 0);
+    }
+    colfind_free(&search), colfind_free(&pattern), colfind_free(&table);
+}
+
+/* A piece of several parts: the call is made again with the bytes that were not taken, and no range is lost. */
+static void long_piece(colfind_handle *table) {
     size_t n = 300000, within = 0;
     uint8_t *piece = malloc(n);
+    colfind_handle pattern = {0};
+    assert(piece && colfind_pattern(table, &pattern, BYTES("resume"), 1, 0).kind == 0);
     for (size_t i = 0; i < n; i++) piece[i] = (uint8_t)"resume "[i % 7];
     for (long refused = 1, all = 1; refused <= all + 1; refused++) {
         size_t found = 0;
         colfind_range range;
         colfind_handle search = {0};
-        assert(colfind_search(pattern, &search, COLFIND_ALL).kind == 0);
-        asked = 0;
-        refuse_at = refused;
+        assert(colfind_search(&pattern, &search, COLFIND_ALL).kind == 0);
+        asked = 0, refuse_at = refused;
         colfind_status fed = colfind_feed(&search, piece, n);
-        refuse_at = 0;
-        all = asked;
+        refuse_at = 0, all = asked;
         if (fed.kind != COLFIND_GOOD) {
-            assert(fed.kind == COLFIND_NO_MEMORY && fed.at % 16384 == 0 && all == refused);
-            within += fed.at > 0;
-            refusals++;
+            assert(fed.kind == COLFIND_NO_MEMORY && fed.at % 65536 == 0 && all == refused);
+            within += fed.at > 0, refusals++;
             while (colfind_take(&search, &range, 1) == 1) assert(range.start == 7 * found++);
             assert(colfind_feed(&search, piece + fed.at, n - fed.at).kind == 0);
         }
@@ -98,59 +349,50 @@ static void long_piece(colfind_handle *pattern) {
         colfind_free(&search);
     }
     assert(within > 0);
+    colfind_free(&pattern);
     free(piece);
 }
 
-static void statuses(colfind_handle *table, colfind_handle *pattern) {
-    colfind_handle out = {0}, empty = {0};
-    uint64_t no_state[1] = {7};
-    colfind_status bad = colfind_table(&out, BYTES("nonsense\n"), BYTES(""));
-    assert(bad.kind == 1 && bad.at == 1 && out.at == NULL);
-    assert(colfind_pattern(table, &out, BYTES("a"), 4, 0).kind == COLFIND_BAD_ARGUMENT);
-    assert(colfind_pattern(table, &out, BYTES("\377"), 1, 0).kind == COLFIND_BAD_ARGUMENT);
-    assert(colfind_pattern(table, &out, BYTES(""), 1, 0).kind == COLFIND_PATTERN_NO_KEY);
-    assert(colfind_pattern(pattern, &out, BYTES("a"), 1, 0).kind == COLFIND_WRONG_HANDLE);
-    assert(colfind_pattern(&empty, &out, BYTES("a"), 1, 0).kind == COLFIND_WRONG_HANDLE);
-    assert(colfind_search(table, &out, COLFIND_ALL).kind == COLFIND_WRONG_HANDLE);
-    assert(colfind_search(pattern, &out, 7).kind == COLFIND_BAD_ARGUMENT);
-    assert(colfind_resume(pattern, &out, COLFIND_ALL, no_state, 1).kind == COLFIND_STATE_MALFORMED);
-    assert(colfind_feed(table, BYTES("a")).kind == COLFIND_WRONG_HANDLE);
-    assert(colfind_finish(pattern).kind == COLFIND_WRONG_HANDLE);
-    assert(colfind_pending(table) == 0 && out.at == NULL);
-    assert(colfind_search(pattern, &out, COLFIND_ALL).kind == 0);
-    bad = colfind_feed(&out, BYTES("resume \377 resume"));
-    assert(bad.kind == COLFIND_TEXT_ILL_FORMED && bad.at == 7 && colfind_pending(&out) == 1);
-    bad = colfind_finish(&out);
-    assert(bad.kind == COLFIND_TEXT_ILL_FORMED && bad.at == 7);
-    colfind_free(&out);
-    colfind_first first = colfind_index(pattern, BYTES("my resume"));
-    assert(first.status.kind == 0 && first.is_found == 1 && first.range.start == 3 && first.range.end == 9);
-    first = colfind_index(pattern, BYTES("nothing"));
-    assert(first.status.kind == 0 && first.is_found == 0);
+/* ---- messages */
+
+static const uint32_t kinds[] = {0, 1, 2, 3, 4, 5, 6, 7, 8, 9, 10, 11, 12, 13, 14, 21, 22, 23, 24, 31, 32, 33, 34, 35, 36, 51, 52, 53,
+                                 61, 62, 63, 64, 65, 67, 70, 71, 73, 81, 82, 83, 84, 85};
+
+static void messages(void) {
+    char whole[200], part[200], front[64];
+    for (size_t i = 0; i <= sizeof kinds / sizeof *kinds; i++) {
+        colfind_status status = {i < sizeof kinds / sizeof *kinds ? kinds[i] : UINT32_MAX, i % 3 ? UINT64_MAX : 7};
+        size_t n = colfind_message(status, whole, sizeof whole);
+        sprintf(front, "fault %u at %llu: ", status.kind, (unsigned long long)status.at);
+        assert(n <= 160 && strlen(whole) == n && strncmp(whole, front, strlen(front)) == 0 && n > strlen(front));
+        assert((strstr(whole, "no fault has this number") != NULL) == (status.kind == UINT32_MAX));
+        for (size_t room = 0; room <= n + 2; room++) {
+            memset(part, 'x', sizeof part);
+            assert(colfind_message(status, part, room) == n);
+            size_t written = room == 0 ? 0 : room <= n ? room - 1 : n;
+            assert(memcmp(part, whole, written) == 0 && (room == 0 || part[written] == 0) && part[written + (room > 0)] == 'x');
+        }
+    }
 }
 
 int main(int argc, char **argv) {
-    assert(argc == 2);
+    assert(argc == 4);
+    static uint8_t base[1 << 16];
     FILE *file = fopen(argv[1], "rb");
     assert(file);
-    base = malloc(1 << 20);
-    base_len = fread(base, 1, 1 << 20, file);
+    size_t n = fread(base, 1, sizeof base, file);
     fclose(file);
-    colfind_handle table = {0}, pattern = {0};
-    REFUSED_IN_TURN(colfind_table(&table, base, base_len, BYTES("")));
-    REFUSED_IN_TURN(colfind_pattern(&table, &pattern, BYTES("resume"), 1, COLFIND_NON_IGNORABLE));
-    statuses(&table, &pattern);
+    colfind_handle table = {0};
+    assert(is(colfind_table(&table, base, n, BYTES("")), COLFIND_GOOD, 0));
+    for (long round = 0; round < atol(argv[3]); round++) random_round(argv[1], argv[2], &table, (int)below(2));
+    statuses_of_tables();
+    statuses_of_calls(&table);
+    long_piece(&table);
+    messages();
     colfind_free(&table);
-    colfind_range whole[64], parts[64];
-    size_t n = ranges_of(&pattern, strlen(text), 0, 0, whole);
-    assert(n == 5);
-    for (size_t size = 1; size <= strlen(text); size++)
-        for (int saves = 0; saves < 2; saves++)
-            for (int refuses = 0; refuses < 2; refuses++)
-                assert(ranges_of(&pattern, size, saves, refuses, parts) == n && !memcmp(whole, parts, n * sizeof *whole));
-    long_piece(&pattern);
-    colfind_free(&pattern);
-    free(base);
+    refusals_in_turn(base, n);
+    for (size_t i = 0; i < sizeof kinds / sizeof *kinds; i++)
+        if (!reached[kinds[i]]) { printf("status %u has not come\n", kinds[i]); return 1; }
     printf("all passed, %ld refusals\n", refusals);
     return 0;
 }

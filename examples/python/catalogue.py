@@ -25,7 +25,7 @@ def catalogue(titles: list[str], pattern: Pattern) -> sqlite3.Connection:
     database = sqlite3.connect(":memory:")
     database.execute("CREATE TABLE books (title TEXT)")
     database.executemany("INSERT INTO books VALUES (?)", ((title,) for title in titles))
-    database.create_function("found", 1, lambda title: pattern.index(title) is not None, deterministic=True)
+    database.create_function("found", 1, lambda title: pattern.index(title.encode()) is not None, deterministic=True)
     return database
 
 
@@ -35,9 +35,9 @@ def main() -> None:
     with Pattern(table, sought, strength=1) as pattern:
         database = catalogue(made_titles(100_000), pattern)
         for condition in ["found(title)", f"title LIKE '%{sought}%'"]:
-            begun = time.perf_counter()
+            begun = time.process_time()
             rows = database.execute(f"SELECT title FROM books WHERE {condition}").fetchall()
-            print(f"{condition}: {len(rows)} titles, {time.perf_counter() - begun:.3f} s")
+            print(f"{condition}: {len(rows)} titles, {time.process_time() - begun:.3f} s")
 
 
 if __name__ == "__main__":

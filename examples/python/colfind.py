@@ -1,59 +1,53 @@
-"""Finds a pattern in text by Unicode collation (UTS #10), by the proved C library."""
+"""Finds a pattern in text by Unicode collation (UTS #10), by the proved C library. `./build` makes the shared object that it loads."""
 from __future__ import annotations
 
-import ctypes
 from collections.abc import Iterator
+from ctypes import CDLL, POINTER, Structure, c_char_p, c_size_t, c_uint8, c_uint32, c_uint64, c_void_p, create_string_buffer
 from pathlib import Path
 from typing import BinaryIO
 
-U8, U32, U64, SIZE = ctypes.c_uint8, ctypes.c_uint32, ctypes.c_uint64, ctypes.c_size_t
+
+class _Handle(Structure):
+    _fields_ = [("at", c_void_p)]
 
 
-class _Handle(ctypes.Structure):
-    _fields_ = [("at", ctypes.c_void_p)]
+class _Range(Structure):
+    _fields_ = [("start", c_uint64), ("end", c_uint64)]
 
 
-class _Range(ctypes.Structure):
-    _fields_ = [("start", U64), ("end", U64)]
+class _Status(Structure):
+    _fields_ = [("kind", c_uint32), ("at", c_uint64)]
 
 
-class _Status(ctypes.Structure):
-    _fields_ = [("kind", U32), ("at", U64)]
+class _Saved(Structure):
+    _fields_ = [("status", _Status), ("words", c_size_t)]
 
 
-class _Saved(ctypes.Structure):
-    _fields_ = [("status", _Status), ("words", SIZE)]
+class _First(Structure):
+    _fields_ = [("status", _Status), ("is_found", c_uint32), ("range", _Range)]
 
 
-class _First(ctypes.Structure):
-    _fields_ = [("status", _Status), ("is_found", U32), ("range", _Range)]
-
-
-_HANDLE = ctypes.POINTER(_Handle)
-_C = ctypes.CDLL(str(Path(__file__).parent / "out" / "libcolfind.so"))
+Ranges = Iterator[tuple[int, int]]
+_C = CDLL(str(Path(__file__).parent / "out" / "libcolfind.so"))
+_HANDLE, _WORDS, _BYTES = POINTER(_Handle), POINTER(c_uint64), [c_char_p, c_size_t]
 for _name, _result, _types in [
-    ("table", _Status, [_HANDLE, ctypes.c_char_p, SIZE, ctypes.c_char_p, SIZE]),
-    ("pattern", _Status, [_HANDLE, _HANDLE, ctypes.c_char_p, SIZE, U8, U8]),
-    ("search", _Status, [_HANDLE, _HANDLE, U8]),
-    ("resume", _Status, [_HANDLE, _HANDLE, U8, ctypes.POINTER(U64), SIZE]),
-    ("feed", _Status, [_HANDLE, ctypes.c_char_p, SIZE]),
-    ("finish", _Status, [_HANDLE]),
-    ("stop", _Status, [_HANDLE]),
-    ("pending", SIZE, [_HANDLE]),
-    ("take", SIZE, [_HANDLE, ctypes.POINTER(_Range), SIZE]),
-    ("save", _Saved, [_HANDLE, ctypes.POINTER(U64), SIZE]),
-    ("index", _First, [_HANDLE, ctypes.c_char_p, SIZE]),
-    ("free", None, [_HANDLE]),
+    ("table", _Status, [_HANDLE, *_BYTES, *_BYTES]), ("pattern", _Status, [_HANDLE, _HANDLE, *_BYTES, c_uint8, c_uint8]),
+    ("search", _Status, [_HANDLE, _HANDLE, c_uint8]), ("resume", _Status, [_HANDLE, _HANDLE, c_uint8, _WORDS, c_size_t]),
+    ("feed", _Status, [_HANDLE, *_BYTES]), ("finish", _Status, [_HANDLE]), ("stop", _Status, [_HANDLE]), ("free", None, [_HANDLE]),
+    ("pending", c_size_t, [_HANDLE]), ("take", c_size_t, [_HANDLE, POINTER(_Range), c_size_t]),
+    ("save", _Saved, [_HANDLE, _WORDS, c_size_t]), ("first_in", _First, [_HANDLE, *_BYTES, c_size_t]),
+    ("message", c_size_t, [_Status, c_char_p, c_size_t]),
 ]:
-    getattr(_C, "colfind_" + _name).restype = _result
-    getattr(_C, "colfind_" + _name).argtypes = _types
+    getattr(_C, f"colfind_{_name}").restype, getattr(_C, f"colfind_{_name}").argtypes = _result, _types
 
 
 class Fault(Exception):
-    """A fault: its number, as in colfind.h, and the line of a table or the byte of a text where it stands."""
+    """A fault: its number as in colfind.h, and the line of a table or the offset in a text where it stands."""
 
     def __init__(self, kind: int, at: int) -> None:
-        super().__init__(f"fault {kind} at {at}")
+        text = create_string_buffer(160)
+        _C.colfind_message(_Status(kind, at), text, len(text))
+        super().__init__(text.value.decode())
         self.kind, self.at = kind, at
 
 
@@ -62,8 +56,29 @@ def _check(status: _Status) -> None:
         raise Fault(status.kind, status.at)
 
 
+def _then_fault(ranges: list[_Range], status: _Status) -> Ranges:
+    yield from ((one.start, one.end) for one in ranges)
+    _check(status)
+
+
+def _encoded(text: str | bytes) -> bytes:
+    return text if isinstance(text, bytes) else text.encode("utf-8", "surrogatepass")
+
+
+class _Characters:
+    """The offsets of characters from those of bytes, which rise from call to call."""
+
+    def __init__(self, data: bytes) -> None:
+        self.data, self.byte, self.count = data, 0, 0
+
+    def __call__(self, byte: int) -> int:
+        self.count += len(self.data[self.byte:byte].decode("utf-8", "surrogatepass"))
+        self.byte = byte
+        return self.count
+
+
 class _Owner:
-    """Holds a handle, and frees it at the end."""
+    """Holds a handle, which is freed at the end of a `with` or when nothing refers to it."""
 
     def __init__(self) -> None:
         self._handle = _Handle()
@@ -74,12 +89,11 @@ class _Owner:
     def __exit__(self, *_: object) -> None:
         _C.colfind_free(self._handle)
 
-    def __del__(self) -> None:
-        _C.colfind_free(self._handle)
+    __del__ = __exit__
 
 
 class Table(_Owner):
-    """The table of a file in memory, and of one that tailors it."""
+    """The table of a file's bytes, and of a file's that tailors it."""
 
     def __init__(self, base: bytes, tailor: bytes = b"") -> None:
         super().__init__()
@@ -87,82 +101,93 @@ class Table(_Owner):
 
 
 class Pattern(_Owner):
-    """A pattern, compiled with a table."""
+    """A pattern, compiled with a table at strength 1, 2 or 3."""
 
     def __init__(self, table: Table, text: str, strength: int = 3, shifted: bool = False) -> None:
         super().__init__()
-        sought = text.encode()
-        _check(_C.colfind_pattern(table._handle, self._handle, sought, len(sought), strength, shifted))
+        data = _encoded(text)
+        _check(_C.colfind_pattern(table._handle, self._handle, data, len(data), strength, shifted))
+        self._titles = Search(self)
 
-    def search(self, text: str | bytes, chain: bool = False) -> Iterator[tuple[int, int]]:
-        """The ranges of a text: offsets of characters in a str, of bytes in bytes."""
-        data = text if isinstance(text, bytes) else text.encode()
+    def search(self, text: str | bytes, chain: bool = False) -> Ranges:
+        """The ranges of a text, all or a chain that do not overlap: offsets of characters in a str, of bytes in bytes. A fault of the text
+        is raised behind the ranges before it."""
+        data = _encoded(text)
+        start_of, end_of = (int, int) if len(data) == len(text) else (_Characters(data), _Characters(data))
         with Search(self, chain) as search:
-            found = search.feed(data) + search.finish()
-        if isinstance(text, bytes):
-            yield from found
-            return
-        places: dict[int, int] = {len(data): len(text)}
-        at = 0
-        for index, character in enumerate(text):
-            places[at] = index
-            at += len(character.encode())
-        yield from ((places[start], places[end]) for start, end in found)
+            try:
+                for step in (lambda: search.feed(data), search.finish):
+                    yield from ((start_of(start), end_of(end)) for start, end in step())
+            except Fault as fault:
+                raise Fault(fault.kind, start_of(fault.at)) from None
 
-    def index(self, text: bytes) -> tuple[int, int] | None:
-        """The first range of a text, in bytes, or none."""
-        first = _C.colfind_index(self._handle, text, len(text))
-        _check(first.status)
-        return (first.range.start, first.range.end) if first.is_found else None
+    def index(self, text: str | bytes, start: int = 0) -> tuple[int, int] | None:
+        """The first range at or after an offset, or none. Many short texts are best searched by this."""
+        data = _encoded(text)
+        if len(data) == len(text):
+            return self._titles.first_in(data, start)
+        place = _Characters(data)
+        try:
+            found = self._titles.first_in(data, len(_encoded(text[:start])))
+        except Fault as fault:
+            raise Fault(fault.kind, place(fault.at)) from None
+        return found and (place(found[0]), place(found[1]))
+
+    def resume(self, words: list[int], chain: bool = False) -> Search:
+        """The search that goes on from `Search.save`."""
+        return Search(self, chain, words)
 
 
 class Search(_Owner):
-    """A search that is fed with the bytes of a text, cut anywhere. Its ranges are in bytes from the beginning of the text."""
+    """A search that is fed with the bytes of a text, cut anywhere. Its ranges are in bytes from the beginning of the text. Where a call
+    has both ranges and a fault, the fault is raised behind them."""
 
     def __init__(self, pattern: Pattern, chain: bool = False, words: list[int] | None = None) -> None:
         super().__init__()
         if words is None:
             _check(_C.colfind_search(pattern._handle, self._handle, chain))
         else:
-            _check(_C.colfind_resume(pattern._handle, self._handle, chain, (U64 * len(words))(*words), len(words)))
+            _check(_C.colfind_resume(pattern._handle, self._handle, chain, (c_uint64 * (len(words) or 1))(*words), len(words)))
 
-    def _taken(self) -> list[tuple[int, int]]:
+    def _taken(self, status: _Status) -> Ranges:
+        if status.kind in (81, 82, 83):
+            _check(status)
         waiting = _C.colfind_pending(self._handle)
-        ranges = (_Range * max(waiting, 1))()
-        count = _C.colfind_take(self._handle, ranges, waiting)
-        return [(ranges[i].start, ranges[i].end) for i in range(count)]
+        ranges = (_Range * (waiting or 1))()
+        return _then_fault(ranges[:_C.colfind_take(self._handle, ranges, waiting)], status)
 
-    def feed(self, piece: bytes) -> list[tuple[int, int]]:
-        """Takes the next piece: the ranges that became known. A fault is raised by the next call where it left ranges. Fault 81 says that
-        memory was refused after `at` bytes of the piece: the next call, with the others, gives their ranges too."""
-        status = _C.colfind_feed(self._handle, piece, len(piece))
-        if status.kind == 81:
-            _check(status)
-        found = self._taken()
-        if not found:
-            _check(status)
-        return found
+    def feed(self, piece: bytes) -> Ranges:
+        """Takes the next piece: the ranges that became known. Fault 81 says that memory was refused after `at` bytes of the piece: the
+        next call, with the others, gives their ranges too."""
+        return self._taken(_C.colfind_feed(self._handle, piece, len(piece)))
 
-    def finish(self) -> list[tuple[int, int]]:
-        """Ends the text: the rest of the ranges."""
-        status = _C.colfind_finish(self._handle)
-        found = self._taken()
-        if not found:
-            _check(status)
-        return found
-
-    def feed_file(self, file: BinaryIO, size: int = 1 << 16) -> Iterator[tuple[int, int]]:
-        """The ranges of an open file, as they become known."""
+    def feed_file(self, file: BinaryIO, size: int = 1 << 16) -> Ranges:
+        """Takes the rest of an open file, and ends the text: the ranges as they become known."""
         while piece := file.read(size):
             yield from self.feed(piece)
         yield from self.finish()
 
+    def finish(self) -> Ranges:
+        """Ends the text: the rest of the ranges."""
+        return self._taken(_C.colfind_finish(self._handle))
+
+    def stop(self) -> Ranges:
+        """Gives the text up: the ranges before the end of its last whole character."""
+        return self._taken(_C.colfind_stop(self._handle))
+
+    def first_in(self, text: bytes, start: int = 0) -> tuple[int, int] | None:
+        """The first range of a text at or after an offset, or none. What was fed before is given up."""
+        first = _C.colfind_first_in(self._handle, text, len(text), start)
+        if first.is_found:
+            return first.range.start, first.range.end
+        _check(first.status)
+        return None
+
     def save(self) -> list[int]:
-        """The search as words, from which `Search(pattern, words=..)` goes on."""
-        words = (U64 * 1)()
-        saved = _C.colfind_save(self._handle, words, 0)
-        if saved.status.kind == 84:
-            words = (U64 * saved.words)()
-            saved = _C.colfind_save(self._handle, words, saved.words)
-        _check(saved.status)
+        """The search as words, from which `Pattern.resume` goes on, in this process or another one."""
+        size = _C.colfind_save(self._handle, (c_uint64 * 1)(), 0)
+        if size.status.kind != 84:
+            _check(size.status)
+        words = (c_uint64 * size.words)()
+        _check(_C.colfind_save(self._handle, words, size.words).status)
         return list(words)

@@ -1,4 +1,4 @@
-"""Tests of colfind.py against the program. COLFIND names it."""
+"""Tests of colfind.py against the program, whose path COLFIND may say."""
 import os
 import random
 import subprocess
@@ -6,61 +6,122 @@ import tempfile
 import unittest
 from pathlib import Path
 
+from catalogue import catalogue, made_titles
 from colfind import Fault, Pattern, Search, Table
 
 ROOT = Path(__file__).parents[2]
 LETTERS = ROOT / "docs" / "example" / "letters.txt"
 PROGRAM = os.environ.get("COLFIND", str(ROOT / "crates" / "colfind" / "out" / "colfind"))
+PARTS = ["resume", "r\u00e9sum\u00e9", "re\u0301sume\u0301", "a", "aa", " ", "e", "\u00e9", "s", "\u0301", "\u6f22", "\U0001f600", "\ud800"]
 
 
-def by_program(text: bytes, pattern: str, strength: int) -> list[tuple[int, int]]:
+def by_program(text: bytes, pattern: str, strength: int, chain: bool = False) -> tuple[list[tuple[int, int]], str]:
+    """The ranges, and what stands behind `colfind: ` on standard error."""
     with tempfile.NamedTemporaryFile() as file:
         file.write(text)
         file.flush()
-        words = [PROGRAM, "--table", LETTERS, "--strength", str(strength), "--", pattern, file.name]
-        lines = subprocess.run(words, capture_output=True, text=True).stdout.split()
-    return [tuple(map(int, line.split(":"))) for line in lines]
+        words = [PROGRAM, "--table", LETTERS, "--strength", str(strength), "--select", "chain" if chain else "all", "--", pattern, file.name]
+        done = subprocess.run(words, capture_output=True, text=True)
+    ranges = [tuple(map(int, line.split(":"))) for line in done.stdout.split()]
+    return ranges, done.stderr.removeprefix("colfind: ").rstrip("\n")
+
+
+def all_of(ranges) -> tuple[list[tuple[int, int]], str]:
+    """The ranges, and the message of the fault behind them up to its words."""
+    found = []
+    try:
+        for one in ranges:
+            found.append(one)
+    except Fault as fault:
+        return found, str(fault).split(":")[0]
+    return found, ""
 
 
 class Tests(unittest.TestCase):
     def setUp(self) -> None:
         self.table = Table(LETTERS.read_bytes())
 
-    def test_random_texts_in_random_pieces(self) -> None:
-        rng = random.Random(1)
-        for _ in range(100):
-            parts = ["resume", "r\u00e9sum\u00e9", "re\u0301sume\u0301", "a", "aa", " ", "e", "\u00e9", "s", "\u0301"]
-            text = "".join(rng.choice(parts) for _ in range(rng.randrange(30)))
-            sought, strength = rng.choice(["resume", "aa", "e", "a"]), rng.randrange(1, 4)
-            pattern = Pattern(self.table, sought, strength)
-            expected = by_program(text.encode(), sought, strength)
-            self.assertEqual(list(pattern.search(text.encode())), expected)
-            search, found, data = Search(pattern), [], text.encode()
-            while data:
-                n = rng.randrange(1, 9)
-                found += search.feed(data[:n])
-                data = data[n:]
-                if rng.random() < 0.3:
-                    search = Search(pattern, words=search.save())
-            self.assertEqual(found + search.finish(), expected)
-            first = pattern.index(text.encode())
-            self.assertEqual(first, expected[0] if expected else None)
+    def in_pieces(self, rng: random.Random, pattern: Pattern, data: bytes, chain: bool):
+        search = Search(pattern, chain)
+        while data:
+            size = rng.randrange(1, 9)
+            yield from search.feed(data[:size])
+            data = data[size:]
+            if rng.random() < 0.3:
+                search = pattern.resume(search.save(), chain)
+        yield from search.finish()
 
-    def test_characters(self) -> None:
-        pattern = Pattern(self.table, "resume", 1)
-        text = "r\u00e9sum\u00e9, re\u0301sume\u0301: resume"
-        self.assertEqual([text[s:e] for s, e in pattern.search(text)], ["r\u00e9sum\u00e9", "re\u0301sume\u0301", "resume"])
+    def test_random_texts(self) -> None:
+        rng = random.Random(1)
+        for _ in range(200):
+            text = "".join(rng.choice(PARTS[:-1] if rng.random() < 0.8 else PARTS) for _ in range(rng.randrange(30)))
+            data = text.encode("utf-8", "surrogatepass")
+            sought, strength, chain = rng.choice(["resume", "aa", "e", "a", "\u6f22"]), rng.randrange(1, 4), rng.random() < 0.5
+            with Pattern(self.table, sought, strength) as pattern:
+                expected, fault = by_program(data, sought, strength, chain)
+                self.assertEqual(all_of(pattern.search(data, chain)), (expected, fault))
+                self.assertEqual(all_of(self.in_pieces(rng, pattern, data, chain)), (expected, fault))
+                characters, _ = all_of(pattern.search(text, chain))
+                self.assertEqual([text[s:e] for s, e in characters], [data[s:e].decode() for s, e in expected])
+                start = rng.randrange(len(text) + 1)
+                expected, fault = by_program(text[start:].encode("utf-8", "surrogatepass"), sought, strength)
+                if expected:
+                    found = pattern.index(text, start)
+                    self.assertEqual(text[found[0]:found[1]], text[start:].encode("utf-8", "surrogatepass")[slice(*expected[0])].decode())
+                    self.assertGreaterEqual(found[0], start)
+                elif fault:
+                    self.assertRaises(Fault, pattern.index, text, start)
+                else:
+                    self.assertIsNone(pattern.index(text, start))
+
+    def test_file(self) -> None:
+        path = ROOT / "docs" / "example" / "text.txt"
+        for size in (1, 2, 3, 1 << 16):
+            with path.open("rb") as file, Search(Pattern(self.table, "resume", 1)) as search:
+                self.assertEqual(list(search.feed_file(file, size)), by_program(path.read_bytes(), "resume", 1)[0])
 
     def test_faults(self) -> None:
-        with self.assertRaises(Fault) as fault:
-            Table(b"nonsense\n")
-        self.assertEqual((fault.exception.kind, fault.exception.at), (1, 1))
-        with self.assertRaises(Fault) as fault:
-            Search(Pattern(self.table, "a")).feed(b"x\xff")
-        self.assertEqual((fault.exception.kind, fault.exception.at), (31, 1))
-        with self.assertRaises(Fault) as fault:
-            Search(Pattern(self.table, "a"), words=[1, 2])
-        self.assertEqual(fault.exception.kind, 51)
+        pattern = Pattern(self.table, "a")
+        ended = Search(pattern)
+        self.assertEqual(list(ended.stop()), [])
+        for kind, at, words, call in [
+            (1, 1, "fault 1 at 1: a line of the table file is malformed", lambda: Table(b"nonsense\n")),
+            (63, 2, "fault 63 at 2: in the tailor, the same", lambda: Table(LETTERS.read_bytes(), b"0061 ; [.1C00.0020.0002]\n" * 2)),
+            (22, 0, "fault 22 at 0: the pattern has nothing", lambda: Pattern(self.table, "")),
+            (31, 1, "fault 31 at 1: the text is not UTF-8", lambda: list(Search(pattern).feed(b"x\xff"))),
+            (31, 1, "fault 31 at 1: ", lambda: pattern.index("\u00e9\ud800")),
+            (31, 3, "fault 31 at 3: ", lambda: list(pattern.search("\u00e9xa\ud800"))),
+            (51, 0, "fault 51 at 0: the words are no saved search", lambda: pattern.resume([1, 2])),
+            (51, 0, "fault 51 at 0: ", lambda: pattern.resume([])),
+            (52, 0, "fault 52 at 0: ", lambda: Pattern(self.table, "aa").resume(Search(pattern).save())),
+            (83, 0, "fault 83 at 0: the search was finished", lambda: ended.feed(b"a")),
+            (83, 0, "fault 83 at 0: ", ended.save),
+            (85, 0, "fault 85 at 0: ", lambda: Pattern(self.table, "a", 4)),
+            (85, 0, "fault 85 at 0: ", lambda: pattern.index("a", 2)),
+        ]:
+            with self.assertRaises(Fault) as fault:
+                call()
+            self.assertEqual((fault.exception.kind, fault.exception.at), (kind, at))
+            self.assertTrue(str(fault.exception).startswith(words), str(fault.exception))
+
+    def test_freed(self) -> None:
+        with Search(Pattern(self.table, "a")) as search:
+            self.assertEqual(list(search.feed(b"a bb")), [(0, 1)])
+        for call in (search.finish, search.save, lambda: search.feed(b"a")):
+            with self.assertRaises(Fault) as fault:
+                call()
+            self.assertEqual(fault.exception.kind, 82)
+
+    def test_catalogue(self) -> None:
+        titles = made_titles(2_000)
+        ranges, _ = by_program("".join(title + "\n" for title in titles).encode(), "resume", 1)
+        expected, end = [], 0
+        for title in titles:
+            start, end = end, end + len(title.encode()) + 1
+            if any(start <= one < end for one, _ in ranges):
+                expected.append(title)
+        rows = catalogue(titles, Pattern(self.table, "resume", 1)).execute("SELECT title FROM books WHERE found(title)")
+        self.assertEqual([title for title, in rows], expected)
 
 
 if __name__ == "__main__":

@@ -1,6 +1,6 @@
 /* Calls of the C library, and of ICU.
 
-     calls TABLE PATTERN             prints how many ranges standard input has, read in pieces of 4,096 bytes
+     calls TABLE PATTERN             prints how many ranges standard input has, read in pieces of 65,536 bytes
      calls TABLE PATTERN TITLES N    nanoseconds of processor time for each line of the file TITLES, searched N times over, and how many
                                      lines have a match: by colfind_first_in, by colfind_index, and by ICU with its text in UTF-16
    At strength 1. The status is 2 where something is wrong. */
@@ -39,7 +39,7 @@ static double seconds(void) {
 static void count_ranges(colfind_handle *pattern) {
     colfind_handle search = {0};
     colfind_range ranges[256];
-    uint8_t piece[4096];
+    static uint8_t piece[65536];
     size_t n, taken, all = 0;
     need(colfind_search(pattern, &search, COLFIND_ALL).kind == 0, "search");
     while ((n = fread(piece, 1, sizeof piece, stdin)) > 0) {
