@@ -76,8 +76,8 @@ enum colfind_kind {
     COLFIND_SMALL_BUFFER = 84, /* `at` says how many words are needed */
     COLFIND_BAD_ARGUMENT = 85  /* a number that is none of the ones below, a pattern that is no UTF-8, or an offset behind the text */
 };
-/* With 14, 24, 36, 53 and 81 memory was refused: all handles are as they were, and the call can be made again. With each other fault but
- * those of a text, 51 from colfind_feed and 83 all handles are as they were too. */
+/* With 14, 24, 36, 53 and 81 memory was refused: all handles are as they were, and the call can be made again. So they are with each other
+ * fault, but for a search that was fed a fault of its text, or 51 by colfind_feed. */
 
 enum { COLFIND_ALL = 0, COLFIND_CHAIN = 1 };             /* selection: all minimal matches, or a chain that do not overlap */
 enum { COLFIND_NON_IGNORABLE = 0, COLFIND_SHIFTED = 1 }; /* variable weighting */

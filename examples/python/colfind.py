@@ -1,34 +1,21 @@
 """Finds a pattern in text by Unicode collation (UTS #10), by the proved C library. `./build` makes the shared object that it loads."""
 from __future__ import annotations
 
-from collections.abc import Iterator
-from ctypes import CDLL, POINTER, Structure, c_char_p, c_size_t, c_uint8, c_uint32, c_uint64, c_void_p, create_string_buffer
+from collections.abc import Callable, Iterator
+from ctypes import POINTER, PyDLL, Structure, c_char_p, c_size_t, c_uint8, c_uint32, c_uint64, c_void_p, create_string_buffer
 from pathlib import Path
 from typing import BinaryIO
 
 
-class _Handle(Structure):
-    _fields_ = [("at", c_void_p)]
+def _struct(**fields: type) -> type[Structure]:
+    return type("Struct", (Structure,), {"_fields_": list(fields.items())})
 
 
-class _Range(Structure):
-    _fields_ = [("start", c_uint64), ("end", c_uint64)]
-
-
-class _Status(Structure):
-    _fields_ = [("kind", c_uint32), ("at", c_uint64)]
-
-
-class _Saved(Structure):
-    _fields_ = [("status", _Status), ("words", c_size_t)]
-
-
-class _First(Structure):
-    _fields_ = [("status", _Status), ("is_found", c_uint32), ("range", _Range)]
-
-
+_Handle, _Range, _Status = _struct(at=c_void_p), _struct(start=c_uint64, end=c_uint64), _struct(kind=c_uint32, at=c_uint64)
+_Saved, _First = _struct(status=_Status, words=c_size_t), _struct(status=_Status, is_found=c_uint32, range=_Range)
 Ranges = Iterator[tuple[int, int]]
-_C = CDLL(str(Path(__file__).parent / "out" / "libcolfind.so"))
+# a call holds the lock of the interpreter, so that no handle is in two calls at once
+_C = PyDLL(str(Path(__file__).parent / "out" / "libcolfind.so"))
 _HANDLE, _WORDS, _BYTES = POINTER(_Handle), POINTER(c_uint64), [c_char_p, c_size_t]
 for _name, _result, _types in [
     ("table", _Status, [_HANDLE, *_BYTES, *_BYTES]), ("pattern", _Status, [_HANDLE, _HANDLE, *_BYTES, c_uint8, c_uint8]),
@@ -51,12 +38,12 @@ class Fault(Exception):
         self.kind, self.at = kind, at
 
 
-def _check(status: _Status) -> None:
+def _check(status: Structure) -> None:
     if status.kind:
         raise Fault(status.kind, status.at)
 
 
-def _then_fault(ranges: list[_Range], status: _Status) -> Ranges:
+def _then_fault(ranges: list[Structure], status: Structure) -> Ranges:
     yield from ((one.start, one.end) for one in ranges)
     _check(status)
 
@@ -65,16 +52,15 @@ def _encoded(text: str | bytes) -> bytes:
     return text if isinstance(text, bytes) else text.encode("utf-8", "surrogatepass")
 
 
-class _Characters:
+def _characters_of(data: bytes) -> Callable[[int], int]:
     """The offsets of characters from those of bytes, which rise from call to call."""
+    byte = count = 0
 
-    def __init__(self, data: bytes) -> None:
-        self.data, self.byte, self.count = data, 0, 0
-
-    def __call__(self, byte: int) -> int:
-        self.count += len(self.data[self.byte:byte].decode("utf-8", "surrogatepass"))
-        self.byte = byte
-        return self.count
+    def character(place: int) -> int:
+        nonlocal byte, count
+        count, byte = count + len(data[byte:place].decode("utf-8", "surrogatepass")), place
+        return count
+    return character
 
 
 class _Owner:
@@ -113,7 +99,7 @@ class Pattern(_Owner):
         """The ranges of a text, all or a chain that do not overlap: offsets of characters in a str, of bytes in bytes. A fault of the text
         is raised behind the ranges before it."""
         data = _encoded(text)
-        start_of, end_of = (int, int) if len(data) == len(text) else (_Characters(data), _Characters(data))
+        start_of, end_of = (int, int) if len(data) == len(text) else (_characters_of(data), _characters_of(data))
         with Search(self, chain) as search:
             try:
                 for step in (lambda: search.feed(data), search.finish):
@@ -126,7 +112,7 @@ class Pattern(_Owner):
         data = _encoded(text)
         if len(data) == len(text):
             return self._titles.first_in(data, start)
-        place = _Characters(data)
+        place = _characters_of(data)
         try:
             found = self._titles.first_in(data, len(_encoded(text[:start])))
         except Fault as fault:
@@ -149,7 +135,7 @@ class Search(_Owner):
         else:
             _check(_C.colfind_resume(pattern._handle, self._handle, chain, (c_uint64 * (len(words) or 1))(*words), len(words)))
 
-    def _taken(self, status: _Status) -> Ranges:
+    def _taken(self, status: Structure) -> Ranges:
         if status.kind in (81, 82, 83):
             _check(status)
         waiting = _C.colfind_pending(self._handle)
