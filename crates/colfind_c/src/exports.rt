@@ -203,7 +203,8 @@ pub extern "C" fn colfind_pattern(
 ) -> Status
     ensures made { Says result
         (λ outcome. OfTable
-        (λ t how. MakesPattern t text.now strength variable how out.old.value out.new.value) table.old.value outcome) }
+        (λ t how. MakesPattern t text.now strength variable how out.old.value out.new.value)
+        table.old.value outcome) }
     ensures same { table.new.value ≡ table.old.value }
 {
     match table_of(alloc, table) {
@@ -250,7 +251,8 @@ pub extern "C" fn colfind_search(
 ) -> Status
     ensures made { Says result
         (λ outcome. OfPattern
-        (λ q how. StartsSearch q select how out.old.value out.new.value) pattern.old.value outcome) }
+        (λ q how. StartsSearch q select how out.old.value out.new.value)
+        pattern.old.value outcome) }
     ensures same { pattern.new.value ≡ pattern.old.value }
 {
     match query_of(alloc, pattern) {
@@ -284,7 +286,8 @@ pub extern "C" fn colfind_resume(
 ) -> Status
     ensures made { Says result
         (λ outcome. OfPattern
-        (λ q how. GoesOnFrom q select words.now how out.old.value out.new.value) pattern.old.value outcome) }
+        (λ q how. GoesOnFrom q select words.now how out.old.value out.new.value)
+        pattern.old.value outcome) }
     ensures same { pattern.new.value ≡ pattern.old.value }
 {
     match query_of(alloc, pattern) {
@@ -309,7 +312,8 @@ fn feed_owned(owned: &mut Owned, piece: &[u8]) -> Outcome
 pub extern "C" fn colfind_feed(alloc: Global, search: &mut Handle, piece: &[u8]) -> Status
     ensures fed { Says result
         (λ outcome. OfSearch
-        (λ old how new. FeedsSession old piece.now how new) search.old.value outcome search.new.value) }
+        (λ old how new. FeedsSession old piece.now how new)
+        search.old.value outcome search.new.value) }
 {
     match take(alloc, search) {
         Some(mut owned) => {
@@ -467,7 +471,8 @@ pub struct Saved {
 pub extern "C" fn colfind_save(alloc: Global, search: &mut Handle, out: &mut [u64]) -> Saved
     ensures saved { Says result.status
         (λ outcome. OfSearch
-        (λ old how new. SavesInto out.old out.new result.words old how new) search.old.value outcome search.new.value) }
+        (λ old how new. SavesInto out.old out.new result.words old how new)
+        search.old.value outcome search.new.value) }
 {
     match take(alloc, search) {
         Some(mut owned) => {

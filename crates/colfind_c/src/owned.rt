@@ -27,7 +27,9 @@ pub struct Session {
     /// The search, until it was finished or stopped.
     pub(crate) parked: Option<Parked>,
     pub(crate) queue: Queue,
-    ghost fits: { ForSome parked (λ p. IsFor (table_of (arc_value query)) (arc_value query).pattern p × (parked_select p ≡ select)) },
+    ghost fits: { ForSome parked (λ p.
+        IsFor (table_of (arc_value query)) (arc_value query).pattern p
+        × (parked_select p ≡ select)) },
     ghost kept: { ForSome parked (λ _. queue.lost ≡ false) },
 }
 

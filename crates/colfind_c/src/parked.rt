@@ -1,7 +1,7 @@
 //! Calls of a search that is put away before and after them.
 
 ghost use Rattle.std.specs.Prelude.{◌≡◌, ℕ, ◌+◌, ◌≤◌, List, [], ◌++◌, length, None, Some, OnOk};
-ghost use Rattle.collation_matches.specs.Sought.{IsCompiledFrom, answer_to, settled_in};
+ghost use Rattle.collation_matches.specs.Sought.{IsCompiledFrom, answer_to, seeking, settled_in};
 ghost use Rattle.collation_matches.specs.GoodPrefix.{whole};
 ghost use Rattle.collation_search.specs.declared.matching.TheConstants.{MOST_FOUND};
 ghost use Rattle.collation_search.specs.Feeding.{Feeds};
@@ -65,7 +65,8 @@ pub(crate) fn feed_parked<W: Weights>(
     ensures select { parked_select result.1 ≡ parked_select parked }
     ensures fed { (found : List (ℕ × ℕ))
         × FeedsParked
-        (record { table = W.table table.now; pattern = pattern.now; select = parked_select parked }) parked piece.now result.0 found result.1
+        (seeking (W.table table.now) pattern.now (parked_select parked))
+        parked piece.now result.0 found result.1
         × Gets queue.old found queue.new }
 {
     let mut search = parked.unpark(table, pattern);
@@ -90,11 +91,11 @@ pub(crate) fn first_parked<W: Weights>(
     ensures select { parked_select result.1 ≡ parked_select parked }
     ensures first { (p : List ℕ)
         → IsCompiledFrom
-        (record { table = W.table table.now; pattern = pattern.now; select = parked_select parked }) p
+        (seeking (W.table table.now) pattern.now (parked_select parked)) p
         → IsFirstFrom
-        (record { table = W.table table.now; pattern = pattern.now; select = parked_select parked }) p text.now from result.0 }
+        (seeking (W.table table.now) pattern.now (parked_select parked)) p text.now from result.0 }
     ensures stands { HasParked
-        (record { table = W.table table.now; pattern = pattern.now; select = parked_select parked }) result.1 [] [] }
+        (seeking (W.table table.now) pattern.now (parked_select parked)) result.1 [] [] }
 {
     let mut search = parked.unpark(table, pattern);
     let first = search.first_from(text, from);
@@ -111,7 +112,7 @@ pub(crate) fn finish_parked<W: Weights>(
     requires fits { IsFor (W.table table.now) pattern.now parked }
     ensures finished { (found : List (ℕ × ℕ))
         × FinishesParked
-        (record { table = W.table table.now; pattern = pattern.now; select = parked_select parked }) parked result found
+        (seeking (W.table table.now) pattern.now (parked_select parked)) parked result found
         × Gets queue.old found queue.new × (length found ≤ MOST_FOUND) }
 {
     let search = parked.unpark(table, pattern);
@@ -132,11 +133,11 @@ pub(crate) fn stop_parked<W: Weights>(
     ensures settled { (found : List (ℕ × ℕ))
         × ((text u : List ℕ) (handed : List (ℕ × ℕ))
         → IsCompiledFrom
-        (record { table = W.table table.now; pattern = pattern.now; select = parked_select parked }) text
-        → HasParked (record { table = W.table table.now; pattern = pattern.now; select = parked_select parked }) parked u handed
+        (seeking (W.table table.now) pattern.now (parked_select parked)) text
+        → HasParked (seeking (W.table table.now) pattern.now (parked_select parked)) parked u handed
         → handed ++ found
         ≡ settled_in
-        (record { table = W.table table.now; pattern = pattern.now; select = parked_select parked }) text (whole u))
+        (seeking (W.table table.now) pattern.now (parked_select parked)) text (whole u))
         × Gets queue.old found queue.new × (length found ≤ MOST_FOUND) }
 {
     let search = parked.unpark(table, pattern);
@@ -158,10 +159,10 @@ pub(crate) fn save_parked<W: Weights>(
     ensures saved { OnOk result.0
         (words.new.items
         ≡ words.old.items ++ parked_words
-        (record { table = W.table table.now; pattern = pattern.now; select = parked_select parked }) parked) }
+        (seeking (W.table table.now) pattern.now (parked_select parked)) parked) }
     ensures kept { (u : List ℕ) (handed : List (ℕ × ℕ))
-        → HasParked (record { table = W.table table.now; pattern = pattern.now; select = parked_select parked }) parked u handed
-        → HasParked (record { table = W.table table.now; pattern = pattern.now; select = parked_select parked }) result.1 u handed }
+        → HasParked (seeking (W.table table.now) pattern.now (parked_select parked)) parked u handed
+        → HasParked (seeking (W.table table.now) pattern.now (parked_select parked)) result.1 u handed }
 {
     let search = parked.unpark(table, pattern);
     let saved = search.save(words);

@@ -5,7 +5,7 @@ use Rattle.collation_elements.specs.declared.keys.Key.{Key}
 use Rattle.collation_pattern.specs.Border.{same_keys, ends_with_prefix, border_up_to, border}
 use Rattle.collation_matches.specs.ByClusters.{PlacedKey}
 use Rattle.collation_matches.specs.ByClusters.{range_from, ended_by_keys}
-use Rattle.collation_matches.proofs.BridgeKeys.{same_keys-true}
+use Rattle.collation_pattern.proofs.KeyEquality.{same_keys-true}
 use Rattle.collation_matches.proofs.BridgeGrowing.{take_all}
 
 pub border_up_to-le : (pattern ks : List Key) (j : ℕ) → border_up_to pattern ks j ≤ j

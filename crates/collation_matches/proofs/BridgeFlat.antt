@@ -7,7 +7,7 @@ use Rattle.collation_pattern.specs.Border.{same_keys}
 use Rattle.collation_matches.specs.ByClusters.{has_keys, last_has_keys, starts_of, placed_at, placed, range_from, ended_by_keys}
 use Rattle.collation_matches.specs.ByClusters.{PlacedKey}
 use Rattle.collation_matches.specs.ByClustersLaws.{last_keys_decide}
-use Rattle.collation_matches.proofs.BridgeKeys.{same_keys-true}
+use Rattle.collation_pattern.proofs.KeyEquality.{same_keys-true}
 use Rattle.collation_matches.proofs.BridgeFound.{begins, starts_short, to_end}
 
 abbrev key_of : PlacedKey → Key

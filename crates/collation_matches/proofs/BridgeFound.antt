@@ -8,7 +8,7 @@ use Rattle.collation_pattern.specs.Border.{same_keys}
 use Rattle.collation_matches.specs.ByClusters.{has_keys, last_has_keys, starts_of, ended, found_within}
 use Rattle.collation_matches.proofs.BridgeLists.{In, Rising, in_append, in_left, in_right, in_map, map_in, rising_append}
 use Rattle.collation_matches.proofs.BridgeRanges.{Below, Before}
-use Rattle.collation_matches.proofs.BridgeKeys.{same_keys-true, same_keys-decides}
+use Rattle.collation_pattern.proofs.KeyEquality.{same_keys-true, same_keys-decides}
 use Rattle.collation_matches.proofs.BridgeClusters.{bound, prefix, keyed, last_keyed, prefix_grows, prefix_keyed, bound_rises}
 
 in_one : (b : Bool) (x s : ℕ) → In (cond b (x ∷ []) []) s → (b ≡ true) × (x ≡ s)

@@ -1,6 +1,5 @@
 pub mod BridgeLists
 pub mod BridgeRanges
-pub mod BridgeKeys
 pub mod BridgeClusters
 pub mod BridgeFound
 pub mod BridgeMinimal

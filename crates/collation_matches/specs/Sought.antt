@@ -13,6 +13,9 @@ pub record Sought : Type 0 where
   pub pattern : Compiled
   pub select : Select
 
+abbrev pub seeking : TableMap → Compiled → Select → Sought
+seeking table pattern select = record { table = table; pattern = pattern; select = select }
+
 -- the pattern is what compiling this text with this table gives
 abbrev pub IsCompiledFrom : Sought → List ℕ → Type 0
 IsCompiledFrom s text = IsCompiledWith s.table s.pattern text

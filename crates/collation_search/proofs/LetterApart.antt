@@ -18,8 +18,8 @@ use Rattle.collation_letters.specs.declared.letter.Letter.{Letter}
 use Rattle.collation_letters.specs.declared.letter.Role.TheVariants.{Steps}
 use Rattle.collation_letters.specs.Letters.{begins_cluster, is_mark, flag_after, keys_alone, IsPossible, IsLetter}
 use Rattle.collation_letters.specs.Symbols.{AreLastSymbols, listed}
-use Rattle.collation_search.specs.declared.walk.Walk.{Walk}
-use Rattle.collation_search.specs.Apart.{HasWalked, HasWalkedOn}
+use Rattle.collation_search.specs.declared.matching.Matcher.{Matcher}
+use Rattle.collation_search.specs.Matching.{HasWalked, HasWalkedOn}
 use Rattle.collation_search.specs.Walks.{WalksOver, letter_items}
 use Rattle.collation_letters.proofs.CharacterLemmas.{points_are_shifted}
 use Rattle.collation_letters.proofs.JoiningLemmas.{after-plain}
@@ -35,12 +35,13 @@ GoesOnLaw =
     (table : TableMap) (w : Weigher) (us vs : List (List Point)) (given more : List Item) (after : Bool) → items_of table w.strength w.variable w.after_variable vs ≡ more →
     after_units table w.variable w.after_variable vs ≡ after → WeigherStandsFor table w us given → WeigherStandsFor table (weigher w.strength w.variable after) (us ++ vs) (given ++ more)
 
-pub walked-on : GoesOnLaw → PointsAreShifted → (table : TableMap) (pattern : Compiled) (w w' : Weigher) (walk walk' : Walk) (start : ℕ) (cs : List ℕ) (l : Letter) (found : List (ℕ × ℕ)) → l.role ≢ Steps →
-    is_mark l.role ≡ false → IsLetter table pattern cs l → w' ≡ weigher pattern.strength pattern.variable (flag_after l.role w.after_variable) →
-    ((items : List Item) (ranges : List (ℕ × ℕ)) (keys : List Key) → AreLastSymbols pattern.keys keys (listed l.symbols) → WalksOver pattern.keys items ranges walk →
-    WalksOver pattern.keys (items ++ letter_items l.role start keys) (ranges ++ found) walk') →
-    HasWalkedOn table pattern w walk w' walk' (units table (points_from start cs)) found
-walked-on law shift table pattern w w' walk walk' start cs l found known starter h made walks = λ before ranges on.
+pub walked-on : GoesOnLaw → PointsAreShifted → (table : TableMap) (pattern : Compiled) (m m' : Matcher) (start : ℕ) (cs : List ℕ) (l : Letter) (found : List (ℕ × ℕ)) → l.role ≢ Steps →
+    is_mark l.role ≡ false → IsLetter table pattern cs l → m'.weigher ≡ weigher pattern.strength pattern.variable (flag_after l.role m.weigher.after_variable) →
+    ((items : List Item) (ranges : List (ℕ × ℕ)) (keys : List Key) → AreLastSymbols pattern.keys keys (listed l.symbols) → WalksOver pattern.keys items ranges m.walk →
+    WalksOver pattern.keys (items ++ letter_items l.role start keys) (ranges ++ found) m'.walk) →
+    HasWalkedOn table pattern m m' (units table (points_from start cs)) found
+walked-on law shift table pattern m m' start cs l found known starter h made walks = λ before ranges on.
+    let w = m.weigher in
     let k = h.known known in
     let S : Strength = pattern.strength in
     let V : Variable = pattern.variable in
@@ -54,7 +55,7 @@ walked-on law shift table pattern w w' walk walk' start cs l found known starter
     ap₂ (λ (s : Strength) (v : Variable). items_of table s v flag us) on.strength on.variable ∙ ap (items_of table S V flag) here ∙ has.items start in
     let leaves : after_units table w.variable flag us ≡ flag_after l.role flag =
     ap (λ (v : Variable). after_units table v flag us) on.variable ∙ ap (after_units table V flag) here ∙ has.flag_is start in
-    let same : weigher w.strength w.variable (flag_after l.role flag) ≡ w' = ap₂ (λ (s : Strength) (v : Variable). weigher s v (flag_after l.role flag)) on.strength on.variable ∙ sym made in
+    let same : weigher w.strength w.variable (flag_after l.role flag) ≡ m'.weigher = ap₂ (λ (s : Strength) (v : Variable). weigher s v (flag_after l.role flag)) on.strength on.variable ∙ sym made in
     let symbols = subst (λ ss. AreLastSymbols pattern.keys (keys_alone table pattern (points_from 0 cs) flag) ss) (starter-counted l.role flag (listed l.symbols) starter) has.symbols_are in
     record {
       items = on.items ++ given;

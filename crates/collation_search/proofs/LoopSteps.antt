@@ -7,21 +7,21 @@ use Rattle.std.proofs.lemmas.Str.{IsUtf8-nil, chars-nil}
 use Rattle.utf8_cut.specs.Sequences.{SpellsCharacter}
 use Rattle.nfd_points.specs.Points.{byte_len, points_of, points_from, begins_with_starter}
 use Rattle.collation_table.specs.Table.{TableMap}
-use Rattle.collation_elements.specs.declared.weigher.Weigher.{Weigher}
 use Rattle.collation_elements.specs.Units.{units}
 use Rattle.collation_pattern.specs.Compiled.{Compiled}
 use Rattle.collation_letters.specs.Apart.{IsNext}
-use Rattle.collation_search.specs.declared.walk.Walk.{Walk}
-use Rattle.collation_search.specs.Apart.{AreApart, HasWalkedOn}
+use Rattle.collation_search.specs.declared.matching.Matcher.{Matcher}
+use Rattle.collation_search.specs.Apart.{AreApart}
+use Rattle.collation_search.specs.Matching.{HasWalkedOn}
 use Rattle.collation_search.specs.LetterRun.{AreNext, HasComeTo}
 use Rattle.collation_search.proofs.ApartLaws.{Laws}
 use Rattle.collation_search.proofs.ApartLemmas.{apart-none, apart-more, units-apart, from_none}
 use Rattle.collation_search.proofs.CharacterLemmas.{on-none, on-more, text-part, chars-len, spells-after}
 
 -- nothing so far
-pub come-none : Laws → (table : TableMap) (pattern : Compiled) (piece : List ℕ) (offset reach first : ℕ) (weigher : Weigher) (walk : Walk) → len_utf8 first ≤ length piece → SpellsCharacter (take (len_utf8 first) piece) first →
-    begins_with_starter (points_of offset first) ≡ true → HasComeTo table pattern piece offset reach first weigher walk weigher walk 0 first []
-come-none laws table pattern piece offset reach first weigher walk within spelled begins =
+pub come-none : Laws → (table : TableMap) (pattern : Compiled) (piece : List ℕ) (offset reach first : ℕ) (matcher : Matcher) → len_utf8 first ≤ length piece → SpellsCharacter (take (len_utf8 first) piece) first →
+    begins_with_starter (points_of offset first) ≡ true → HasComeTo table pattern piece offset reach first matcher matcher 0 first []
+come-none laws table pattern piece offset reach first matcher within spelled begins =
     let none : points_from offset (chars (take 0 piece)) ≡ [] = ap (points_from offset) chars-nil ∙ from_none offset in
     record {
       near = omega arith;
@@ -30,18 +30,18 @@ come-none laws table pattern piece offset reach first weigher walk within spelle
       text = IsUtf8-nil;
       begun = ([], ap (λ (cs : List ℕ). cs ++ first ∷ []) chars-nil);
       apart = subst (λ (cs : List ℕ). AreApart table offset cs first) (sym chars-nil) (apart-none laws table offset first begins);
-      walked = on-none table pattern weigher walk (units table (points_from offset (chars (take 0 piece)))) (ap (units table) none);
+      walked = on-none table pattern matcher (units table (points_from offset (chars (take 0 piece)))) (ap (units table) none);
     }
 
 joined : (cs others : List ℕ) (c next : ℕ) → (cs ++ c ∷ others) ++ next ∷ [] ≡ (cs ++ c ∷ []) ++ (others ++ next ∷ [])
 joined cs others c next = append_assoc cs (c ∷ others) (next ∷ []) ∙ sym (append_assoc cs (c ∷ []) (others ++ next ∷ []))
 
 -- and the next characters
-pub come-further : Laws → (table : TableMap) (pattern : Compiled) (piece : List ℕ) (offset reach first at to c next : ℕ) (weigher weigher₁ weigher₂ : Weigher) (walk walk₁ walk₂ : Walk) (ranges found : List (ℕ × ℕ)) →
-    HasComeTo table pattern piece offset reach first weigher walk weigher₁ walk₁ at c ranges → AreNext table piece offset reach at to c next →
-    HasWalkedOn table pattern weigher₁ walk₁ weigher₂ walk₂ (units table (points_from (offset + at) (chars (take (to - at) (drop at piece))))) found →
-    HasComeTo table pattern piece offset reach first weigher walk weigher₂ walk₂ to next (ranges ++ found)
-come-further laws table pattern piece offset reach first at to c next weigher weigher₁ weigher₂ walk walk₁ walk₂ ranges found h n goes =
+pub come-further : Laws → (table : TableMap) (pattern : Compiled) (piece : List ℕ) (offset reach first at to c next : ℕ) (m m₁ m₂ : Matcher) (ranges found : List (ℕ × ℕ)) →
+    HasComeTo table pattern piece offset reach first m m₁ at c ranges → AreNext table piece offset reach at to c next →
+    HasWalkedOn table pattern m₁ m₂ (units table (points_from (offset + at) (chars (take (to - at) (drop at piece))))) found →
+    HasComeTo table pattern piece offset reach first m m₂ to next (ranges ++ found)
+come-further laws table pattern piece offset reach first at to c next m m₁ m₂ ranges found h n goes =
     let cs = chars (take at piece) in
     let more = chars (take (to - at) (drop at piece)) in
     let upto = text-part piece at to n.forth h.text n.part in
@@ -60,7 +60,7 @@ come-further laws table pattern piece offset reach first at to c next weigher we
         ap (λ (t : List ℕ). t ++ next ∷ []) (upto.1 ∙ ap (λ (t : List ℕ). cs ++ t) n.first.1) ∙ joined cs n.first.0 c next ∙ ap (λ (t : List ℕ). t ++ (n.first.0 ++ next ∷ [])) h.begun.1,
       );
       apart = subst (λ (t : List ℕ). AreApart table offset t next) (sym upto.1) (apart-more laws table offset c next cs n.first.0 more n.first.1 h.apart ends);
-      walked = on-more table pattern weigher weigher₁ weigher₂ walk walk₁ walk₂
+      walked = on-more table pattern m m₁ m₂
           (units table (points_from offset cs)) (units table (points_from (offset + at) more)) (units table (points_from offset (chars (take to piece)))) ranges found cut h.walked goes;
     }
 

@@ -19,7 +19,7 @@ use Rattle.collation_elements.specs.Weighing.{value_items}
 use Rattle.std.proofs.lemmas.List.{append-nil}
 use Rattle.collation_elements.specs.Windows.{Held}
 use Rattle.collation_pattern.specs.Compiled.{Compiled}
-use Rattle.collation_search.specs.declared.walk.Walk.{Walk}
+use Rattle.collation_search.specs.declared.matching.Matcher.{Matcher}
 use Rattle.collation_search.specs.Matching.{HasMatched}
 
 pub item_starts-append : (xs ys : List Item) → item_starts (xs ++ ys) ≡ item_starts xs ++ item_starts ys
@@ -61,10 +61,10 @@ starts_so_far xs i d h =
     omega (arith, sum, more)
 
 -- nothing was found yet in this call
-pub matched-first : (table : TableMap) (pattern : Compiled) (window : Held) (weigher : Weigher) (walk : Walk) (ps : List Point) (ranges first : List (ℕ × ℕ)) →
-    first ≡ [] → HasMatched table pattern window weigher walk ps ranges → HasMatched table pattern window weigher walk ps (ranges ++ first)
-matched-first table pattern window weigher walk ps ranges first none h =
-    subst (HasMatched table pattern window weigher walk ps) (sym (ap (λ t. ranges ++ t) none ∙ append-nil ranges)) h
+pub matched-first : (table : TableMap) (pattern : Compiled) (window : Held) (matcher : Matcher) (ps : List Point) (ranges first : List (ℕ × ℕ)) →
+    first ≡ [] → HasMatched table pattern window matcher ps ranges → HasMatched table pattern window matcher ps (ranges ++ first)
+matched-first table pattern window matcher ps ranges first none h =
+    subst (HasMatched table pattern window matcher ps) (sym (ap (λ t. ranges ++ t) none ∙ append-nil ranges)) h
 
 -- a range is handed out at a start only
 pub few_at_start : (item : Item) (range : Option (ℕ × ℕ)) → IfSome range (λ r. item ≡ ClusterStart r.1) → length (option_to_list range) ≤ length (item_starts (item ∷ []))

@@ -8,15 +8,14 @@ use Rattle.nfd_points.specs.declared.points.Point.{Point}
 use Rattle.nfd_points.specs.Points.{byte_len, points_of, points_from, points, is_starter, begins_with_starter, ordered}
 use Rattle.nfd_points.specs.Reordering.{Waiting, is_non_starter}
 use Rattle.collation_table.specs.Table.{TableMap}
-use Rattle.collation_elements.specs.declared.weigher.Weigher.{Weigher}
 use Rattle.collation_elements.specs.Units.{units}
 use Rattle.collation_elements.specs.Items.{items}
 use Rattle.collation_elements.specs.declared.keys.Item.{Item}
 use Rattle.collation_elements.specs.Windows.{Held}
 use Rattle.collation_pattern.specs.Compiled.{Compiled}
-use Rattle.collation_search.specs.declared.walk.Walk.{Walk}
-use Rattle.collation_search.specs.Apart.{EndsBefore, AreApart, HasWalked, HasWalkedOn, IsPausedBefore}
-use Rattle.collation_search.specs.Matching.{HasMatched}
+use Rattle.collation_search.specs.declared.matching.Matcher.{Matcher}
+use Rattle.collation_search.specs.Apart.{EndsBefore, AreApart, IsPausedBefore}
+use Rattle.collation_search.specs.Matching.{HasWalked, HasWalkedOn, HasMatched}
 use Rattle.collation_search.specs.Walks.{WalksOver}
 use Rattle.collation_search.proofs.ApartLaws.{Laws}
 use Rattle.collation_search.proofs.ApartLemmas.{Splits, begun, begins_anywhere, from_first, from_none, len_none, units-more, splits-more, ends_here, ends_there}
@@ -98,17 +97,17 @@ ends-on laws table ps start first others (c ∷ cs) next same ends h =
 
 -- ---- both
 
-pub paused-on : Laws → (table : TableMap) (pattern : Compiled) (waiting : Waiting) (window : Held) (weigher weigher' : Weigher) (walk walk' : Walk) (taken cs : List ℕ) (first next : ℕ)
-    (others : List ℕ) (ranges found : List (ℕ × ℕ)) → cs ++ next ∷ [] ≡ first ∷ others → IsPausedBefore table pattern waiting window weigher walk taken ranges first →
-    AreApart table (byte_len taken) cs next → HasWalkedOn table pattern weigher walk weigher' walk' (units table (points_from (byte_len taken) cs)) found →
-    IsPausedBefore table pattern waiting window weigher' walk' (taken ++ cs) (ranges ++ found) next
-paused-on laws table pattern waiting window weigher weigher' walk walk' taken cs first next others ranges found same h run walked =
+pub paused-on : Laws → (table : TableMap) (pattern : Compiled) (waiting : Waiting) (window : Held) (matcher matcher' : Matcher) (taken cs : List ℕ) (first next : ℕ)
+    (others : List ℕ) (ranges found : List (ℕ × ℕ)) → cs ++ next ∷ [] ≡ first ∷ others → IsPausedBefore table pattern waiting window matcher taken ranges first →
+    AreApart table (byte_len taken) cs next → HasWalkedOn table pattern matcher matcher' (units table (points_from (byte_len taken) cs)) found →
+    IsPausedBefore table pattern waiting window matcher' (taken ++ cs) (ranges ++ found) next
+paused-on laws table pattern waiting window matcher matcher' taken cs first next others ranges found same h run walked =
     let all = points-on laws table taken cs next run in
     let at = byte_len taken in
     let cut : units table (points (taken ++ cs)) ≡ units table (points taken) ++ units table (points_from at cs) = ap (units table) all ∙ units-on laws table (points taken) at first others cs next same h.ends in
     record {
       paused = record {
-        walked = subst (λ us. HasWalked table pattern weigher' walk' us (ranges ++ found)) (sym cut) (walked (units table (points taken)) ranges h.paused.walked);
+        walked = subst (λ us. HasWalked table pattern matcher' us (ranges ++ found)) (sym cut) (walked (units table (points taken)) ranges h.paused.walked);
         none_waits = h.paused.none_waits;
         none_left = h.paused.none_left;
         good = laws.anew taken cs (run_begins_anywhere laws at 0 cs (run_begins laws table at cs next run)) h.paused.good run.good;
@@ -120,21 +119,21 @@ paused-on laws table pattern waiting window weigher weigher' walk walk' taken cs
 -- ---- the beginning
 
 -- where all units of the points were cut, they were walked over
-pub walked-all : (table : TableMap) (pattern : Compiled) (window : Held) (weigher : Weigher) (walk : Walk) (ps : List Point) (ranges : List (ℕ × ℕ)) →
-    HasMatched table pattern window weigher walk ps ranges → window.points ≡ [] → HasWalked table pattern weigher walk (units table ps) ranges
-walked-all table pattern window weigher walk ps ranges h none =
+pub walked-all : (table : TableMap) (pattern : Compiled) (window : Held) (matcher : Matcher) (ps : List Point) (ranges : List (ℕ × ℕ)) →
+    HasMatched table pattern window matcher ps ranges → window.points ≡ [] → HasWalked table pattern matcher (units table ps) ranges
+walked-all table pattern window matcher ps ranges h none =
     let all = h.cut.continues [] (λ e. refl) in
     let after : units table (window.points ++ []) ≡ [] = ap (λ qs. units table (qs ++ [])) none in
     let cut : units table ps ≡ h.units = ap (units table) (sym (append-nil ps)) ∙ all ∙ ap (λ us. h.units ++ us) after ∙ append-nil h.units in
-    subst (λ us. HasWalked table pattern weigher walk us ranges) (sym cut)
-    (record { items = h.items; weighed = h.weighed; walked = h.walked; strength = h.strength; variable = h.variable })
+    subst (λ us. HasWalked table pattern matcher us ranges) (sym cut)
+    h.went
 
-pub walked-items : (table : TableMap) (pattern : Compiled) (weigher : Weigher) (walk : Walk) (us : List (List Point)) (ranges : List (ℕ × ℕ)) →
-    HasWalked table pattern weigher walk us ranges → WalksOver pattern.keys (items table pattern.strength pattern.variable false us) ranges walk
-walked-items table pattern weigher walk us ranges h =
+pub walked-items : (table : TableMap) (pattern : Compiled) (matcher : Matcher) (us : List (List Point)) (ranges : List (ℕ × ℕ)) →
+    HasWalked table pattern matcher us ranges → WalksOver pattern.keys (items table pattern.strength pattern.variable false us) ranges matcher.walk
+walked-items table pattern matcher us ranges h =
     let listed : h.items ≡ items table pattern.strength pattern.variable false us =
-    h.weighed.items ∙ ap (λ s. items table s weigher.variable false us) h.strength ∙ ap (λ v. items table pattern.strength v false us) h.variable in
-    subst (λ (t : List Item). WalksOver pattern.keys t ranges walk) listed h.walked
+    h.weighed.items ∙ ap (λ s. items table s matcher.weigher.variable false us) h.strength ∙ ap (λ v. items table pattern.strength v false us) h.variable in
+    subst (λ (t : List Item). WalksOver pattern.keys t ranges matcher.walk) listed h.walked
 
 -- ---- the end
 
@@ -145,20 +144,16 @@ first_given [] held tail x all starter others =
     absurd (not_both (is_starter x) (list_all is_non_starter tail) starter first)
 first_given (p ∷ out) held tail x all starter others = (out, cons-first p x (out ++ held) tail out all)
 
-pub matched-afresh : (table : TableMap) (pattern : Compiled) (window : Held) (weigher : Weigher) (walk : Walk) (ps out later : List Point) (x : Point) (ranges : List (ℕ × ℕ)) →
-    out ≡ x ∷ later → Splits table ps x → HasWalked table pattern weigher walk (units table ps) ranges → window.points ≡ out → HasMatched table pattern window weigher walk (ps ++ out) ranges
-matched-afresh table pattern window weigher walk ps out later x ranges begun splits h held = record {
+pub matched-afresh : (table : TableMap) (pattern : Compiled) (window : Held) (matcher : Matcher) (ps out later : List Point) (x : Point) (ranges : List (ℕ × ℕ)) →
+    out ≡ x ∷ later → Splits table ps x → HasWalked table pattern matcher (units table ps) ranges → window.points ≡ out → HasMatched table pattern window matcher (ps ++ out) ranges
+matched-afresh table pattern window matcher ps out later x ranges begun splits h held = record {
   units = units table ps;
-  items = h.items;
   cut = record {
     continues = λ more ended.
         let here = ap (λ (t : List Point). t ++ more) begun in
         ap (units table) (append_assoc ps out more) ∙ ap (λ (t : List Point). units table (ps ++ t)) here ∙ splits (later ++ more)
         ∙ ap (λ (t : List Point). units table ps ++ units table t) (sym here) ∙ ap (λ (t : List Point). units table ps ++ units table (t ++ more)) (sym held);
   };
-  weighed = h.weighed;
-  walked = h.walked;
-  strength = h.strength;
-  variable = h.variable;
+  went = h;
   kept = All-same (Contains (ps ++ out)) _ _ held (All-weaker (Contains out) (Contains (ps ++ out)) (λ p there. Contains-append_right ps out p there) out (All-contains_itself out));
 }

@@ -24,7 +24,7 @@ use Rattle.collation_search.proofs.SavedState.{SavedLaws, is_good}
 
 module _ (laws : SavedLaws) (s : Sought) (cut : CutState) (finder : Finder) (taken : List ℕ) (handed : List (ℕ × ℕ))
     (h : Searched s.table s.pattern cut finder None taken handed) (goes_on : finder.window.has_ended ≡ false) (longest : finder.longest_key ≡ longest_mapped s.table)
-    (same_select : finder.walk.select ≡ s.select) (new : Finder) (restored : IsRestored s (open_state s.pattern cut finder) new) where
+    (same_select : finder.matcher.walk.select ≡ s.select) (new : Finder) (restored : IsRestored s (open_state s.pattern cut finder) new) where
   same_reorder : new.reorder ≡ finder.reorder
   same_reorder = ap (λ l. let w : Waiting = record { held = l } in w) restored.held
 
@@ -35,10 +35,10 @@ module _ (laws : SavedLaws) (s : Sought) (cut : CutState) (finder : Finder) (tak
       ∙ ap (λ n. let w : Held = record { points = finder.window.points; capacity = n; has_ended = false } in w) room
       ∙ ap (λ b. let w : Held = record { points = finder.window.points; capacity = finder.window.capacity; has_ended = b } in w) (sym goes_on)
 
-  same_weigher : new.weigher ≡ finder.weigher
+  same_weigher : new.matcher.weigher ≡ finder.matcher.weigher
   same_weigher =
       let m = h.found.matched in
-      restored.weigher ∙ ap₂ (λ strength variable. weigher strength variable (is_after_variable finder.weigher)) (sym m.strength) (sym m.variable)
+      restored.weigher ∙ ap₂ (λ strength variable. weigher strength variable (is_after_variable finder.matcher.weigher)) (sym m.went.strength) (sym m.went.variable)
 
   restored-finder : FinderStandsFor s.table s.pattern new (chars (whole taken)) handed
   restored-finder =
@@ -49,13 +49,15 @@ module _ (laws : SavedLaws) (s : Sought) (cut : CutState) (finder : Finder) (tak
         reordered = subst (λ (w : Waiting). HasReordered w (chars (whole taken)) f.points) (sym same_reorder) f.reordered;
         matched = record {
           units = m.units;
-          items = m.items;
           cut = subst (λ (w : Held). WindowStandsFor s.table w f.points m.units) (sym same_window) m.cut;
-          weighed = subst (λ w. WeigherStandsFor s.table w m.units m.items) (sym same_weigher) m.weighed;
-          walked = walks-restored s.pattern.keys m.items handed finder.walk new.walk m.walked restored.matched restored.start
-              restored.has_keys restored.places restored.capacity (restored.select ∙ sym same_select) restored.last_end;
-          strength = ap (λ w. w.strength) same_weigher ∙ m.strength;
-          variable = ap (λ w. w.variable) same_weigher ∙ m.variable;
+          went = record {
+            items = m.went.items;
+            weighed = subst (λ w. WeigherStandsFor s.table w m.units m.went.items) (sym same_weigher) m.went.weighed;
+            walked = walks-restored s.pattern.keys m.went.items handed finder.matcher.walk new.matcher.walk m.went.walked restored.matched restored.start
+                restored.has_keys restored.places restored.capacity (restored.select ∙ sym same_select) restored.last_end;
+            strength = ap (λ w. w.strength) same_weigher ∙ m.went.strength;
+            variable = ap (λ w. w.variable) same_weigher ∙ m.went.variable;
+          };
           kept = subst (λ (w : Held). All (Contains f.points) w.points) (sym same_window) m.kept;
         };
       }

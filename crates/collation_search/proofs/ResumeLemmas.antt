@@ -45,7 +45,7 @@ record GoesOnWith {W : Type 0} {G : Ghosts W} (saved : Search W G) (s : Sought) 
   searched : Searched s.table s.pattern saved.cut saved.finder None taken handed
   goes_on : saved.finder.window.has_ended ≡ false
   longest : saved.finder.longest_key ≡ longest_mapped s.table
-  select : saved.finder.walk.select ≡ s.select
+  select : saved.finder.matcher.walk.select ≡ s.select
   of : AreOf s (open_state s.pattern saved.cut saved.finder) all
 
 goes-on-with : {W : Type 0} {G : Ghosts W} (laws : SavedLaws) (saved : Search W G) (s : Sought) (all taken : List ℕ) (handed : List (ℕ × ℕ)) → AreSaved saved s all taken handed → GoesOnWith saved s all taken handed

@@ -38,11 +38,11 @@ pub record SavedLaws : Type 0 where
 
 module _ (laws : SavedLaws) (s : Sought) (cut : CutState) (finder : Finder) (taken : List ℕ) (handed : List (ℕ × ℕ))
     (h : Searched s.table s.pattern cut finder None taken handed) (goes_on : finder.window.has_ended ≡ false) (longest : finder.longest_key ≡ longest_mapped s.table)
-    (select : finder.walk.select ≡ s.select) where
+    (select : finder.matcher.walk.select ≡ s.select) where
   points : PointsAreSaved finder (byte_len (chars (whole taken)))
   points = points-saved laws.offsets laws.others laws.decomposed s.table s.pattern finder (chars (whole taken)) handed h.found
 
-  walk : WalkIsSaved (length s.pattern.keys) finder.walk (cut.count - length cut.held)
+  walk : WalkIsSaved (length s.pattern.keys) finder.matcher.walk (cut.count - length cut.held)
   walk = walk-saved laws.boundaries laws.text laws.within s cut finder None taken handed h goes_on
 
   pub is_good : cut.is_bad ≡ false
@@ -65,7 +65,7 @@ module _ (laws : SavedLaws) (s : Sought) (cut : CutState) (finder : Finder) (tak
         start = walk.start;
         waits = λ some. let w = walk.waits some in record { whole = walk.many ∙ w.0; first = w.1; has_keys = w.2 };
         last_end = walk.last_end;
-        no_chain = λ all. h.found.matched.walked.last_end ∙ ap (λ x. remembered x handed) (select ∙ all);
+        no_chain = λ all. h.found.matched.went.walked.last_end ∙ ap (λ x. remembered x handed) (select ∙ all);
         few_places = omega (arith, walk.many, walk.state);
         few_in_window = omega (arith, points.window_few, longest);
         few_waiting = points.waiting_few;

@@ -131,17 +131,17 @@ begin-in_order (d ∷ []) current h = cc
 begin-in_order (d ∷ e ∷ before) current h = cc
 
 pub walked-in_order : BoundariesAreStarts → (s : Sought) (finder : Finder) (text : List ℕ) (handed : List (ℕ × ℕ)) → (h : FinderStandsFor s.table s.pattern finder (chars text) handed) → finder.window.has_ended ≡ false →
-    IsUtf8 text → StandsInOrder h.matched.walked.before h.matched.walked.current (length text)
+    IsUtf8 text → StandsInOrder h.matched.went.walked.before h.matched.went.walked.current (length text)
 walked-in_order law s finder [] handed h goes_on utf8 =
-    let w = h.matched.walked in
+    let w = h.matched.went.walked in
     let more = items_go_on s finder (chars []) [] handed h goes_on in
     let all_items = items s.table s.pattern.strength s.pattern.variable false in
     let nothing = ap (λ ps. all_items (units s.table ps)) (sym no_points) ∙ ap (λ cs. all_items (units s.table (points cs))) (sym (append-nil (chars []))) ∙ more.1 in
-    let none = no_items h.matched.items more.0 nothing in
-    begin-in_order w.before w.current (ap (clusters_from text_begin) (sym (append-nil h.matched.items ∙ none)) ∙ w.clusters [])
+    let none = no_items h.matched.went.items more.0 nothing in
+    begin-in_order w.before w.current (ap (clusters_from text_begin) (sym (append-nil h.matched.went.items ∙ none)) ∙ w.clusters [])
 walked-in_order law s finder (b ∷ bs) handed h goes_on utf8 =
     let text = b ∷ bs in
-    let w = h.matched.walked in
+    let w = h.matched.went.walked in
     let more = items_go_on s finder (chars text) [] handed h goes_on in
     let all_items = items s.table s.pattern.strength s.pattern.variable false in
     let all = ap (λ cs. clusters_from text_begin (all_items (units s.table (points cs)))) (sym (append-nil (chars text)))
@@ -173,22 +173,22 @@ searched-end text_law within s cut finder fault taken handed h =
 -- the starts of the clusters of the last keys do not fall, and none is after that of the current one
 pub searched-places : BoundariesAreStarts → TextLaw → (s : Sought) (cut : CutState) (finder : Finder) (fault : Option TextFault) (taken : List ℕ) (handed : List (ℕ × ℕ)) →
     Searched s.table s.pattern cut finder fault taken handed → finder.window.has_ended ≡ false →
-    ArePlaces 0 finder.walk.start (kept_places finder.walk)
+    ArePlaces 0 finder.matcher.walk.start (kept_places finder.matcher.walk)
 searched-places law text_law s cut finder fault taken handed h goes_on =
-    let w = h.found.matched.walked in
+    let w = h.found.matched.went.walked in
     let order = walked-in_order law s finder (whole taken) handed h.found goes_on (text_law taken) in
     let cs = w.before ++ w.current ∷ [] in
     let ps = map place_of (placed cs) in
     let all : ArePlaces 0 w.current.start ps = places-placed 0 w.current.start cs order.in_order in
-    let kept : ArePlaces 0 w.current.start (keep_last finder.walk.state ps) = places-drop 0 w.current.start (length ps - finder.walk.state) ps all in
-    subst (λ n. ArePlaces 0 n (kept_places finder.walk)) (sym w.start) (subst (ArePlaces 0 w.current.start) (sym w.places) kept)
+    let kept : ArePlaces 0 w.current.start (keep_last finder.matcher.walk.state ps) = places-drop 0 w.current.start (length ps - finder.matcher.walk.state) ps all in
+    subst (λ n. ArePlaces 0 n (kept_places finder.matcher.walk)) (sym w.start) (subst (ArePlaces 0 w.current.start) (sym w.places) kept)
 
 -- the current cluster starts within the whole characters
 pub searched-start : BoundariesAreStarts → TextLaw → WithinLaw → (s : Sought) (cut : CutState) (finder : Finder) (fault : Option TextFault) (taken : List ℕ) (handed : List (ℕ × ℕ)) →
     Searched s.table s.pattern cut finder fault taken handed → finder.window.has_ended ≡ false →
-    finder.walk.start ≤ cut.count - length cut.held
+    finder.matcher.walk.start ≤ cut.count - length cut.held
 searched-start law text_law within s cut finder fault taken handed h goes_on =
-    let w = h.found.matched.walked in
+    let w = h.found.matched.went.walked in
     let order = walked-in_order law s finder (whole taken) handed h.found goes_on (text_law taken) in
     omega (arith, w.start, order.within, searched-whole within s cut finder fault taken handed h)
 
@@ -203,17 +203,17 @@ in_order-start_by least most (d ∷ before) current h =
 
 pub searched-last_end : BoundariesAreStarts → TextLaw → (s : Sought) (cut : CutState) (finder : Finder) (fault : Option TextFault) (taken : List ℕ) (handed : List (ℕ × ℕ)) →
     Searched s.table s.pattern cut finder fault taken handed → finder.window.has_ended ≡ false →
-    finder.walk.last_end ≤ finder.walk.start
+    finder.matcher.walk.last_end ≤ finder.matcher.walk.start
 searched-last_end law text_law s cut finder fault taken handed h goes_on =
     let m = h.found.matched in
-    let w = m.walked in
+    let w = m.went.walked in
     let order = walked-in_order law s finder (whole taken) handed h.found goes_on (text_law taken) in
-    walks-last_end s.pattern.keys m.items handed finder.walk w (in_order-start_by 0 w.current.start w.before w.current order.in_order)
+    walks-last_end s.pattern.keys m.went.items handed finder.matcher.walk w (in_order-start_by 0 w.current.start w.before w.current order.in_order)
 
 pub searched-state : (s : Sought) (cut : CutState) (finder : Finder) (fault : Option TextFault) (taken : List ℕ) (handed : List (ℕ × ℕ)) →
-    Searched s.table s.pattern cut finder fault taken handed → finder.walk.state ≤ length s.pattern.keys
+    Searched s.table s.pattern cut finder fault taken handed → finder.matcher.walk.state ≤ length s.pattern.keys
 searched-state s cut finder fault taken handed h =
-    let m = h.found.matched in walks-within s.pattern.keys m.items handed finder.walk m.walked
+    let m = h.found.matched in walks-within s.pattern.keys m.went.items handed finder.matcher.walk m.went.walked
 
 -- what a state says of the walk, where the whole characters end there
 pub record WalkIsSaved (pattern_len : ℕ) (walk : Walk) (end : ℕ) : Type 0 where
@@ -243,16 +243,16 @@ saved-match_waits pattern_len walk waits =
 
 pub walk-saved : BoundariesAreStarts → TextLaw → WithinLaw → (s : Sought) (cut : CutState) (finder : Finder) (fault : Option TextFault) (taken : List ℕ) (handed : List (ℕ × ℕ)) →
     Searched s.table s.pattern cut finder fault taken handed → finder.window.has_ended ≡ false →
-    WalkIsSaved (length s.pattern.keys) finder.walk (cut.count - length cut.held)
+    WalkIsSaved (length s.pattern.keys) finder.matcher.walk (cut.count - length cut.held)
 walk-saved law text_law within s cut finder fault taken handed h goes_on =
     let m = h.found.matched in
     record {
-      many = kept_len finder.walk ∙ kept_places-length s.pattern.keys m.items handed finder.walk m.walked;
+      many = kept_len finder.matcher.walk ∙ kept_places-length s.pattern.keys m.went.items handed finder.matcher.walk m.went.walked;
       places = searched-places law text_law s cut finder fault taken handed h goes_on;
       start = searched-start law text_law within s cut finder fault taken handed h goes_on;
       state = searched-state s cut finder fault taken handed h;
       last_end = searched-last_end law text_law s cut finder fault taken handed h goes_on;
-      waits = saved-match_waits (length s.pattern.keys) finder.walk;
+      waits = saved-match_waits (length s.pattern.keys) finder.matcher.walk;
     }
   where
     kept_len : (walk : Walk) → length (saved_places (kept_places walk)) ≡ length (kept_places walk)

@@ -67,14 +67,14 @@ head_len-records All = refl
 head_len-records Chain = refl
 
 pub state-records : StatesAreRecords → (s : Sought) (cut : CutState) (finder : Finder) (fault : Option TextFault) →
-    finder.walk.state ≤ length s.pattern.keys → length finder.window.points ≤ longest_mapped s.table → length finder.reorder.held ≤ 30 →
+    finder.matcher.walk.state ≤ length s.pattern.keys → length finder.window.points ≤ longest_mapped s.table → length finder.reorder.held ≤ 30 →
     HasRecords (words (sizes_of s) (state_of s.pattern cut finder fault)) (most_records s)
 state-records law s cut finder (Some fault) state window waiting =
     (records_before s.select, omega arith, omega (arith, law (sizes_of s) (reported fault), head_len-records s.select))
 state-records law s cut finder None state window waiting =
-    let places = length (saved_places (kept_places finder.walk)) in (
+    let places = length (saved_places (kept_places finder.matcher.walk)) in (
       records_before s.select + (places + (length finder.window.points + length finder.reorder.held)),
-      omega (arith, kept-length finder.walk),
+      omega (arith, kept-length finder.matcher.walk),
       omega (arith, law (sizes_of s) (open_state s.pattern cut finder), head_len-records s.select),
     )
 
@@ -94,14 +94,14 @@ append-reported s cut finder (Some fault) w0 w1 some a =
 
 pub append-all : (s : Sought) (cut : CutState) (finder : Finder) (fault : Option TextFault) (w0 w1 w2 w3 w4 : List ℕ) → is_some fault ≡ false →
     (let state = state_of s.pattern cut finder fault in w1 ≡ w0 ++ (head_words (sizes_of s) (head_of state) ++ chain_record s.select state.last_end)) →
-    w2 ≡ w1 ++ place_words (saved_places (kept_places finder.walk)) →
+    w2 ≡ w1 ++ place_words (saved_places (kept_places finder.matcher.walk)) →
     w3 ≡ w2 ++ point_words finder.window.points →
     w4 ≡ w3 ++ point_words finder.reorder.held →
     w4 ≡ w0 ++ words (sizes_of s) (state_of s.pattern cut finder fault)
 append-all s cut finder (Some fault) w0 w1 w2 w3 w4 none a b c d = cc
 append-all s cut finder None w0 w1 w2 w3 w4 none a b c d =
-    let front = head_words (sizes_of s) (head_of (open_state s.pattern cut finder)) ++ chain_record s.select finder.walk.last_end in
-    let places = place_words (saved_places (kept_places finder.walk)) in
+    let front = head_words (sizes_of s) (head_of (open_state s.pattern cut finder)) ++ chain_record s.select finder.matcher.walk.last_end in
+    let places = place_words (saved_places (kept_places finder.matcher.walk)) in
     let points = point_words finder.window.points in
     let held = point_words finder.reorder.held in
     d ∙ ap (λ l. l ++ held) (c ∙ ap (λ l. l ++ points) (b ∙ ap (λ l. l ++ places) a)) ∙ five w0 front places points held

@@ -30,7 +30,7 @@ BeginsRanges ranges all = (rest : List (ℕ × ℕ)) × (all ≡ ranges ++ rest)
 
 -- the items of a text that the code points so far begin: those given, and others after them
 pub items_go_on : (s : Sought) (finder : Finder) (taken more : List ℕ) (handed : List (ℕ × ℕ)) → (h : FinderStandsFor s.table s.pattern finder taken handed) → finder.window.has_ended ≡ false →
-    (rest : List Item) × (items s.table s.pattern.strength s.pattern.variable false (units s.table (points (taken ++ more))) ≡ h.matched.items ++ rest)
+    (rest : List Item) × (items s.table s.pattern.strength s.pattern.variable false (units s.table (points (taken ++ more))) ≡ h.matched.went.items ++ rest)
 items_go_on s finder taken more handed h goes_on =
     let m = h.matched in
     let later = ordered (finder.reorder.held ++ points_from (byte_len taken) more) in
@@ -39,8 +39,8 @@ items_go_on s finder taken more handed h goes_on =
     let cut : units s.table (h.points ++ later) ≡ m.units ++ units s.table (finder.window.points ++ later) = m.cut.continues later never in
     let vs = units s.table (finder.window.points ++ later) in
     let rest = items s.table s.pattern.strength s.pattern.variable (after_units s.table s.pattern.variable false m.units) vs in
-    let weighed : items s.table s.pattern.strength s.pattern.variable false m.units ≡ m.items =
-    sym (m.weighed.items ∙ ap (λ t. items s.table t finder.weigher.variable false m.units) m.strength ∙ ap (λ v. items s.table s.pattern.strength v false m.units) m.variable) in (
+    let weighed : items s.table s.pattern.strength s.pattern.variable false m.units ≡ m.went.items =
+    sym (m.went.weighed.items ∙ ap (λ t. items s.table t finder.matcher.weigher.variable false m.units) m.went.strength ∙ ap (λ v. items s.table s.pattern.strength v false m.units) m.went.variable) in (
       rest,
       ap (λ ps. items s.table s.pattern.strength s.pattern.variable false (units s.table ps)) all
           ∙ ap (λ us. items s.table s.pattern.strength s.pattern.variable false us) cut
@@ -54,14 +54,14 @@ items_go_on s finder taken more handed h goes_on =
 -- so their ranges, and those that end before the last cluster
 begins_found : (s : Sought) (finder : Finder) (taken more : List ℕ) (handed : List (ℕ × ℕ)) (end : ℕ) → (h : FinderStandsFor s.table s.pattern finder taken handed) → finder.window.has_ended ≡ false →
     (text : List ℕ) → chars text ≡ taken ++ more →
-    BeginsRanges (found_before h.matched.walked) (found s.pattern.keys (clusters_from text_begin (items_in s text)) end)
-    × BeginsRanges (found_before h.matched.walked) (found_before_last s.pattern.keys (clusters_from text_begin (items_in s text)) end)
+    BeginsRanges (found_before h.matched.went.walked) (found s.pattern.keys (clusters_from text_begin (items_in s text)) end)
+    × BeginsRanges (found_before h.matched.went.walked) (found_before_last s.pattern.keys (clusters_from text_begin (items_in s text)) end)
 begins_found s finder taken more handed end h goes_on text codes =
     let rest = items_go_on s finder taken more handed h goes_on in
-    let all : items_in s text ≡ h.matched.items ++ rest.0 =
+    let all : items_in s text ≡ h.matched.went.items ++ rest.0 =
     ap (λ cs. items s.table s.pattern.strength s.pattern.variable false (units s.table (points cs))) codes ∙ rest.1 in
-    let a = walks-begin s.pattern.keys h.matched.items handed finder.walk rest.0 end h.matched.walked in
-    let b = walks-begin_settled s.pattern.keys h.matched.items handed finder.walk rest.0 end h.matched.walked in (
+    let a = walks-begin s.pattern.keys h.matched.went.items handed finder.matcher.walk rest.0 end h.matched.went.walked in
+    let b = walks-begin_settled s.pattern.keys h.matched.went.items handed finder.matcher.walk rest.0 end h.matched.went.walked in (
       (a.0, ap (λ (t : List Item). found s.pattern.keys (clusters_from text_begin t) end) all ∙ a.1),
       (b.0, ap (λ (t : List Item). found_before_last s.pattern.keys (clusters_from text_begin t) end) all ∙ b.1),
     )
@@ -70,8 +70,8 @@ begins_found s finder taken more handed end h goes_on text codes =
 begins_text : TextLaws → (s : Sought) → matches_are_found s.table → settled_are_found s.table → items_give_ranges s.table → (p taken good : List ℕ) (finder : Finder) (handed : List (ℕ × ℕ)) →
     IsCompiledFrom s p → 1 ≤ length s.pattern.keys → IsUtf8 good → BeginsWith taken good →
     (h : FinderStandsFor s.table s.pattern finder (chars (whole taken)) handed) → finder.window.has_ended ≡ false →
-    BeginsRanges (found_before h.matched.walked) (matches s.table s.pattern.strength s.pattern.variable p good)
-    × BeginsRanges (found_before h.matched.walked) (settled s.table s.pattern.strength s.pattern.variable p good)
+    BeginsRanges (found_before h.matched.went.walked) (matches s.table s.pattern.strength s.pattern.variable p good)
+    × BeginsRanges (found_before h.matched.went.walked) (settled s.table s.pattern.strength s.pattern.variable p good)
 begins_text laws s matches_law settled_law items_law p taken good finder handed compiled some utf8 begins h goes_on =
     let codes = begins-chars laws taken good begins in
     let both = begins_found s finder (chars (whole taken)) (chars (drop (characters_end taken) good)) handed (length good) h goes_on good codes in
@@ -86,7 +86,7 @@ begins_text laws s matches_law settled_law items_law p taken good finder handed 
 pub begins-found : TextLaws → (s : Sought) → matches_are_found s.table → settled_are_found s.table → items_give_ranges s.table → (p taken later : List ℕ) (finder : Finder) (handed : List (ℕ × ℕ)) →
     IsCompiledFrom s p → 1 ≤ length s.pattern.keys → is_good_so_far taken ≡ true →
     (h : FinderStandsFor s.table s.pattern finder (chars (whole taken)) handed) → finder.window.has_ended ≡ false →
-    BeginsRanges (found_before h.matched.walked) (answer s.table s.pattern.strength s.pattern.variable p (taken ++ later)).ranges
+    BeginsRanges (found_before h.matched.went.walked) (answer s.table s.pattern.strength s.pattern.variable p (taken ++ later)).ranges
 begins-found laws s matches_law settled_law items_law p taken later finder handed compiled some open_bytes h goes_on =
     let bytes = taken ++ later in
     let at_fault = answer_at s.table s.pattern.strength s.pattern.variable p bytes in
@@ -106,12 +106,12 @@ begins-found laws s matches_law settled_law items_law p taken later finder hande
 
 -- so what was handed out begins the answer
 pub begins-answer : TextLaws → (s : Sought) → matches_are_found s.table → settled_are_found s.table → items_give_ranges s.table → (p taken later : List ℕ) (finder : Finder) (handed : List (ℕ × ℕ)) →
-    finder.walk.select ≡ s.select → IsCompiledFrom s p → 1 ≤ length s.pattern.keys → is_good_so_far taken ≡ true →
+    finder.matcher.walk.select ≡ s.select → IsCompiledFrom s p → 1 ≤ length s.pattern.keys → is_good_so_far taken ≡ true →
     FinderStandsFor s.table s.pattern finder (chars (whole taken)) handed → finder.window.has_ended ≡ false →
     BeginsRanges handed (answer_to s p (taken ++ later)).ranges
 begins-answer laws s matches_law settled_law items_law p taken later finder handed same compiled some open_bytes h goes_on =
     let all = (answer s.table s.pattern.strength s.pattern.variable p (taken ++ later)).ranges in
     let m = h.matched in
-    let begins = walks-select_begin s.pattern.keys m.items handed finder.walk all m.walked
+    let begins = walks-select_begin s.pattern.keys m.went.items handed finder.matcher.walk all m.went.walked
     (begins-found laws s matches_law settled_law items_law p taken later finder handed compiled some open_bytes h goes_on) in
     (begins.0, ap (λ select. selected select all) (sym same) ∙ begins.1)

@@ -13,10 +13,10 @@ use Rattle.collation_elements.specs.declared.keys.Item.{Item}
 use Rattle.collation_elements.specs.declared.keys.Item.TheVariants.{ClusterStart, Element}
 use Rattle.collation_elements.specs.declared.settings.Strength.{Strength}
 use Rattle.collation_elements.specs.declared.settings.Variable.{Variable}
-use Rattle.collation_elements.specs.declared.weigher.Weigher.{Weigher}
 use Rattle.collation_elements.specs.Items.{items as items_of}
 use Rattle.collation_elements.specs.ItemParts.{item_keys}
 use Rattle.collation_elements.specs.Units.{units}
+use Rattle.collation_elements.specs.declared.weigher.Weigher.{Weigher}
 use Rattle.collation_elements.specs.Weighing.{weigher, after_units, WeigherStandsFor}
 use Rattle.collation_pattern.specs.Border.{border, BordersGoOn}
 use Rattle.collation_pattern.specs.Compiled.{Compiled}
@@ -24,7 +24,8 @@ use Rattle.collation_letters.specs.Symbols.{AreLastSymbols, NothingWaitsBehindFo
 use Rattle.collation_skip.specs.Passed.{IsPassed, IsQuiet}
 use Rattle.collation_search.specs.declared.walk.KeyPlace.{KeyPlace}
 use Rattle.collation_search.specs.declared.walk.Walk.{Walk}
-use Rattle.collation_search.specs.Apart.{HasWalkedOn}
+use Rattle.collation_search.specs.declared.matching.Matcher.{Matcher}
+use Rattle.collation_search.specs.Matching.{HasWalkedOn}
 use Rattle.collation_search.specs.Walks.{WalksOver, passed_to, place_of}
 use Rattle.collation_matches.specs.ByClusters.{placed}
 use Rattle.collation_matches.specs.Selecting.{selected, remembered}
@@ -148,9 +149,10 @@ walks-passed laws pattern keys more items ranges start last w none some after fr
     (subst (λ (is : List Item). WalksOver pattern is ranges u) all ended) refl refl refl refl over.select over.last_end h.capacity h.few
 
 -- where no key waits and the last element that was variable or primary was not variable: behind the text that is passed the same
-pub goes-on : Laws → GoesOnLaw → (table : TableMap) (pattern : Compiled) (w : Weigher) (walk : Walk) (start last : ℕ) (cs : List ℕ) (next : ℕ) → w.after_variable ≡ false → walk.state ≡ 0 → 1 ≤ start →
-    IsPassed table pattern start last cs next → HasWalkedOn table pattern w walk w (passed_to walk last) (units table (points_from start cs)) []
-goes-on laws law table pattern w walk start last cs next plain none some p = λ before ranges on.
+pub goes-on : Laws → GoesOnLaw → (table : TableMap) (pattern : Compiled) (m : Matcher) (start last : ℕ) (cs : List ℕ) (next : ℕ) → m.weigher.after_variable ≡ false → m.walk.state ≡ 0 → 1 ≤ start →
+    IsPassed table pattern start last cs next → HasWalkedOn table pattern m (record m { walk = passed_to m.walk last }) (units table (points_from start cs)) []
+goes-on laws law table pattern m start last cs next plain none some p = λ before ranges on.
+    let w = m.weigher in
     let us = units table (points_from start cs) in
     let given : List Item = p.before ++ ClusterStart last ∷ map (λ key. Element key) p.keys in
     let gives : items_of table w.strength w.variable w.after_variable us ≡ given =
@@ -161,8 +163,8 @@ goes-on laws law table pattern w walk start last cs next plain none some p = λ 
     record {
       items = on.items ++ given;
       weighed = subst (λ (v : Weigher). WeigherStandsFor table v (before ++ us) (on.items ++ given)) same (law table w before us on.items given false gives leaves on.weighed);
-      walked = subst (λ (rs : List (ℕ × ℕ)). WalksOver pattern.keys (on.items ++ given) rs (passed_to walk last)) (sym (append-nil ranges))
-          (walks-passed laws pattern.keys p.keys p.before on.items ranges start last walk none some p.after_start p.later p.quiet p.foreign on.walked);
+      walked = subst (λ (rs : List (ℕ × ℕ)). WalksOver pattern.keys (on.items ++ given) rs (passed_to m.walk last)) (sym (append-nil ranges))
+          (walks-passed laws pattern.keys p.keys p.before on.items ranges start last m.walk none some p.after_start p.later p.quiet p.foreign on.walked);
       strength = on.strength;
       variable = on.variable;
     }

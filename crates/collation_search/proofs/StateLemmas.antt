@@ -153,7 +153,7 @@ pub state_laws : DecidedUnitsBegin → GivenAreFinal → WaitingAreOthers → St
 state_laws begin last others = record { begin = begin; last = last; others = others }
 
 module _ (laws : StateLaws) (s : Sought) (cut : CutState) (finder : Finder) (fault : Option TextFault) (u : List ℕ) (handed : List (ℕ × ℕ))
-    (h : Searched s.table s.pattern cut finder fault u handed) (select : finder.walk.select ≡ s.select) where
+    (h : Searched s.table s.pattern cut finder fault u handed) (select : finder.matcher.walk.select ≡ s.select) where
   abbrev cs : List ℕ
   cs = chars (whole u)
 
@@ -173,20 +173,20 @@ module _ (laws : StateLaws) (s : Sought) (cut : CutState) (finder : Finder) (fau
   units-known : h.found.matched.units ≡ known_units s.table u
   units-known = units-decided ∙ sym (cond-true _ _ _ h.open_bytes)
 
-  items-known : h.found.matched.items ≡ items s.table s.pattern.strength s.pattern.variable false (known_units s.table u)
+  items-known : h.found.matched.went.items ≡ items s.table s.pattern.strength s.pattern.variable false (known_units s.table u)
   items-known =
       let m = h.found.matched in
-      m.weighed.items ∙ ap₂ (λ strength variable. items s.table strength variable false m.units) m.strength m.variable
+      m.went.weighed.items ∙ ap₂ (λ strength variable. items s.table strength variable false m.units) m.went.strength m.went.variable
       ∙ ap (items s.table s.pattern.strength s.pattern.variable false) units-known
 
-  clusters-known : known_clusters s u ≡ h.found.matched.walked.before ++ h.found.matched.walked.current ∷ []
-  clusters-known = ap (clusters_from text_begin) (sym items-known) ∙ all_clusters h.found.matched.walked
+  clusters-known : known_clusters s u ≡ h.found.matched.went.walked.before ++ h.found.matched.went.walked.current ∷ []
+  clusters-known = ap (clusters_from text_begin) (sym items-known) ∙ all_clusters h.found.matched.went.walked
 
   -- what was handed out is what is reported by then
   pub reported-known : handed ≡ reported_after s u
   reported-known =
-      walks-settled s.pattern.keys h.found.matched.items handed finder.walk (length u) h.found.matched.walked
-      ∙ ap (λ which. selected which (found_before_last s.pattern.keys (clusters_from text_begin h.found.matched.items) (length u))) select
+      walks-settled s.pattern.keys h.found.matched.went.items handed finder.matcher.walk (length u) h.found.matched.went.walked
+      ∙ ap (λ which. selected which (found_before_last s.pattern.keys (clusters_from text_begin h.found.matched.went.items) (length u))) select
       ∙ ap (λ its. selected s.select (found_before_last s.pattern.keys (clusters_from text_begin its) (length u))) items-known
 
   -- and no fault
@@ -198,34 +198,34 @@ module _ (laws : StateLaws) (s : Sought) (cut : CutState) (finder : Finder) (fau
       let sound : cut.is_bad ≡ false = h.cut_stands.bad ∙ ap not (open_cut u h.open_bytes) in
       h.cut_stands.held ∙ ap (λ b. cond b [] (after_characters u)) sound
 
-  current-known : finder.walk.start ≡ (last_cluster (known_clusters s u)).start
+  current-known : finder.matcher.walk.start ≡ (last_cluster (known_clusters s u)).start
   current-known =
-      let w = h.found.matched.walked in
+      let w = h.found.matched.went.walked in
       w.start ∙ sym (ap (λ cs'. (last_cluster cs').start) clusters-known ∙ ap (λ (c : Cluster). c.start) (last_cluster-last w.before w.current))
 
-  keys-known : finder.walk.has_keys ≡ has_keys (last_cluster (known_clusters s u))
+  keys-known : finder.matcher.walk.has_keys ≡ has_keys (last_cluster (known_clusters s u))
   keys-known =
-      let w = h.found.matched.walked in
+      let w = h.found.matched.went.walked in
       w.has_keys ∙ sym (ap (λ cs'. has_keys (last_cluster cs')) clusters-known ∙ ap has_keys (last_cluster-last w.before w.current))
 
-  after-known : finder.weigher.after_variable ≡ after_units s.table s.pattern.variable false (known_units s.table u)
+  after-known : finder.matcher.weigher.after_variable ≡ after_units s.table s.pattern.variable false (known_units s.table u)
   after-known =
       let m = h.found.matched in
-      m.weighed.after ∙ ap (λ v. after_units s.table v false m.units) m.variable ∙ ap (after_units s.table s.pattern.variable false) units-known
+      m.went.weighed.after ∙ ap (λ v. after_units s.table v false m.units) m.went.variable ∙ ap (after_units s.table s.pattern.variable false) units-known
 
-  waits-known : match_waits (length s.pattern.keys) finder.walk ≡ nat_lt 0 (length (ended s.pattern.keys (known_clusters s u) (length u)))
+  waits-known : match_waits (length s.pattern.keys) finder.matcher.walk ≡ nat_lt 0 (length (ended s.pattern.keys (known_clusters s u) (length u)))
   waits-known =
-      walk-waits s.pattern.keys h.found.matched.items handed finder.walk (length u) h.found.matched.walked
+      walk-waits s.pattern.keys h.found.matched.went.items handed finder.matcher.walk (length u) h.found.matched.went.walked
       ∙ ap (λ cs'. nat_lt 0 (length (ended s.pattern.keys cs' (length u)))) (sym clusters-known)
 
-  end-known : finder.walk.last_end ≡ remembered s.select (reported_after s u)
-  end-known = h.found.matched.walked.last_end ∙ ap₂ remembered select reported-known
+  end-known : finder.matcher.walk.last_end ≡ remembered s.select (reported_after s u)
+  end-known = h.found.matched.went.walked.last_end ∙ ap₂ remembered select reported-known
 
-  places-known : saved_places (kept_places finder.walk) ≡ last_places s (placed (known_clusters s u))
+  places-known : saved_places (kept_places finder.matcher.walk) ≡ last_places s (placed (known_clusters s u))
   places-known =
-      let w = h.found.matched.walked in
+      let w = h.found.matched.went.walked in
       let ks = placed (w.before ++ w.current ∷ []) in
-      ap saved_places w.places ∙ last_saved finder.walk.state ks
+      ap saved_places w.places ∙ last_saved finder.matcher.walk.state ks
       ∙ ap (λ n. map as_saved (drop (length ks - n) ks)) w.state
       ∙ ap (λ cs'. last_places s (placed cs')) (sym clusters-known)
 
@@ -244,8 +244,8 @@ module _ (laws : StateLaws) (s : Sought) (cut : CutState) (finder : Finder) (fau
       let start = (last_cluster c).start in
       let keys = has_keys (last_cluster c) in
       let end = remembered s.select (reported_after s u) in
-      ap₂ (λ t hd. state_with t hd finder.weigher.after_variable finder.walk.start finder.walk.has_keys (match_waits (length s.pattern.keys) finder.walk) finder.walk.last_end (saved_places (kept_places finder.walk)) finder.window.points finder.reorder.held) h.cut_stands.count held-known
-      ∙ ap₂ (λ a b. state_with (length u) (after_characters u) a b finder.walk.has_keys (match_waits (length s.pattern.keys) finder.walk) finder.walk.last_end (saved_places (kept_places finder.walk)) finder.window.points finder.reorder.held) after-known current-known
-      ∙ ap₂ (λ a b. state_with (length u) (after_characters u) after start a b finder.walk.last_end (saved_places (kept_places finder.walk)) finder.window.points finder.reorder.held) keys-known waits-known
+      ap₂ (λ t hd. state_with t hd finder.matcher.weigher.after_variable finder.matcher.walk.start finder.matcher.walk.has_keys (match_waits (length s.pattern.keys) finder.matcher.walk) finder.matcher.walk.last_end (saved_places (kept_places finder.matcher.walk)) finder.window.points finder.reorder.held) h.cut_stands.count held-known
+      ∙ ap₂ (λ a b. state_with (length u) (after_characters u) a b finder.matcher.walk.has_keys (match_waits (length s.pattern.keys) finder.matcher.walk) finder.matcher.walk.last_end (saved_places (kept_places finder.matcher.walk)) finder.window.points finder.reorder.held) after-known current-known
+      ∙ ap₂ (λ a b. state_with (length u) (after_characters u) after start a b finder.matcher.walk.last_end (saved_places (kept_places finder.matcher.walk)) finder.window.points finder.reorder.held) keys-known waits-known
       ∙ ap₂ (λ a b. state_with (length u) (after_characters u) after start keys waits a b finder.window.points finder.reorder.held) end-known places-known
       ∙ ap₂ (λ a b. state_with (length u) (after_characters u) after start keys waits end (last_places s (placed c)) a b) h.left waiting-known

@@ -15,7 +15,7 @@ use Rattle.collation_matches.specs.ByClusters.{PlacedKey}
 use Rattle.collation_matches.specs.ByClusters.{text_begin, has_keys, last_has_keys, ended, found, found_before_last, placed, placed_at, range_from, ended_by_keys}
 use Rattle.collation_matches.specs.Selecting.{selected, remembered}
 use Rattle.collation_search.specs.Walks.{place_of, WalksOver}
-use Rattle.collation_matches.proofs.BridgeKeys.{same_keys-same}
+use Rattle.collation_pattern.proofs.KeyEquality.{same_keys-same}
 use Rattle.collation_matches.proofs.SelectingLemmas.{selected_after, selected-append, selected-nil, remembered-nil}
 use Rattle.collation_matches.proofs.BridgeGrowing.{found-more, found-begins, before_last-prefix, before_last-begins}
 use Rattle.collation_matches.proofs.BridgeFlat.{ended-by_keys}

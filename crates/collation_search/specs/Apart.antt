@@ -6,14 +6,11 @@ use Rattle.nfd_points.specs.declared.points.Point.{Point}
 use Rattle.nfd_points.specs.Points.{byte_len, points_of, points_from, points, begins_with_starter, ordered}
 use Rattle.nfd_points.specs.PointFaults.{point_fault}
 use Rattle.nfd_points.specs.Reordering.{Waiting}
-use Rattle.collation_elements.specs.declared.keys.Item.{Item}
-use Rattle.collation_elements.specs.declared.weigher.Weigher.{Weigher}
 use Rattle.collation_elements.specs.Units.{units}
-use Rattle.collation_elements.specs.Weighing.{WeigherStandsFor}
 use Rattle.collation_elements.specs.Windows.{Held}
 use Rattle.collation_pattern.specs.Compiled.{Compiled}
-use Rattle.collation_search.specs.declared.walk.Walk.{Walk}
-use Rattle.collation_search.specs.Walks.{WalksOver}
+use Rattle.collation_search.specs.declared.matching.Matcher.{Matcher}
+use Rattle.collation_search.specs.Matching.{HasWalked}
 pub use Rattle.collation_letters.specs.Apart.{EndsBefore, IsNext}
 
 -- Characters of a text, of which the first stands at an offset, that can be taken at once: they begin with a starter, so that
@@ -25,30 +22,16 @@ pub record AreApart (table : TableMap) (start : ℕ) (cs : List ℕ) (next : ℕ
   pub good : point_fault cs ≡ None
   pub ends : EndsBefore table (points_from start cs) (start + byte_len cs) next
 
--- ---- what was walked over
-
--- the units went through a weigher and a walk, and the ranges came out
-pub record HasWalked (table : TableMap) (pattern : Compiled) (weigher : Weigher) (walk : Walk) (us : List (List Point)) (ranges : List (ℕ × ℕ)) : Type 0 where
-  pub items : List Item
-  pub weighed : WeigherStandsFor table weigher us items
-  pub walked : WalksOver pattern.keys items ranges walk
-  pub strength : weigher.strength ≡ pattern.strength
-  pub variable : weigher.variable ≡ pattern.variable
-
--- further units went through, and further ranges came out
-abbrev pub HasWalkedOn : TableMap → Compiled → Weigher → Walk → Weigher → Walk → List (List Point) → List (ℕ × ℕ) → Type 0
-HasWalkedOn table pattern weigher walk weigher_now walk_now us found =
-    (before : List (List Point)) (ranges : List (ℕ × ℕ)) → HasWalked table pattern weigher walk before ranges
-    → HasWalked table pattern weigher_now walk_now (before ++ us) (ranges ++ found)
+-- ---- a pause
 
 -- all units of the text `taken` were cut, as if it ended there
-pub record IsPaused (table : TableMap) (pattern : Compiled) (waiting : Waiting) (window : Held) (weigher : Weigher) (walk : Walk) (taken : List ℕ) (ranges : List (ℕ × ℕ)) : Type 0 where
-  pub walked : HasWalked table pattern weigher walk (units table (points taken)) ranges
+pub record IsPaused (table : TableMap) (pattern : Compiled) (waiting : Waiting) (window : Held) (matcher : Matcher) (taken : List ℕ) (ranges : List (ℕ × ℕ)) : Type 0 where
+  pub walked : HasWalked table pattern matcher (units table (points taken)) ranges
   pub none_waits : waiting.held ≡ []
   pub none_left : window.points ≡ []
   pub good : point_fault taken ≡ None
 
 -- and no unit reaches from them to the character that follows
-pub record IsPausedBefore (table : TableMap) (pattern : Compiled) (waiting : Waiting) (window : Held) (weigher : Weigher) (walk : Walk) (taken : List ℕ) (ranges : List (ℕ × ℕ)) (next : ℕ) : Type 0 where
-  pub paused : IsPaused table pattern waiting window weigher walk taken ranges
+pub record IsPausedBefore (table : TableMap) (pattern : Compiled) (waiting : Waiting) (window : Held) (matcher : Matcher) (taken : List ℕ) (ranges : List (ℕ × ℕ)) (next : ℕ) : Type 0 where
+  pub paused : IsPaused table pattern waiting window matcher taken ranges
   pub ends : EndsBefore table (points taken) (byte_len taken) next

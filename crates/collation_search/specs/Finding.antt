@@ -11,4 +11,4 @@ use Rattle.collation_search.specs.Matching.{HasMatched}
 pub record FinderStandsFor (table : TableMap) (pattern : Compiled) (finder : Finder) (taken : List ℕ) (ranges : List (ℕ × ℕ)) : Type 0 where
   pub points : List Point
   pub reordered : HasReordered finder.reorder taken points
-  pub matched : HasMatched table pattern finder.window finder.weigher finder.walk points ranges
+  pub matched : HasMatched table pattern finder.window finder.matcher points ranges

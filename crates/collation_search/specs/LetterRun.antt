@@ -1,4 +1,4 @@
--- A weigher and a walk that go over letters.
+-- A matcher that goes over letters.
 use Rattle.std.specs.Prelude.{◌≡◌, ℕ, ◌+◌, ◌-◌, ◌≤◌, List, [], ◌∷◌, ◌++◌, length, take, drop}
 use Rattle.std.specs.Char.{len_utf8}
 use Rattle.std.specs.Str.{chars, IsUtf8}
@@ -7,21 +7,21 @@ use Rattle.nfd_points.specs.Points.{points_from}
 use Rattle.collation_elements.specs.Units.{units}
 use Rattle.collation_letters.specs.Apart.{IsNext}
 use Rattle.collation_table.specs.Table.{TableMap}
-use Rattle.collation_elements.specs.declared.weigher.Weigher.{Weigher}
 use Rattle.collation_pattern.specs.Compiled.{Compiled}
-use Rattle.collation_search.specs.declared.walk.Walk.{Walk}
-use Rattle.collation_search.specs.Apart.{AreApart, HasWalkedOn}
+use Rattle.collation_search.specs.declared.matching.Matcher.{Matcher}
+use Rattle.collation_search.specs.Matching.{HasWalkedOn}
+use Rattle.collation_search.specs.Apart.{AreApart}
 
--- A weigher and a walk that went over characters at the front of a piece, which stands at an offset, stand before the character c: these
+-- A matcher that went over characters at the front of a piece, which stands at an offset, stands before the character c: these
 -- have so many bytes, and no unit reaches from them to c.
-pub record HasComeTo (table : TableMap) (pattern : Compiled) (piece : List ℕ) (offset reach first : ℕ) (weigher : Weigher) (walk : Walk) (weigher_now : Weigher) (walk_now : Walk) (at c : ℕ) (ranges : List (ℕ × ℕ)) : Type 0 where
+pub record HasComeTo (table : TableMap) (pattern : Compiled) (piece : List ℕ) (offset reach first : ℕ) (matcher now : Matcher) (at c : ℕ) (ranges : List (ℕ × ℕ)) : Type 0 where
   pub near : at ≤ reach
   pub within : at + len_utf8 c ≤ length piece
   pub next : SpellsCharacter (take (len_utf8 c) (drop at piece)) c
   pub text : IsUtf8 (take at piece)
   pub begun : (others : List ℕ) × (chars (take at piece) ++ c ∷ [] ≡ first ∷ others)
   pub apart : AreApart table offset (chars (take at piece)) c
-  pub walked : HasWalkedOn table pattern weigher walk weigher_now walk_now (units table (points_from offset (chars (take at piece)))) ranges
+  pub walked : HasWalkedOn table pattern matcher now (units table (points_from offset (chars (take at piece)))) ranges
 
 -- The next characters of the piece, up to a place, which begin with c: no unit reaches from them to the character that follows.
 pub record AreNext (table : TableMap) (piece : List ℕ) (offset reach at to c next : ℕ) : Type 0 where

@@ -13,7 +13,7 @@ use Rattle.collation_search.specs.State.{sizes_of, state_of}
 
 -- which ranges it hands out, and the fault that it has reported
 abbrev pub parked_select : Parked → Select
-parked_select parked = parked.finder.walk.select
+parked_select parked = parked.finder.matcher.walk.select
 
 abbrev pub parked_fault : Parked → Option TextFault
 parked_fault parked = parked.fault

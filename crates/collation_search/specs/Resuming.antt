@@ -51,11 +51,11 @@ IsRefused r words kind = (state_fault r words ≡ Some kind) ⊎ ((kind ≡ 53) 
 pub record IsRestored (s : Sought) (state : State) (finder : Finder) : Type 0 where
   pub held : finder.reorder.held ≡ state.waiting
   pub window : finder.window ≡ record { points = state.window; capacity = longest_mapped s.table + MOST_GIVEN; has_ended = false }
-  pub weigher : finder.weigher ≡ Rattle.collation_elements.specs.Weighing.weigher s.pattern.strength s.pattern.variable state.after_variable
-  pub matched : finder.walk.state ≡ length finder.walk.places.items
-  pub start : finder.walk.start ≡ state.start
-  pub has_keys : finder.walk.has_keys ≡ state.has_keys
-  pub places : saved_places finder.walk.places.items ≡ state.places
-  pub capacity : finder.walk.places.capacity ≡ length s.pattern.keys
-  pub select : finder.walk.select ≡ s.select
-  pub last_end : finder.walk.last_end ≡ state.last_end
+  pub weigher : finder.matcher.weigher ≡ Rattle.collation_elements.specs.Weighing.weigher s.pattern.strength s.pattern.variable state.after_variable
+  pub matched : finder.matcher.walk.state ≡ length finder.matcher.walk.places.items
+  pub start : finder.matcher.walk.start ≡ state.start
+  pub has_keys : finder.matcher.walk.has_keys ≡ state.has_keys
+  pub places : saved_places finder.matcher.walk.places.items ≡ state.places
+  pub capacity : finder.matcher.walk.places.capacity ≡ length s.pattern.keys
+  pub select : finder.matcher.walk.select ≡ s.select
+  pub last_end : finder.matcher.walk.last_end ≡ state.last_end

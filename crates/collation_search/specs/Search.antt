@@ -11,7 +11,7 @@ abbrev pub sought : {W : Type 0} {G : Ghosts W} → Search W G → Sought
 sought {W} {G} search = record {
   table = G.table search.query.table.now;
   pattern = search.query.pattern.now;
-  select = search.finder.walk.select;
+  select = search.finder.matcher.walk.select;
 }
 
 -- The bytes `taken` went in, which are open, and the ranges were handed out.

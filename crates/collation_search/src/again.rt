@@ -52,12 +52,12 @@ impl Finder {
         ensures empty { self.new.window.points ≡ [] }
         ensures longest { self.new.longest_key ≡ self.old.longest_key }
         ensures pattern_len { self.new.pattern_len ≡ self.old.pattern_len }
-        ensures select { self.new.walk.select ≡ self.old.walk.select }
+        ensures select { self.new.matcher.walk.select ≡ self.old.matcher.walk.select }
     {
         self.reorder = Reorder::new(alloc);
         self.window.clear();
-        self.weigher = Weigher::new(pattern.strength(), pattern.variable());
-        self.walk.begin_again(pattern);
+        self.matcher.weigher = Weigher::new(pattern.strength(), pattern.variable());
+        self.matcher.walk.begin_again(pattern);
     }
 
     /// Ends the text here, as `end` does. Nothing is asked of it then but its last range, and to begin again.
@@ -71,12 +71,12 @@ impl Finder {
             → WalksOver pattern.now.keys
             (items_of_units (W.table table.now) pattern.now.strength pattern.now.variable false
             (units (W.table table.now) (points taken)))
-            (ranges ++ found.new.items) self.new.walk }
+            (ranges ++ found.new.items) self.new.matcher.walk }
         ensures few { array_vec_len found.new ≤ longest_key_of (W.table table.now) + MOST_WAITING }
         ensures open { self.new.window.has_ended ≡ false }
         ensures longest { self.new.longest_key ≡ self.old.longest_key }
         ensures pattern_len { self.new.pattern_len ≡ self.old.pattern_len }
-        ensures select { self.new.walk.select ≡ self.old.walk.select }
+        ensures select { self.new.matcher.walk.select ≡ self.old.matcher.walk.select }
     {
         self.end(table, pattern, found);
         self.window.clear();

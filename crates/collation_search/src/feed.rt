@@ -11,6 +11,7 @@ ghost use Rattle.collation_letters.specs.Store.{AreLetters};
 ghost use Rattle.collation_matches.specs.GoodPrefix.{is_good_so_far, whole};
 ghost use Rattle.collation_search.specs.Early.{starters_from};
 
+use crate::letter_loop::Front;
 use crate::matching::Found;
 use crate::search::{MOST_BYTES, Query, Search};
 use collation_elements::decided_units_stay;
@@ -174,15 +175,14 @@ impl<'a, W: Weights> Search<'a, W> {
         if reach == 0 || self.cut.held_start() != count || MOST_BYTES - count < piece.len() as u64 {
             return 0;
         }
-        let len = self.finder.take_letters(
-            &self.query,
-            &mut self.cache,
+        let front = Front {
             piece,
+            offset: count,
             reach,
-            count,
-            found,
-            sink,
-        );
+        };
+        let len = self
+            .finder
+            .take_letters(&self.query, &mut self.cache, front, found, sink);
         self.cut.take_characters(len as u64);
         len
     }

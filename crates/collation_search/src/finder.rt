@@ -5,7 +5,7 @@ ghost use Rattle.nfd_points.specs.Reordering.{IsSoundPoint, code_points, is_clos
 ghost use Rattle.nfd_points.specs.declared.limits.TheConstants.{MOST_GIVEN, MOST_WAITING};
 ghost use Rattle.collation_table.specs.declared.limits.TheConstants.{MOST_STRING_POINTS};
 
-use crate::matching::{Found, cut_units, keep, push_points};
+use crate::matching::{Found, Matcher, cut_units, keep, push_points};
 use crate::walk::Walk;
 use arrayvec::ArrayVec;
 use collation_elements::{
@@ -25,8 +25,7 @@ use std::alloc::{AllocError, Global};
 pub(crate) struct Finder {
     pub(crate) reorder: Reorder,
     pub(crate) window: Window,
-    pub(crate) weigher: Weigher,
-    pub(crate) walk: Walk,
+    pub(crate) matcher: Matcher,
     /// The number of code points of the table's longest key.
     pub(crate) longest_key: usize,
     /// The number of the pattern's keys.
@@ -40,8 +39,8 @@ pub(crate) struct Finder {
     ghost closed: { is_closed window.points ≡ true },
     ghost sound: { All IsSoundPoint window.points },
     ghost short_runs: { has_short_runs 0 (code_points window.points) ≡ true },
-    ghost state: { walk.state ≤ pattern_len },
-    ghost room: { walk.places.capacity ≡ pattern_len },
+    ghost state: { matcher.walk.state ≤ pattern_len },
+    ghost room: { matcher.walk.places.capacity ≡ pattern_len },
 }
 
 impl Finder {
@@ -53,7 +52,8 @@ impl Finder {
     ghost use Rattle.collation_elements.specs.Units.{units};
     ghost use Rattle.collation_elements.specs.Windows.{is_decided};
     ghost use Rattle.collation_elements.specs.Items.{items as items_of_units};
-    ghost use Rattle.collation_search.specs.Apart.{HasWalked, IsPausedBefore};
+    ghost use Rattle.collation_search.specs.Apart.{IsPausedBefore};
+    ghost use Rattle.collation_search.specs.Matching.{HasWalked};
     ghost use Rattle.collation_search.specs.Early.{IsCutUpTo};
     ghost use Rattle.collation_search.specs.Finding.{FinderStandsFor};
     ghost use Rattle.collation_elements.specs.Clusters.{clusters_from};
@@ -74,14 +74,16 @@ impl Finder {
         ensures empty { IfOk result (λ f. f.window.points ≡ []) }
         ensures longest { IfOk result (λ f. f.longest_key ≡ longest_key_of (W.table table.now)) }
         ensures pattern_len { IfOk result (λ f. f.pattern_len ≡ length pattern.now.keys) }
-        ensures select { IfOk result (λ f. f.walk.select ≡ select) }
+        ensures select { IfOk result (λ f. f.matcher.walk.select ≡ select) }
     {
         let longest_key = table.longest_key();
         Ok(Finder {
             reorder: Reorder::new(alloc),
             window: Window::with_capacity(alloc, longest_key)?,
-            weigher: Weigher::new(pattern.strength(), pattern.variable()),
-            walk: Walk::new(alloc, pattern, select)?,
+            matcher: Matcher {
+                weigher: Weigher::new(pattern.strength(), pattern.variable()),
+                walk: Walk::new(alloc, pattern, select)?,
+            },
             longest_key,
             pattern_len: pattern.len(),
             given: ArrayVec::new(),
@@ -121,7 +123,8 @@ impl Finder {
         // after a pause, in which none waits, it goes on with a character that begins with a starter
         ensures afresh { (taken : List ℕ) (ranges : List _)
             → IsPausedBefore
-            (W.table table.now) pattern.now self.old.reorder self.old.window self.old.weigher self.old.walk taken ranges c
+            (W.table table.now) pattern.now self.old.reorder self.old.window self.old.matcher
+            taken ranges c
             → offset ≡ byte_len taken → begins_with_starter (points_of offset c) ≡ true
             → OnOk result
             (FinderStandsFor (W.table table.now) pattern.now self.new (taken ++ c ∷ [])
@@ -135,7 +138,8 @@ impl Finder {
             (IsCutUpTo (W.table table.now) place (taken ++ c ∷ []) self.new.window.points) }
         ensures left_afresh { (taken : List ℕ) (ranges : List _)
             → IsPausedBefore
-            (W.table table.now) pattern.now self.old.reorder self.old.window self.old.weigher self.old.walk taken ranges c
+            (W.table table.now) pattern.now self.old.reorder self.old.window self.old.matcher
+            taken ranges c
             → offset ≡ byte_len taken → begins_with_starter (points_of offset c) ≡ true
             → OnOk result
             (IsCutUpTo (W.table table.now) (byte_len taken)
@@ -149,7 +153,7 @@ impl Finder {
         ensures open { self.new.window.has_ended ≡ false }
         ensures longest { self.new.longest_key ≡ self.old.longest_key }
         ensures pattern_len { self.new.pattern_len ≡ self.old.pattern_len }
-        ensures select { self.new.walk.select ≡ self.old.walk.select }
+        ensures select { self.new.matcher.walk.select ≡ self.old.matcher.walk.select }
     {
         closed_points_append();
         decided_units_stay();
@@ -164,8 +168,7 @@ impl Finder {
             table,
             pattern,
             &mut self.window,
-            &mut self.weigher,
-            &mut self.walk,
+            &mut self.matcher,
             &mut self.items,
             found,
         );
@@ -183,10 +186,10 @@ impl Finder {
             → WalksOver pattern.now.keys
             (items_of_units (W.table table.now) pattern.now.strength pattern.now.variable false
             (units (W.table table.now) (points taken)))
-            (ranges ++ found.new.items) self.new.walk }
+            (ranges ++ found.new.items) self.new.matcher.walk }
         ensures walked { (taken : List ℕ) (ranges : List _)
             → FinderStandsFor (W.table table.now) pattern.now self.old taken ranges
-            → HasWalked (W.table table.now) pattern.now self.new.weigher self.new.walk
+            → HasWalked (W.table table.now) pattern.now self.new.matcher
             (units (W.table table.now) (points taken)) (ranges ++ found.new.items) }
         ensures good { (taken : List ℕ) (ranges : List _)
             → FinderStandsFor (W.table table.now) pattern.now self.old taken ranges
@@ -196,7 +199,7 @@ impl Finder {
         ensures few { array_vec_len found.new ≤ longest_key_of (W.table table.now) + MOST_WAITING }
         ensures longest { self.new.longest_key ≡ self.old.longest_key }
         ensures pattern_len { self.new.pattern_len ≡ self.old.pattern_len }
-        ensures select { self.new.walk.select ≡ self.old.walk.select }
+        ensures select { self.new.matcher.walk.select ≡ self.old.matcher.walk.select }
     {
         self.reorder.finish(&mut self.given);
         push_points(&mut self.window, self.given.as_slice());
@@ -205,8 +208,7 @@ impl Finder {
             table,
             pattern,
             &mut self.window,
-            &mut self.weigher,
-            &mut self.walk,
+            &mut self.matcher,
             &mut self.items,
             found,
         );
@@ -216,12 +218,12 @@ impl Finder {
     pub(crate) fn last(&self, pattern: &Pattern, end: u64, found: &mut Found)
         requires { array_vec_len found.old < 128 }
         ensures { (items : List _) (ranges : List _)
-            → WalksOver pattern.now.keys items (ranges ++ found.old.items) self.now.walk
+            → WalksOver pattern.now.keys items (ranges ++ found.old.items) self.now.matcher.walk
             → ranges ++ found.new.items
-            ≡ selected self.now.walk.select
+            ≡ selected self.now.matcher.walk.select
             (all_found pattern.now.keys (clusters_from text_begin items) end) }
     {
-        let range = self.walk.end(pattern, end);
+        let range = self.matcher.walk.end(pattern, end);
         keep(found, range);
     }
 }

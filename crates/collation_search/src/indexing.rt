@@ -4,7 +4,7 @@ ghost use Rattle.std.specs.Prelude.{◌≡◌, ℕ, ◌+◌, ◌<◌, ◌^◌, L
 ghost use Rattle.collation_search.specs.Feeding.{fault_of};
 ghost use Rattle.collation_search.specs.Indexing.{range_or_fault as range_or_fault_of, first_moved, EndsBy, IsFirstOf};
 ghost use Rattle.collation_matches.specs.declared.select.Select.TheVariants.{All};
-ghost use Rattle.collation_matches.specs.Sought.{IsCompiledFrom, answer_to};
+ghost use Rattle.collation_matches.specs.Sought.{IsCompiledFrom, answer_to, seeking};
 ghost use Rattle.collation_matches.specs.Offsets.{answer_from};
 
 use crate::matching::Found;
@@ -35,9 +35,9 @@ pub fn index<W: Weights>(
 ) -> Result<Option<(u64, u64)>, TextFault>
     ensures first { (p : List ℕ)
         → IsCompiledFrom
-        (record { table = W.table table.now; pattern = pattern.now; select = All }) p
+        (seeking (W.table table.now) pattern.now All) p
         → IsFirstOf (answer_to
-        (record { table = W.table table.now; pattern = pattern.now; select = All }) p text.now) result }
+        (seeking (W.table table.now) pattern.now All) p text.now) result }
 {
     let Ok(mut search) = Search::new(alloc, table, pattern) else {
         return Err(TextFault {
@@ -67,9 +67,9 @@ pub fn index_from<W: Weights>(
 ) -> Result<Option<(u64, u64)>, TextFault>
     ensures first { (p : List ℕ)
         → IsCompiledFrom
-        (record { table = W.table table.now; pattern = pattern.now; select = All }) p
+        (seeking (W.table table.now) pattern.now All) p
         → IsFirstOf
-        (answer_from (record { table = W.table table.now; pattern = pattern.now; select = All })
+        (answer_from (seeking (W.table table.now) pattern.now All)
         p text.now from)
         result }
 {

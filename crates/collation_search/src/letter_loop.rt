@@ -12,14 +12,14 @@ ghost use Rattle.collation_letters.specs.Letters.{IsLetter, is_mark};
 ghost use Rattle.collation_letters.specs.Store.{AreLetters};
 ghost use Rattle.collation_letters.specs.declared.letter.Role.TheVariants.{Steps, Plain};
 ghost use Rattle.collation_matches.specs.GoodPrefix.{most_bytes};
-ghost use Rattle.collation_search.specs.Apart.{HasWalkedOn};
+ghost use Rattle.collation_search.specs.Matching.{HasWalkedOn};
 ghost use Rattle.collation_search.specs.Caches.{AreRight};
 ghost use Rattle.collation_search.specs.LetterRun.{HasComeTo};
 
 use crate::feed::call;
+use crate::matching::Matcher;
 use crate::search::Query;
 use crate::skipping::Cache;
-use crate::walk::Walk;
 use collation_elements::{Weigher, weighers_go_on};
 use collation_letters::{Letter, Letters, Role, is_next, laws_of_symbols};
 use collation_table::Weights;
@@ -36,43 +36,56 @@ pub(crate) struct Walked {
     pub(crate) letter: Letter,
 }
 
+/// What is left of a piece, and how far letters of it are taken.
+#[derive(Clone, Copy)]
+pub(crate) struct Front<'a> {
+    pub(crate) piece: &'a [u8],
+    /// Where it stands, in bytes from the beginning of the text.
+    pub(crate) offset: u64,
+    /// The place of the last character that may be taken, in bytes from its own beginning.
+    pub(crate) reach: usize,
+}
+
 /// Walks over characters at the front of a piece, of which the first is the one that follows `from`, as long as no unit reaches from one
 /// to the next, and that does not begin after `reach`. It answers how many bytes these have, and the character that follows.
 #[inline(never)]
 pub(crate) fn walk_letters<W: Weights, F: FnMut(u64, u64)>(
-    weigher: &mut Weigher,
-    walk: &mut Walk,
+    matcher: &mut Matcher,
     query: &Query<'_, W>,
     cache: &mut Cache,
-    piece: &[u8],
+    front: Front<'_>,
     from: Walked,
-    reach: usize,
-    offset: u64,
     sink: &mut F,
 ) -> Walked
-    requires first { (len_utf8 from.next ≤ length piece.now)
-        × SpellsCharacter (take (len_utf8 from.next) piece.now) from.next }
+    requires first { (len_utf8 from.next ≤ length front.piece.now)
+        × SpellsCharacter (take (len_utf8 from.next) front.piece.now) from.next }
     requires letter { IsLetter (W.table query.now.table.now) query.now.pattern.now
         (from.next ∷ []) from.letter }
-    requires begins { begins_with_starter (points_of offset from.next) ≡ true }
+    requires begins { begins_with_starter (points_of front.offset from.next) ≡ true }
     requires right { AreRight (W.table query.now.table.now) query.now.pattern.now cache.old }
-    requires fits { offset + length piece.now ≤ most_bytes }
-    requires state { walk.old.state ≤ length query.now.pattern.now.keys }
+    requires fits { front.offset + length front.piece.now ≤ most_bytes }
+    requires state { matcher.old.walk.state ≤ length query.now.pattern.now.keys }
     requires callable { F.IsAlwaysCallable sink.old }
     ensures come { (ranges : List (ℕ × ℕ))
         × FoldsTo (λ f range g. F.step f range.0 range.1 tt g) sink.old ranges sink.new
-        × HasComeTo (W.table query.now.table.now) query.now.pattern.now piece.now offset reach from.next
-        weigher.old walk.old weigher.new walk.new result.len result.next ranges }
+        × HasComeTo (W.table query.now.table.now) query.now.pattern.now
+        front.entry.piece.now front.entry.offset front.entry.reach from.next matcher.old matcher.new
+        result.len result.next ranges }
     ensures right { AreRight (W.table query.now.table.now) query.now.pattern.now cache.new }
-    ensures state { walk.new.state ≤ length query.now.pattern.now.keys }
-    ensures select { walk.new.select ≡ walk.old.select }
-    ensures room { walk.new.places.capacity ≡ walk.old.places.capacity }
+    ensures state { matcher.new.walk.state ≤ length query.now.pattern.now.keys }
+    ensures select { matcher.new.walk.select ≡ matcher.old.walk.select }
+    ensures room { matcher.new.walk.places.capacity ≡ matcher.old.walk.places.capacity }
     ensures callable { F.IsAlwaysCallable sink.new }
 {
     laws_of_points();
     laws_of_ordering();
     laws_of_faults();
     laws_of_decompositions();
+    let Front {
+        piece,
+        offset,
+        reach,
+    } = front;
     let mut at = 0;
     let mut c = from.next;
     let mut end = c.len_utf8();
@@ -102,12 +115,12 @@ pub(crate) fn walk_letters<W: Weights, F: FnMut(u64, u64)>(
         if end > reach {
             break;
         }
-        walk_letter(weigher, walk, query, &letter, offset + at as u64, sink);
+        walk_letter(matcher, query, &letter, offset + at as u64, sink);
         at = end;
         end += len;
         c = next;
         letter = following;
-        if at < due || walk.state != 0 || weigher.after_variable() {
+        if at < due || matcher.walk.state != 0 || matcher.weigher.after_variable() {
             continue;
         }
         let start = offset + at as u64;
@@ -117,7 +130,7 @@ pub(crate) fn walk_letters<W: Weights, F: FnMut(u64, u64)>(
             continue;
         };
         due = due.saturating_add(skipped.end);
-        walk.pass_to(start + skipped.start as u64);
+        matcher.walk.pass_to(start + skipped.start as u64);
         at += skipped.end;
         c = skipped.next;
         end = at + c.len_utf8();
@@ -167,98 +180,96 @@ fn join<W: Weights>(
 /// is one.
 #[inline(always)]
 fn walk_letter<W: Weights, F: FnMut(u64, u64)>(
-    weigher: &mut Weigher,
-    walk: &mut Walk,
+    matcher: &mut Matcher,
     query: &Query<'_, W>,
     letter: &Letter,
     start: u64,
     sink: &mut F,
 )
     requires known { (letter.now.role ≢ Steps) × (is_mark letter.now.role ≡ false) }
-    requires state { walk.old.state ≤ length query.now.pattern.now.keys }
+    requires state { matcher.old.walk.state ≤ length query.now.pattern.now.keys }
     requires callable { F.IsAlwaysCallable sink.old }
     ensures walked { (ranges : List (ℕ × ℕ))
         × FoldsTo (λ f range g. F.step f range.0 range.1 tt g) sink.old ranges sink.new
         × ((cs : List ℕ)
         → IsLetter (W.table query.now.table.now) query.now.pattern.now cs letter.now
         → HasWalkedOn (W.table query.now.table.now) query.now.pattern.now
-        weigher.old walk.old weigher.new walk.new
+        matcher.old matcher.new
         (units (W.table query.now.table.now) (points_from start cs)) ranges) }
-    ensures state { walk.new.state ≤ length query.now.pattern.now.keys }
-    ensures select { walk.new.select ≡ walk.old.select }
-    ensures room { walk.new.places.capacity ≡ walk.old.places.capacity }
+    ensures state { matcher.new.walk.state ≤ length query.now.pattern.now.keys }
+    ensures select { matcher.new.walk.select ≡ matcher.old.walk.select }
+    ensures room { matcher.new.walk.places.capacity ≡ matcher.old.walk.places.capacity }
     ensures callable { F.IsAlwaysCallable sink.new }
 {
     match letter.role {
-        Role::Plain => walk_plain(weigher, walk, query, letter, start, sink),
-        _ => walk_any(weigher, walk, query, letter, start, sink),
+        Role::Plain => walk_plain(matcher, query, letter, start, sink),
+        _ => walk_any(matcher, query, letter, start, sink),
     }
 }
 
 /// The same of a plain letter, as most are.
 #[inline(always)]
 fn walk_plain<W: Weights, F: FnMut(u64, u64)>(
-    weigher: &mut Weigher,
-    walk: &mut Walk,
+    matcher: &mut Matcher,
     query: &Query<'_, W>,
     letter: &Letter,
     start: u64,
     sink: &mut F,
 )
     requires plain { letter.now.role ≡ Plain }
-    requires state { walk.old.state ≤ length query.now.pattern.now.keys }
+    requires state { matcher.old.walk.state ≤ length query.now.pattern.now.keys }
     requires callable { F.IsAlwaysCallable sink.old }
     ensures walked { (ranges : List (ℕ × ℕ))
         × FoldsTo (λ f range g. F.step f range.0 range.1 tt g) sink.old ranges sink.new
         × ((cs : List ℕ)
         → IsLetter (W.table query.now.table.now) query.now.pattern.now cs letter.now
         → HasWalkedOn (W.table query.now.table.now) query.now.pattern.now
-        weigher.old walk.old weigher.new walk.new
+        matcher.old matcher.new
         (units (W.table query.now.table.now) (points_from start cs)) ranges) }
-    ensures state { walk.new.state ≤ length query.now.pattern.now.keys }
-    ensures select { walk.new.select ≡ walk.old.select }
-    ensures room { walk.new.places.capacity ≡ walk.old.places.capacity }
+    ensures state { matcher.new.walk.state ≤ length query.now.pattern.now.keys }
+    ensures select { matcher.new.walk.select ≡ matcher.old.walk.select }
+    ensures room { matcher.new.walk.places.capacity ≡ matcher.old.walk.places.capacity }
     ensures callable { F.IsAlwaysCallable sink.new }
 {
     laws_of_points();
     laws_of_symbols();
     weighers_go_on();
     let pattern = query.pattern;
-    let range = walk.take_plain(pattern, letter.symbols.third, start);
-    *weigher = Weigher::restore(pattern.strength(), pattern.variable(), false);
+    let symbol = letter.symbols.third;
+    let range = matcher.walk.take_plain(pattern, symbol, start);
+    matcher.weigher = Weigher::restore(pattern.strength(), pattern.variable(), false);
     call(range, sink);
 }
 
 /// The same of any letter.
 #[inline(never)]
 fn walk_any<W: Weights, F: FnMut(u64, u64)>(
-    weigher: &mut Weigher,
-    walk: &mut Walk,
+    matcher: &mut Matcher,
     query: &Query<'_, W>,
     letter: &Letter,
     start: u64,
     sink: &mut F,
 )
     requires known { (letter.now.role ≢ Steps) × (is_mark letter.now.role ≡ false) }
-    requires state { walk.old.state ≤ length query.now.pattern.now.keys }
+    requires state { matcher.old.walk.state ≤ length query.now.pattern.now.keys }
     requires callable { F.IsAlwaysCallable sink.old }
     ensures walked { (ranges : List (ℕ × ℕ))
         × FoldsTo (λ f range g. F.step f range.0 range.1 tt g) sink.old ranges sink.new
         × ((cs : List ℕ)
         → IsLetter (W.table query.now.table.now) query.now.pattern.now cs letter.now
         → HasWalkedOn (W.table query.now.table.now) query.now.pattern.now
-        weigher.old walk.old weigher.new walk.new
+        matcher.old matcher.new
         (units (W.table query.now.table.now) (points_from start cs)) ranges) }
-    ensures state { walk.new.state ≤ length query.now.pattern.now.keys }
-    ensures select { walk.new.select ≡ walk.old.select }
-    ensures room { walk.new.places.capacity ≡ walk.old.places.capacity }
+    ensures state { matcher.new.walk.state ≤ length query.now.pattern.now.keys }
+    ensures select { matcher.new.walk.select ≡ matcher.old.walk.select }
+    ensures room { matcher.new.walk.places.capacity ≡ matcher.old.walk.places.capacity }
     ensures callable { F.IsAlwaysCallable sink.new }
 {
     laws_of_points();
     weighers_go_on();
     let pattern = query.pattern;
-    let range = walk.take_letter(pattern, letter, start);
-    let after = letter.role.flag_after(weigher.after_variable());
-    *weigher = Weigher::restore(pattern.strength(), pattern.variable(), after);
+    let range = matcher.walk.take_letter(pattern, letter, start);
+    let after = letter.role.flag_after(matcher.weigher.after_variable());
+    matcher.weigher = Weigher::restore(pattern.strength(), pattern.variable(), after);
     call(range, sink);
 }

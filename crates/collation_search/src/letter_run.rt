@@ -14,7 +14,7 @@ ghost use Rattle.collation_elements.specs.Units.{units};
 
 use crate::feed::hand_out;
 use crate::finder::Finder;
-use crate::letter_loop::{Walked, walk_letters};
+use crate::letter_loop::{Front, Walked, walk_letters};
 use crate::matching::Found;
 use crate::search::Query;
 use crate::skipping::Cache;
@@ -136,7 +136,7 @@ impl Finder {
     ghost use Rattle.collation_letters.specs.Letters.{IsLetter};
     ghost use Rattle.collation_search.specs.Caches.{AreRight};
     ghost use Rattle.collation_matches.specs.GoodPrefix.{most_bytes};
-    ghost use Rattle.collation_search.specs.Apart.{AreApart, HasWalkedOn, IsPaused};
+    ghost use Rattle.collation_search.specs.Apart.{IsPaused};
     ghost use Rattle.collation_search.specs.Early.{IsCutUpTo};
     ghost use Rattle.collation_search.specs.Finding.{FinderStandsFor};
 
@@ -147,9 +147,7 @@ impl Finder {
         &mut self,
         query: &Query<'_, W>,
         cache: &mut Cache,
-        piece: &[u8],
-        reach: usize,
-        offset: u64,
+        front: Front<'_>,
         found: &mut Found,
         sink: &mut F,
     ) -> usize
@@ -157,31 +155,31 @@ impl Finder {
         requires longest { self.old.longest_key ≡ longest_key_of (W.table query.now.table.now) }
         requires pattern_len { self.old.pattern_len ≡ length query.now.pattern.now.keys }
         requires right { AreRight (W.table query.now.table.now) query.now.pattern.now cache.old }
-        requires fits { offset + length piece.now ≤ most_bytes }
+        requires fits { front.offset + length front.piece.now ≤ most_bytes }
         requires callable { F.IsAlwaysCallable sink.old }
-        ensures within { result ≤ length piece.now }
-        ensures text { IsUtf8 (take result piece.now) }
+        ensures within { result ≤ length front.entry.piece.now }
+        ensures text { IsUtf8 (take result front.entry.piece.now) }
         ensures taken { (ranges : List (ℕ × ℕ))
             × FoldsTo (λ f range g. F.step f range.0 range.1 tt g) sink.old ranges sink.new
             × ((taken : List ℕ) (handed : List (ℕ × ℕ))
             → FinderStandsFor (W.table query.now.table.now) query.now.pattern.now
             self.old taken handed
-            → offset ≡ byte_len taken
+            → front.entry.offset ≡ byte_len taken
             → FinderStandsFor (W.table query.now.table.now) query.now.pattern.now self.new
-            (taken ++ chars (take result piece.now)) (handed ++ ranges)) }
+            (taken ++ chars (take result front.entry.piece.now)) (handed ++ ranges)) }
         // units may be cut early, but only before a character that does not begin after `reach`
         ensures left { (place : ℕ) (taken : List ℕ) (handed : List (ℕ × ℕ))
             → FinderStandsFor (W.table query.now.table.now) query.now.pattern.now
             self.old taken handed
-            → offset ≡ byte_len taken → offset + reach ≤ place
+            → front.entry.offset ≡ byte_len taken → front.entry.offset + front.entry.reach ≤ place
             → IsCutUpTo (W.table query.now.table.now) place taken self.old.window.points
             → IsCutUpTo (W.table query.now.table.now) place (taken ++ chars
-            (take result piece.now)) self.new.window.points }
+            (take result front.entry.piece.now)) self.new.window.points }
         ensures right { AreRight (W.table query.now.table.now) query.now.pattern.now cache.new }
         ensures open { self.new.window.has_ended ≡ false }
         ensures longest { self.new.longest_key ≡ self.old.longest_key }
         ensures pattern_len { self.new.pattern_len ≡ self.old.pattern_len }
-        ensures select { self.new.walk.select ≡ self.old.walk.select }
+        ensures select { self.new.matcher.walk.select ≡ self.old.matcher.walk.select }
         ensures callable { F.IsAlwaysCallable sink.new }
     {
         laws_of_points();
@@ -189,21 +187,34 @@ impl Finder {
         laws_of_faults();
         laws_of_decompositions();
         units_stay_apart();
-        let Some(first) = first_character(piece) else {
+        let Some(first) = first_character(front.piece) else {
             return 0;
         };
         let letter = cache.letters.letter(query.table, query.pattern, first);
-        if !can_begin(query, &mut cache.letters, piece, first, letter, reach) {
+        if !can_begin(
+            query,
+            &mut cache.letters,
+            front.piece,
+            first,
+            letter,
+            front.reach,
+        ) {
             return 0;
         }
         self.pause(query, found);
         hand_out(found.as_slice(), sink);
-        let (at, next) = self.walk_apart(query, cache, piece, first, letter, reach, offset, sink);
+        let from = Walked {
+            len: 0,
+            next: first,
+            letter,
+        };
+        let walked = walk_letters(&mut self.matcher, query, cache, front, from, sink);
+        let at = front.offset + walked.len as u64;
         found.clear();
         // where no point waits no character is at fault
-        let _ = self.take(query.table, query.pattern, next, offset + at as u64, found);
+        let _ = self.take(query.table, query.pattern, walked.next, at, found);
         hand_out(found.as_slice(), sink);
-        at + next.len_utf8()
+        walked.len + walked.next.len_utf8()
     }
 
     /// Cuts all that it holds, as if the text ended here, and puts the ranges that became known into `found`, which is emptied before.
@@ -215,80 +226,16 @@ impl Finder {
             → FinderStandsFor (W.table query.now.table.now) query.now.pattern.now
             self.old taken ranges
             → IsPaused (W.table query.now.table.now) query.now.pattern.now
-            self.new.reorder self.new.window self.new.weigher self.new.walk
+            self.new.reorder self.new.window self.new.matcher
             taken (ranges ++ found.new.items) }
         ensures open { self.new.window.has_ended ≡ false }
         ensures none_waits { self.new.reorder.held ≡ [] }
         ensures longest { self.new.longest_key ≡ self.old.longest_key }
         ensures pattern_len { self.new.pattern_len ≡ self.old.pattern_len }
-        ensures select { self.new.walk.select ≡ self.old.walk.select }
+        ensures select { self.new.matcher.walk.select ≡ self.old.matcher.walk.select }
     {
         found.clear();
         self.end(query.table, query.pattern, found);
         self.window.clear();
-    }
-
-    /// Walks over characters at the front of a piece, of which the first is `first`, as long as no unit reaches from one to the next,
-    /// and that does not begin after `reach`. It answers how many bytes these have, and the character that follows.
-    fn walk_apart<W: Weights, F: FnMut(u64, u64)>(
-        &mut self,
-        query: &Query<'_, W>,
-        cache: &mut Cache,
-        piece: &[u8],
-        first: char,
-        first_letter: Letter,
-        reach: usize,
-        offset: u64,
-        sink: &mut F,
-    ) -> (usize, char)
-        requires first { (len_utf8 first ≤ length piece.now)
-            × SpellsCharacter (take (len_utf8 first) piece.now) first }
-        requires letter { IsLetter (W.table query.now.table.now) query.now.pattern.now
-            (first ∷ []) first_letter }
-        requires begins { begins_with_starter (points_of offset first) ≡ true }
-        requires pattern_len { self.old.pattern_len ≡ length query.now.pattern.now.keys }
-        requires right { AreRight (W.table query.now.table.now) query.now.pattern.now cache.old }
-        requires fits { offset + length piece.now ≤ most_bytes }
-        requires callable { F.IsAlwaysCallable sink.old }
-        ensures within { result.0 + len_utf8 result.1 ≤ length piece.now }
-        ensures reach { result.0 ≤ reach }
-        ensures next { SpellsCharacter (take (len_utf8 result.1)
-            (drop result.0 piece.now)) result.1 }
-        ensures text { IsUtf8 (take result.0 piece.now) }
-        ensures begun { (others : List ℕ)
-            × (chars (take result.0 piece.now) ++ result.1 ∷ [] ≡ first ∷ others) }
-        ensures apart { AreApart (W.table query.now.table.now) offset
-            (chars (take result.0 piece.now)) result.1 }
-        ensures walked { (ranges : List (ℕ × ℕ))
-            × FoldsTo (λ f range g. F.step f range.0 range.1 tt g) sink.old ranges sink.new
-            × HasWalkedOn (W.table query.now.table.now) query.now.pattern.now
-            self.old.weigher self.old.walk self.new.weigher self.new.walk
-            (units (W.table query.now.table.now)
-            (points_from offset (chars (take result.0 piece.now)))) ranges }
-        ensures right { AreRight (W.table query.now.table.now) query.now.pattern.now cache.new }
-        ensures window { self.new.window ≡ self.old.window }
-        ensures reorder { self.new.reorder ≡ self.old.reorder }
-        ensures longest { self.new.longest_key ≡ self.old.longest_key }
-        ensures pattern_len { self.new.pattern_len ≡ self.old.pattern_len }
-        ensures select { self.new.walk.select ≡ self.old.walk.select }
-        ensures callable { F.IsAlwaysCallable sink.new }
-    {
-        let from = Walked {
-            len: 0,
-            next: first,
-            letter: first_letter,
-        };
-        let walked = walk_letters(
-            &mut self.weigher,
-            &mut self.walk,
-            query,
-            cache,
-            piece,
-            from,
-            reach,
-            offset,
-            sink,
-        );
-        (walked.len, walked.next)
     }
 }

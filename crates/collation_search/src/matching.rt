@@ -27,6 +27,13 @@ pub const MOST_FOUND: usize = 128;
 /// Ranges that became known: the start and the end of each, in bytes from the beginning of the text, the end not included.
 pub type Found = ArrayVec<(u64, u64), MOST_FOUND>;
 
+/// What units go through: a weigher, and a walk over the items that it gives.
+#[derive(Drop)]
+pub(crate) struct Matcher {
+    pub(crate) weigher: Weigher,
+    pub(crate) walk: Walk,
+}
+
 /// Puts points at the end of a window.
 pub(crate) fn push_points(window: &mut Window, points: &[Point])
     requires room { length window.old.points + length points.now ≤ window.old.capacity }
@@ -120,67 +127,65 @@ fn walk_key(walk: &mut Walk, pattern: &Pattern, key: Option<Key>)
 /// key need not lie in memory.
 #[inline(never)]
 fn take_long(
-    weigher: &mut Weigher,
-    walk: &mut Walk,
+    matcher: &mut Matcher,
     pattern: &Pattern,
     unit: Unit<'_>,
     items: &mut ArrayVec<Item, MOST_ITEMS>,
     found: &mut Found,
 )
-    requires state { walk.old.state ≤ length pattern.now.keys }
+    requires state { matcher.old.walk.state ≤ length pattern.now.keys }
     requires room { array_vec_len found.old < MOST_FOUND }
     ensures weighed { (table : TableMap) (points : List Point) (units : List (List Point))
         (given : List Item) → IsUnitOf table points unit.entry
-        → WeigherStandsFor table weigher.old units given
-        → WeigherStandsFor table weigher.new (units ++ points ∷ [])
-        (given ++ value_items weigher.old unit.entry) }
-    ensures after { weigher.new ≡ weigher_after weigher.old unit.entry }
+        → WeigherStandsFor table matcher.old.weigher units given
+        → WeigherStandsFor table matcher.new.weigher (units ++ points ∷ [])
+        (given ++ value_items matcher.old.weigher unit.entry) }
+    ensures after { matcher.new.weigher ≡ weigher_after matcher.old.weigher unit.entry }
     ensures walked { (before : List _) (ranges : List _)
-        → WalksOver pattern.now.keys before (ranges ++ found.old.items) walk.old
-        → WalksOver pattern.now.keys (before ++ value_items weigher.old unit.entry)
-        (ranges ++ found.new.items) walk.new }
+        → WalksOver pattern.now.keys before (ranges ++ found.old.items) matcher.old.walk
+        → WalksOver pattern.now.keys (before ++ value_items matcher.old.weigher unit.entry)
+        (ranges ++ found.new.items) matcher.new.walk }
     ensures few { array_vec_len found.new ≤ array_vec_len found.old + 1 }
-    ensures state { walk.new.state ≤ length pattern.now.keys }
-    ensures select { walk.new.select ≡ walk.old.select }
-    ensures room { walk.new.places.capacity ≡ walk.old.places.capacity }
+    ensures state { matcher.new.walk.state ≤ length pattern.now.keys }
+    ensures select { matcher.new.walk.select ≡ matcher.old.walk.select }
+    ensures room { matcher.new.walk.places.capacity ≡ matcher.old.walk.places.capacity }
 {
-    weigher.take(&unit, items);
-    walk_over(walk, pattern, items.as_slice(), found);
+    matcher.weigher.take(&unit, items);
+    walk_over(&mut matcher.walk, pattern, items.as_slice(), found);
 }
 
 /// Weighs a unit, and walks over its items.
 #[inline(always)]
 fn take_unit(
-    weigher: &mut Weigher,
-    walk: &mut Walk,
+    matcher: &mut Matcher,
     pattern: &Pattern,
     unit: Unit<'_>,
     items: &mut ArrayVec<Item, MOST_ITEMS>,
     found: &mut Found,
 )
-    requires state { walk.old.state ≤ length pattern.now.keys }
+    requires state { matcher.old.walk.state ≤ length pattern.now.keys }
     requires room { array_vec_len found.old < MOST_FOUND }
     ensures weighed { (table : TableMap) (points : List Point) (units : List (List Point))
         (given : List Item) → IsUnitOf table points unit.entry
-        → WeigherStandsFor table weigher.old units given
-        → WeigherStandsFor table weigher.new (units ++ points ∷ [])
-        (given ++ value_items weigher.old unit.entry) }
-    ensures after { weigher.new ≡ weigher_after weigher.old unit.entry }
+        → WeigherStandsFor table matcher.old.weigher units given
+        → WeigherStandsFor table matcher.new.weigher (units ++ points ∷ [])
+        (given ++ value_items matcher.old.weigher unit.entry) }
+    ensures after { matcher.new.weigher ≡ weigher_after matcher.old.weigher unit.entry }
     ensures walked { (before : List _) (ranges : List _)
-        → WalksOver pattern.now.keys before (ranges ++ found.old.items) walk.old
-        → WalksOver pattern.now.keys (before ++ value_items weigher.old unit.entry)
-        (ranges ++ found.new.items) walk.new }
+        → WalksOver pattern.now.keys before (ranges ++ found.old.items) matcher.old.walk
+        → WalksOver pattern.now.keys (before ++ value_items matcher.old.weigher unit.entry)
+        (ranges ++ found.new.items) matcher.new.walk }
     ensures few { array_vec_len found.new ≤ array_vec_len found.old + 1 }
-    ensures state { walk.new.state ≤ length pattern.now.keys }
-    ensures select { walk.new.select ≡ walk.old.select }
-    ensures room { walk.new.places.capacity ≡ walk.old.places.capacity }
+    ensures state { matcher.new.walk.state ≤ length pattern.now.keys }
+    ensures select { matcher.new.walk.select ≡ matcher.old.walk.select }
+    ensures room { matcher.new.walk.places.capacity ≡ matcher.old.walk.places.capacity }
 {
-    match weigher.take_short(&unit) {
+    match matcher.weigher.take_short(&unit) {
         Some(short) => {
-            walk_start(walk, pattern, short.start, found);
-            walk_key(walk, pattern, short.key);
+            walk_start(&mut matcher.walk, pattern, short.start, found);
+            walk_key(&mut matcher.walk, pattern, short.key);
         }
-        None => take_long(weigher, walk, pattern, unit, items, found),
+        None => take_long(matcher, pattern, unit, items, found),
     }
 }
 
@@ -189,19 +194,19 @@ pub(crate) fn cut_units<W: Weights>(
     table: &W,
     pattern: &Pattern,
     window: &mut Window,
-    weigher: &mut Weigher,
-    walk: &mut Walk,
+    matcher: &mut Matcher,
     items: &mut ArrayVec<Item, MOST_ITEMS>,
     found: &mut Found,
 )
-    requires state { walk.old.state ≤ length pattern.now.keys }
+    requires state { matcher.old.walk.state ≤ length pattern.now.keys }
     requires room { array_vec_len found.old + length window.old.points ≤ MOST_FOUND }
     ensures stands { (points : List Point) (ranges : List _)
-        → HasMatched (W.table table.now) pattern.now window.old weigher.old walk.old points
+        → HasMatched (W.table table.now) pattern.now window.old matcher.old points
         (ranges ++ found.old.items)
-        → HasMatched (W.table table.now) pattern.now window.new weigher.new walk.new points
+        → HasMatched (W.table table.now) pattern.now window.new matcher.new points
         (ranges ++ found.new.items) }
-    ensures few { array_vec_len found.new + length window.new.points ≤ array_vec_len found.old + length window.old.points }
+    ensures few { array_vec_len found.new + length window.new.points
+        ≤ array_vec_len found.old + length window.old.points }
     ensures kept { All (Contains window.old.points) window.new.points }
     ensures short { All IsSoundPoint window.old.points
         → has_short_runs 0 (code_points window.old.points) ≡ true
@@ -216,12 +221,12 @@ pub(crate) fn cut_units<W: Weights>(
     ensures undecided { is_decided (W.table table.now) window.new ≡ false }
     ensures left { window.old.has_ended ≡ false
         → window.new.points ≡ left_points (W.table table.now) window.old.points }
-    ensures state { walk.new.state ≤ length pattern.now.keys }
-    ensures select { walk.new.select ≡ walk.old.select }
-    ensures room { walk.new.places.capacity ≡ walk.old.places.capacity }
+    ensures state { matcher.new.walk.state ≤ length pattern.now.keys }
+    ensures select { matcher.new.walk.select ≡ matcher.old.walk.select }
+    ensures room { matcher.new.walk.places.capacity ≡ matcher.old.walk.places.capacity }
 {
     decided_units_stay();
     while let Some(unit) = window.next_unit(table) {
-        take_unit(weigher, walk, pattern, unit, items, found);
+        take_unit(matcher, pattern, unit, items, found);
     }
 }

@@ -58,7 +58,7 @@ impl<'a, W: Weights> Search<'a, W> {
 
 impl Parked {
     ghost use Rattle.std.specs.Prelude.{◌≡◌, ℕ, List};
-    ghost use Rattle.collation_matches.specs.Sought.{Sought};
+    ghost use Rattle.collation_matches.specs.Sought.{Sought, seeking};
     ghost use Rattle.collation_search.specs.Search.{sought, HasSearched};
     ghost use Rattle.collation_search.specs.State.{words_of};
     ghost use Rattle.collation_search.specs.Parking.{IsFor, HasParked, parked_select, parked_fault, parked_words};
@@ -68,7 +68,7 @@ impl Parked {
     pub fn unpark<'a, W: Weights>(self, table: &'a W, pattern: &'a Pattern) -> Search<'a, W>
         requires fits { IsFor (W.table table.now) pattern.now self }
         ensures sought { sought result
-            ≡ record { table = W.table table.now; pattern = pattern.now; select = parked_select self } }
+            ≡ seeking (W.table table.now) pattern.now (parked_select self) }
         ensures stands { (u : List ℕ) (handed : List (ℕ × ℕ))
             → HasParked (sought result) self u handed → HasSearched result u handed }
         ensures reported { result.fault ≡ parked_fault self }

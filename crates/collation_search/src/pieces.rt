@@ -4,7 +4,7 @@ ghost use Rattle.std.specs.List.{FoldsTo};
 ghost use Rattle.collation_search.specs.Pieces.{joined, most_records_after, most_words, AreUnderWay, Passes, HasStates};
 ghost use Rattle.collation_search.specs.Resuming.{GoesOn};
 ghost use Rattle.collation_search.specs.Saving.{most_records};
-ghost use Rattle.collation_matches.specs.Sought.{IsCompiledFrom, answer_to};
+ghost use Rattle.collation_matches.specs.Sought.{IsCompiledFrom, answer_to, seeking};
 
 use crate::feed::hand_out;
 use crate::matching::Found;
@@ -45,25 +45,25 @@ pub fn search_in_pieces<W: Weights, F: FnMut(u64, u64)>(
     requires { F.IsAlwaysCallable sink.old }
     ensures answer { (text : List ℕ)
         → IsCompiledFrom
-        (record { table = W.table table.now; pattern = pattern.now; select = select }) text
+        (seeking (W.table table.now) pattern.now select) text
         → IfOk result
         (λ told. (found : List (ℕ × ℕ))
         × FoldsTo (λ f range g. F.step f range.0 range.1 tt g) sink.old found sink.new
         × (answer_to
-        (record { table = W.table table.now; pattern = pattern.now; select = select }) text
+        (seeking (W.table table.now) pattern.now select) text
         (joined pieces.now) ≡ record { ranges = found; fault = told.fault })) }
     ensures states { IfOk result (λ told. (states : List (List ℕ)) × (last : List ℕ)
         × HasStates W.Weights
-        (record { table = W.table table.now; pattern = pattern.now; select = select }) pieces.now states last
+        (seeking (W.table table.now) pattern.now select) pieces.now states last
         × (4 * told.most_records ≡ most_words states)) }
     ensures few { IfOk result
         (λ told. told.most_records ≤ most_records
-        (record { table = W.table table.now; pattern = pattern.now; select = select })) }
+        (seeking (W.table table.now) pattern.now select)) }
     // how many records the greatest state has depends on the cuts alone
     ensures most { IfOk result
         (λ told. told.most_records
         ≡ most_records_after
-        (record { table = W.table table.now; pattern = pattern.now; select = select }) [] pieces.now) }
+        (seeking (W.table table.now) pattern.now select) [] pieces.now) }
     ensures callable { F.IsAlwaysCallable sink.new }
 {
     decided_units_stay();
@@ -98,7 +98,7 @@ fn first_state<W: Weights>(
 ) -> Result<Vec<u64>, AllocError>
     ensures begun { IfOk result
         (λ words. HasStates W.Weights
-        (record { table = W.table table.now; pattern = pattern.now; select = select }) [] [] words.items) }
+        (seeking (W.table table.now) pattern.now select) [] [] words.items) }
 {
     let mut words = Vec::new(alloc);
     let search = Search::new_with(alloc, table, pattern, select)?;
@@ -124,16 +124,17 @@ fn take_piece<W: Weights, F: FnMut(u64, u64)>(
     requires callable { F.IsAlwaysCallable sink.old }
     requires under_way { (taken : List ℕ) × (handed : List (ℕ × ℕ))
         × AreUnderWay W.Weights
-        (record { table = W.table table.now; pattern = pattern.now; select = select }) words.old.items taken handed }
+        (seeking (W.table table.now) pattern.now select) words.old.items taken handed }
     ensures passed { IfOk result
         (λ records. (found : List (ℕ × ℕ))
         × FoldsTo (λ f range g. F.step f range.0 range.1 tt g) sink.old found sink.new
         × Passes W.Weights
-        (record { table = W.table table.now; pattern = pattern.now; select = select }) words.old.items piece.now found words.new.items) }
+        (seeking (W.table table.now) pattern.now select)
+        words.old.items piece.now found words.new.items) }
     ensures counted { IfOk result (λ records. length words.new.items ≡ 4 * records) }
     ensures few { IfOk result
         (λ records. records ≤ most_records
-        (record { table = W.table table.now; pattern = pattern.now; select = select })) }
+        (seeking (W.table table.now) pattern.now select)) }
     ensures callable { F.IsAlwaysCallable sink.new }
 {
     let mut search = go_on(alloc, table, pattern, select, words)?;
@@ -157,10 +158,10 @@ fn go_on<'a, W: Weights>(
 ) -> Result<Search<'a, W>, AllocError>
     requires { (taken : List ℕ) × (handed : List (ℕ × ℕ))
         × AreUnderWay W.Weights
-        (record { table = W.table table.now; pattern = pattern.now; select = select }) words.now taken handed }
+        (seeking (W.table table.now) pattern.now select) words.now taken handed }
     ensures goes_on { IfOk result
         (λ search. GoesOn search
-        (record { table = W.table table.now; pattern = pattern.now; select = select }) words.now) }
+        (seeking (W.table table.now) pattern.now select) words.now) }
 {
     match Search::resume_with(alloc, table, pattern, select, words) {
         Ok(search) => Ok(search),

@@ -25,31 +25,38 @@ impl Finder {
         requires empty { self.old.window.points ≡ [] }
         requires open { self.old.window.has_ended ≡ false }
         requires few_places { length state.now.places.now ≤ 4 * self.old.pattern_len }
-        requires room { self.old.walk.places.capacity ≡ self.old.pattern_len }
+        requires room { self.old.matcher.walk.places.capacity ≡ self.old.pattern_len }
         requires few_points { length state.now.window.items ≤ self.old.longest_key }
         ensures held { self.new.reorder.held ≡ state.now.waiting.items }
         ensures window { self.new.window
-            ≡ record { points = state.now.window.items; capacity = self.old.window.capacity; has_ended = false } }
-        ensures weigher { self.new.weigher
+            ≡ record {
+              points = state.now.window.items;
+              capacity = self.old.window.capacity;
+              has_ended = false;
+            } }
+        ensures weigher { self.new.matcher.weigher
             ≡ weigher pattern.now.strength pattern.now.variable state.now.after_variable }
-        ensures state { self.new.walk.state ≡ length self.new.walk.places.items }
-        ensures start { self.new.walk.start ≡ state.now.start }
-        ensures has_keys { self.new.walk.has_keys ≡ state.now.has_keys }
-        ensures places { saved_places self.new.walk.places.items ≡ places_in state.now.places.now }
-        ensures capacity { self.new.walk.places.capacity ≡ self.old.walk.places.capacity }
-        ensures select { self.new.walk.select ≡ self.old.walk.select }
-        ensures last_end { self.new.walk.last_end ≡ state.now.last_end }
+        ensures state { self.new.matcher.walk.state ≡ length self.new.matcher.walk.places.items }
+        ensures start { self.new.matcher.walk.start ≡ state.now.start }
+        ensures has_keys { self.new.matcher.walk.has_keys ≡ state.now.has_keys }
+        ensures places { saved_places self.new.matcher.walk.places.items
+            ≡ places_in state.now.places.now }
+        ensures capacity { self.new.matcher.walk.places.capacity
+            ≡ self.old.matcher.walk.places.capacity }
+        ensures select { self.new.matcher.walk.select ≡ self.old.matcher.walk.select }
+        ensures last_end { self.new.matcher.walk.last_end ≡ state.now.last_end }
         ensures longest { self.new.longest_key ≡ self.old.longest_key }
         ensures pattern_len { self.new.pattern_len ≡ self.old.pattern_len }
     {
         self.reorder = Reorder::restore(alloc, state.waiting.as_slice());
         self.window.restore(state.window.as_slice());
-        self.weigher = Weigher::restore(
+        self.matcher.weigher = Weigher::restore(
             pattern.strength(),
             pattern.variable(),
             state.after_variable,
         );
-        self.walk
+        self.matcher
+            .walk
             .go_on_from(state.start, state.has_keys, state.last_end, state.places);
     }
 }
@@ -57,6 +64,7 @@ impl Finder {
 impl<'a, W: Weights> Search<'a, W> {
     ghost use Rattle.std.specs.Prelude.{◌≡◌, ℕ, ◌*◌, ◌≤◌, List, [], length, IfOk, OnOk, OnErr, IfErr, None, Some};
     ghost use Rattle.collation_matches.specs.declared.select.Select.TheVariants.{All as AllRanges};
+    ghost use Rattle.collation_matches.specs.Sought.{seeking};
     ghost use Rattle.collation_states.specs.StateTests.{state_fault};
     ghost use Rattle.collation_states.specs.Reading.{state_in, Says};
     ghost use Rattle.collation_search.specs.Search.{sought, HasSearched};
@@ -76,16 +84,16 @@ impl<'a, W: Weights> Search<'a, W> {
     ) -> Result<Self, StateFault>
         ensures goes_on { IfOk result
             (λ s. GoesOn s
-            (record { table = W.table table.now; pattern = pattern.now; select = AllRanges }) words.now) }
+            (seeking (W.table table.now) pattern.now AllRanges) words.now) }
         ensures begins { IfOk result (λ s. BeginsWithFault s (state_in AllRanges words.now).fault) }
         ensures accepted { OnOk result
             (state_fault
-            (sizes_of (record { table = W.table table.now; pattern = pattern.now; select = AllRanges })) words.now ≡ None) }
+            (sizes_of (seeking (W.table table.now) pattern.now AllRanges)) words.now ≡ None) }
         ensures refused { IfErr result
             (λ f. IsRefused
-            (sizes_of (record { table = W.table table.now; pattern = pattern.now; select = AllRanges })) words.now f.kind) }
+            (sizes_of (seeking (W.table table.now) pattern.now AllRanges)) words.now f.kind) }
         ensures kept { KeepsSaved result
-            (record { table = W.table table.now; pattern = pattern.now; select = AllRanges }) words.now }
+            (seeking (W.table table.now) pattern.now AllRanges) words.now }
     {
         Search::resume_with(alloc, table, pattern, Select::All, words)
     }
@@ -108,16 +116,16 @@ impl<'a, W: Weights> Search<'a, W> {
     ) -> Result<Self, StateFault>
         ensures goes_on { IfOk result
             (λ s. GoesOn s
-            (record { table = W.table table.now; pattern = pattern.now; select = select }) words.now) }
+            (seeking (W.table table.now) pattern.now select) words.now) }
         ensures begins { IfOk result (λ s. BeginsWithFault s (state_in select words.now).fault) }
         ensures accepted { OnOk result
             (state_fault
-            (sizes_of (record { table = W.table table.now; pattern = pattern.now; select = select })) words.now ≡ None) }
+            (sizes_of (seeking (W.table table.now) pattern.now select)) words.now ≡ None) }
         ensures refused { IfErr result
             (λ f. IsRefused
-            (sizes_of (record { table = W.table table.now; pattern = pattern.now; select = select })) words.now f.kind) }
+            (sizes_of (seeking (W.table table.now) pattern.now select)) words.now f.kind) }
         ensures kept { KeepsSaved result
-            (record { table = W.table table.now; pattern = pattern.now; select = select }) words.now }
+            (seeking (W.table table.now) pattern.now select) words.now }
     {
         clusters_are_parts();
         laws_of_points();
@@ -154,7 +162,7 @@ impl<'a, W: Weights> Search<'a, W> {
         let sizes = sizes(
             self.query.table,
             self.query.pattern,
-            self.finder.walk.select,
+            self.finder.matcher.walk.select,
         );
         let state = read(&sizes, words)?;
         self.begin_again();

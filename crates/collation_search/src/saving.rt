@@ -1,6 +1,7 @@
 //! Saves a search: what it holds as words, by which it can go on later.
 
 ghost use Rattle.std.specs.Prelude.{◌≡◌, ℕ, List, ◌+◌, ◌++◌, ◌<◌, ◌≤◌, length, vec_len, vec_capacity, OnOk, OnErr};
+ghost use Rattle.collation_matches.specs.Sought.{seeking};
 ghost use Rattle.collation_states.specs.State.{head_of, place_words, point_words, words as state_words};
 ghost use Rattle.collation_states.specs.Saving.{BeginsWith};
 ghost use Rattle.collation_search.specs.State.{sizes_of, kept_places, saved_places, match_waits, state_of, words_of};
@@ -25,7 +26,7 @@ use std::alloc::AllocError;
 /// The sizes and the settings of what is looked for.
 pub(crate) fn sizes<W: Weights>(table: &W, pattern: &Pattern, select: Select) -> Sizes
     ensures { result
-        ≡ sizes_of (record { table = W.table table.now; pattern = pattern.now; select = select }) }
+        ≡ sizes_of (seeking (W.table table.now) pattern.now select) }
 {
     Sizes {
         pattern_len: pattern.len(),
@@ -92,12 +93,16 @@ impl<'a, W: Weights> Search<'a, W> {
         ensures few { HasRecords (words_of self.now) (most_records (sought self.now)) }
     {
         let finder = &self.finder;
-        let sizes = sizes(self.query.table, self.query.pattern, finder.walk.select);
+        let sizes = sizes(
+            self.query.table,
+            self.query.pattern,
+            finder.matcher.walk.select,
+        );
         append_head(words, &sizes, &self.head(), self.last_end())?;
         if self.fault.is_some() {
             return Ok(());
         }
-        append_places(words, &finder.walk)?;
+        append_places(words, &finder.matcher.walk)?;
         append_window(words, &finder.window)?;
         append_points(words, finder.reorder.waiting())?;
         Ok(())
@@ -106,18 +111,20 @@ impl<'a, W: Weights> Search<'a, W> {
     /// Of a chain where the last range ends that was handed out; after a fault 0.
     fn last_end(&self) -> u64
         ensures { result
-            ≡ (state_of self.now.query.pattern.now self.now.cut self.now.finder self.now.fault).last_end }
+            ≡ (state_of self.now.query.pattern.now self.now.cut self.now.finder
+            self.now.fault).last_end }
     {
         match self.fault {
             Some(_) => 0,
-            None => self.finder.walk.last_end,
+            None => self.finder.matcher.walk.last_end,
         }
     }
 
     /// The numbers of the first five records.
     fn head(&self) -> Head
         ensures numbers { result
-            ≡ head_of (state_of self.now.query.pattern.now self.now.cut self.now.finder self.now.fault) }
+            ≡ head_of (state_of self.now.query.pattern.now self.now.cut self.now.finder
+            self.now.fault) }
         ensures few { HasRecords (words_of self.now) (most_records (sought self.now)) }
     {
         laws_of_states();
@@ -133,11 +140,11 @@ impl<'a, W: Weights> Search<'a, W> {
             fault_offset: 0,
             held_len: held.len() as u64,
             held: number_of(held),
-            after_variable: finder.weigher.after_variable() as u64,
-            start: finder.walk.start,
-            has_keys: finder.walk.has_keys as u64,
-            waits: match_waits(&finder.walk, self.query.pattern.len()) as u64,
-            state: kept_len(&finder.walk) as u64,
+            after_variable: finder.matcher.weigher.after_variable() as u64,
+            start: finder.matcher.walk.start,
+            has_keys: finder.matcher.walk.has_keys as u64,
+            waits: match_waits(&finder.matcher.walk, self.query.pattern.len()) as u64,
+            state: kept_len(&finder.matcher.walk) as u64,
             window_len: finder.window.len() as u64,
             waiting_len: waiting.len() as u64,
         }

@@ -60,7 +60,7 @@ impl<'a, W: Weights> Search<'a, W> {
     ghost use Rattle.collation_search.specs.Search.{HasSearched, HasTaken, HasReported, HasReportedNone, sought};
     ghost use Rattle.collation_search.specs.StateAfter.{reported_after, fault_so_far, IsReported};
     ghost use Rattle.collation_search.specs.Feeding.{fault_of as told};
-    ghost use Rattle.collation_matches.specs.Sought.{IsCompiledFrom, answer_to, settled_in};
+    ghost use Rattle.collation_matches.specs.Sought.{IsCompiledFrom, answer_to, seeking, settled_in};
     ghost use Rattle.collation_matches.specs.GoodPrefix.{fault as fault_of, is_good_so_far, most_bytes, whole};
 
     /// A search at the beginning of a text, for all minimal matches.
@@ -72,7 +72,7 @@ impl<'a, W: Weights> Search<'a, W> {
         ensures stands { IfOk result (λ s. HasSearched s [] []) }
         ensures sought { IfOk result
             (λ s. sought s
-            ≡ record { table = W.table table.now; pattern = pattern.now; select = All }) }
+            ≡ seeking (W.table table.now) pattern.now All) }
     {
         Search::new_with(alloc, table, pattern, Select::All)
     }
@@ -91,7 +91,7 @@ impl<'a, W: Weights> Search<'a, W> {
         ensures stands { IfOk result (λ s. HasSearched s [] []) }
         ensures sought { IfOk result
             (λ s. sought s
-            ≡ record { table = W.table table.now; pattern = pattern.now; select = select }) }
+            ≡ seeking (W.table table.now) pattern.now select) }
     {
         let _some = pattern.len();
         let finder = Finder::new(alloc, table, pattern, select)?;
@@ -134,7 +134,7 @@ impl<'a, W: Weights> Search<'a, W> {
         ensures place { IfErr result (λ f. f.offset ≤ most_bytes) }
         ensures none { OnErr result (found.new.items ≡ []) }
         ensures same { self.new.query ≡ self.old.query }
-        ensures select { self.new.finder.walk.select ≡ self.old.finder.walk.select }
+        ensures select { self.new.finder.matcher.walk.select ≡ self.old.finder.matcher.walk.select }
         ensures good { self.new.fault ≡ None }
         ensures few { array_vec_len found.new ≤ longest_key_of
             (W.table self.old.query.table.now) + MOST_GIVEN }

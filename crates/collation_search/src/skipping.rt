@@ -42,9 +42,8 @@ impl Cache {
     ghost use Rattle.collation_letters.specs.Apart.{IsNext};
     ghost use Rattle.collation_letters.specs.Letters.{IsLetter};
     ghost use Rattle.collation_elements.specs.Weighing.{is_after_variable};
-    ghost use Rattle.collation_elements.specs.declared.weigher.Weigher.{Weigher};
-    ghost use Rattle.collation_search.specs.declared.walk.Walk.{Walk};
-    ghost use Rattle.collation_search.specs.Apart.{HasWalkedOn};
+    ghost use Rattle.collation_search.specs.declared.matching.Matcher.{Matcher};
+    ghost use Rattle.collation_search.specs.Matching.{HasWalkedOn};
     ghost use Rattle.collation_search.specs.Caches.{AreRight};
     ghost use Rattle.collation_search.specs.Walks.{passed_to};
 
@@ -93,10 +92,10 @@ impl Cache {
             × (chars (take s.end piece.now) ≡ first ∷ others)) }
         ensures apart { IfSome result (λ s.
             IsNext (W.table query.now.table.now) offset (chars (take s.end piece.now)) s.next) }
-        ensures walked { IfSome result (λ s. (weigher : Weigher) (walk : Walk)
-            → is_after_variable weigher ≡ false → walk.state ≡ 0
-            → HasWalkedOn (W.table query.now.table.now) query.now.pattern.now weigher walk weigher
-            (passed_to walk (offset + s.start))
+        ensures walked { IfSome result (λ s. (matcher : Matcher)
+            → is_after_variable matcher.weigher ≡ false → matcher.walk.state ≡ 0
+            → HasWalkedOn (W.table query.now.table.now) query.now.pattern.now matcher
+            (record matcher { walk = passed_to matcher.walk (offset + s.start) })
             (units (W.table query.now.table.now)
             (points_from offset (chars (take s.end piece.now)))) []) }
         ensures right { AreRight (W.table query.now.table.now) query.now.pattern.now self.new }

@@ -8,8 +8,9 @@ use Rattle.utf8_cut.specs.Sequences.{SpellsCharacter}
 use Rattle.nfd_points.specs.Points.{points_of, points_from, begins_with_starter}
 use Rattle.collation_elements.specs.Units.{units}
 use Rattle.collation_letters.specs.Letters.{IsLetter}
+use Rattle.collation_search.specs.declared.matching.Matcher.{Matcher}
 use Rattle.collation_search.specs.declared.walk.Walk.{Walk}
-use Rattle.collation_search.specs.Apart.{HasWalkedOn}
+use Rattle.collation_search.specs.Matching.{HasWalkedOn}
 use Rattle.collation_search.specs.LetterRun.{AreNext}
 use Rattle.collation_search.specs.Walks.{passed_to}
 use Rattle.collation_search.proofs.ApartLaws.{Laws}
@@ -22,7 +23,7 @@ pub characters-init : goal.characters-init
 characters-init g c =
     let table = g.W.Weights.table c.args.query.now.table.now in
     let pattern = c.args.query.now.pattern.now in
-    let piece = c.args.piece.now in
+    let piece = c.args.front.piece.now in
     let laws : Laws = record {
       short = c.laws_of_decompositions.ensures.short;
       in_order = c.laws_of_decompositions.ensures.in_order;
@@ -45,7 +46,7 @@ characters-init g c =
       part = part.0;
       first = ([], part.1);
       letter = subst (λ (cs : List ℕ). IsLetter table pattern cs c.args.from.letter) (sym part.1) c.requires.letter;
-      come = ([], refl, come-none laws table pattern piece c.args.offset c.args.reach c.args.from.next c.args.weigher.now c.args.walk.now c.requires.first.0 c.requires.first.1 c.requires.begins);
+      come = ([], refl, come-none laws table pattern piece c.args.front.offset c.args.front.reach c.args.from.next c.args.matcher.now c.requires.first.0 c.requires.first.1 c.requires.begins);
     }
 
 -- the characters of the letter and the next one are one unit
@@ -53,7 +54,7 @@ pub characters-preserved-then-not-is_next : goal.characters-preserved-then-not-i
 characters-preserved-then-not-is_next g c =
     let table = g.W.Weights.table c.args.query.now.table.now in
     let pattern = c.args.query.now.pattern.now in
-    let piece = c.args.piece.now in
+    let piece = c.args.front.piece.now in
     let l = c.characters in
     let i = l.invariant in
     let next = c.in-Some.next in
@@ -86,7 +87,7 @@ pub characters-preserved-then-at-due : goal.characters-preserved-then-at-due
 characters-preserved-then-at-due g c =
     let table = g.W.Weights.table c.args.query.now.table.now in
     let pattern = c.args.query.now.pattern.now in
-    let piece = c.args.piece.now in
+    let piece = c.args.front.piece.now in
     let laws : Laws = record {
       short = c.laws_of_decompositions.ensures.short;
       in_order = c.laws_of_decompositions.ensures.in_order;
@@ -109,16 +110,16 @@ characters-preserved-then-at-due g c =
     let part = one_part piece l.end (l.end + n) next (omega (arith, value)) spelled in
     let more = chars (take (l.end - l.at) (drop l.at piece)) in
     let walked = c.walk_letter.ensures.walked in
-    let following : AreNext table piece c.args.offset c.args.reach l.at l.end l.c next = record {
+    let following : AreNext table piece c.args.front.offset c.args.front.reach l.at l.end l.c next = record {
       forth = i.forth;
       near = omega (arith, c.if-end-reach.false);
       within = omega (arith, some.0, long, i.ends);
       spelled = spelled;
       part = i.part;
       first = i.first;
-      ends = c.is_next.ensures.apart c.if-not-is_next.false table pattern (c.args.offset + l.at) more next i.letter c.letter-following.ensures.letter;
+      ends = c.is_next.ensures.apart c.if-not-is_next.false table pattern (c.args.front.offset + l.at) more next i.letter c.letter-following.ensures.letter;
     } in
-    let come = come-further laws table pattern piece c.args.offset c.args.reach c.args.from.next l.at l.end l.c next c.args.weigher.now l.weigher c.walk_letter.new.weigher c.args.walk.now l.walk c.walk_letter.new.walk i.come.0 walked.0
+    let come = come-further laws table pattern piece c.args.front.offset c.args.front.reach c.args.from.next l.at l.end l.c next c.args.matcher.now l.matcher c.walk_letter.new.matcher i.come.0 walked.0
     i.come.2 following (walked.2 more i.letter) in
     record {
       callable = c.walk_letter.ensures.callable;
@@ -142,7 +143,7 @@ pub skip-skipped-requires-clause-begins : goal.skip-skipped-requires-clause-begi
 skip-skipped-requires-clause-begins g c =
     let table = g.W.Weights.table c.args.query.now.table.now in
     let pattern = c.args.query.now.pattern.now in
-    let piece = c.args.piece.now in
+    let piece = c.args.front.piece.now in
     let laws : Laws = record {
       short = c.laws_of_decompositions.ensures.short;
       in_order = c.laws_of_decompositions.ensures.in_order;
@@ -165,31 +166,31 @@ skip-skipped-requires-clause-begins g c =
     let part = one_part piece l.end (l.end + n) next (omega (arith, value)) spelled in
     let more = chars (take (l.end - l.at) (drop l.at piece)) in
     let walked = c.walk_letter.ensures.walked in
-    let following : AreNext table piece c.args.offset c.args.reach l.at l.end l.c next = record {
+    let following : AreNext table piece c.args.front.offset c.args.front.reach l.at l.end l.c next = record {
       forth = i.forth;
       near = omega (arith, c.if-end-reach.false);
       within = omega (arith, some.0, long, i.ends);
       spelled = spelled;
       part = i.part;
       first = i.first;
-      ends = c.is_next.ensures.apart c.if-not-is_next.false table pattern (c.args.offset + l.at) more next i.letter c.letter-following.ensures.letter;
+      ends = c.is_next.ensures.apart c.if-not-is_next.false table pattern (c.args.front.offset + l.at) more next i.letter c.letter-following.ensures.letter;
     } in
-    let come = come-further laws table pattern piece c.args.offset c.args.reach c.args.from.next l.at l.end l.c next c.args.weigher.now l.weigher c.walk_letter.new.weigher c.args.walk.now l.walk c.walk_letter.new.walk i.come.0 walked.0
+    let come = come-further laws table pattern piece c.args.front.offset c.args.front.reach c.args.from.next l.at l.end l.c next c.args.matcher.now l.matcher c.walk_letter.new.matcher i.come.0 walked.0
     i.come.2 following (walked.2 more i.letter) in
     let len = chars-len piece l.end (omega (arith, come.within)) come.text in
-    subst (λ k. begins_with_starter (points_of (c.args.offset + k) next) ≡ true) len come.apart.next_begins
+    subst (λ k. begins_with_starter (points_of (c.args.front.offset + k) next) ≡ true) len come.apart.next_begins
 
 pub skip-skipped-requires-clause-later : goal.skip-skipped-requires-clause-later
 skip-skipped-requires-clause-later g c =
     let l = c.characters in
     let i = l.invariant in
-    omega (arith, some-bytes (drop l.at c.args.piece.now) (l.end - l.at) l.c i.first.0 i.first.1)
+    omega (arith, some-bytes (drop l.at c.args.front.piece.now) (l.end - l.at) l.c i.first.0 i.first.1)
 
 pub characters-preserved-in_default-skipped : goal.characters-preserved-in_default-skipped
 characters-preserved-in_default-skipped g c =
     let table = g.W.Weights.table c.args.query.now.table.now in
     let pattern = c.args.query.now.pattern.now in
-    let piece = c.args.piece.now in
+    let piece = c.args.front.piece.now in
     let laws : Laws = record {
       short = c.laws_of_decompositions.ensures.short;
       in_order = c.laws_of_decompositions.ensures.in_order;
@@ -212,16 +213,16 @@ characters-preserved-in_default-skipped g c =
     let part = one_part piece l.end (l.end + n) next (omega (arith, value)) spelled in
     let more = chars (take (l.end - l.at) (drop l.at piece)) in
     let walked = c.walk_letter.ensures.walked in
-    let following : AreNext table piece c.args.offset c.args.reach l.at l.end l.c next = record {
+    let following : AreNext table piece c.args.front.offset c.args.front.reach l.at l.end l.c next = record {
       forth = i.forth;
       near = omega (arith, c.if-end-reach.false);
       within = omega (arith, some.0, long, i.ends);
       spelled = spelled;
       part = i.part;
       first = i.first;
-      ends = c.is_next.ensures.apart c.if-not-is_next.false table pattern (c.args.offset + l.at) more next i.letter c.letter-following.ensures.letter;
+      ends = c.is_next.ensures.apart c.if-not-is_next.false table pattern (c.args.front.offset + l.at) more next i.letter c.letter-following.ensures.letter;
     } in
-    let come = come-further laws table pattern piece c.args.offset c.args.reach c.args.from.next l.at l.end l.c next c.args.weigher.now l.weigher c.walk_letter.new.weigher c.args.walk.now l.walk c.walk_letter.new.walk i.come.0 walked.0
+    let come = come-further laws table pattern piece c.args.front.offset c.args.front.reach c.args.from.next l.at l.end l.c next c.args.matcher.now l.matcher c.walk_letter.new.matcher i.come.0 walked.0
     i.come.2 following (walked.2 more i.letter) in
     record {
       callable = c.walk_letter.ensures.callable;
@@ -246,7 +247,7 @@ pub characters-preserved : goal.characters-preserved
 characters-preserved g c =
     let table = g.W.Weights.table c.args.query.now.table.now in
     let pattern = c.args.query.now.pattern.now in
-    let piece = c.args.piece.now in
+    let piece = c.args.front.piece.now in
     let laws : Laws = record {
       short = c.laws_of_decompositions.ensures.short;
       in_order = c.laws_of_decompositions.ensures.in_order;
@@ -269,34 +270,33 @@ characters-preserved g c =
     let part = one_part piece l.end (l.end + n) next (omega (arith, value)) spelled in
     let more = chars (take (l.end - l.at) (drop l.at piece)) in
     let walked = c.walk_letter.ensures.walked in
-    let following : AreNext table piece c.args.offset c.args.reach l.at l.end l.c next = record {
+    let following : AreNext table piece c.args.front.offset c.args.front.reach l.at l.end l.c next = record {
       forth = i.forth;
       near = omega (arith, c.if-end-reach.false);
       within = omega (arith, some.0, long, i.ends);
       spelled = spelled;
       part = i.part;
       first = i.first;
-      ends = c.is_next.ensures.apart c.if-not-is_next.false table pattern (c.args.offset + l.at) more next i.letter c.letter-following.ensures.letter;
+      ends = c.is_next.ensures.apart c.if-not-is_next.false table pattern (c.args.front.offset + l.at) more next i.letter c.letter-following.ensures.letter;
     } in
-    let come = come-further laws table pattern piece c.args.offset c.args.reach c.args.from.next l.at l.end l.c next c.args.weigher.now l.weigher c.walk_letter.new.weigher c.args.walk.now l.walk c.walk_letter.new.walk i.come.0 walked.0
+    let come = come-further laws table pattern piece c.args.front.offset c.args.front.reach c.args.from.next l.at l.end l.c next c.args.matcher.now l.matcher c.walk_letter.new.matcher i.come.0 walked.0
     i.come.2 following (walked.2 more i.letter) in
     let s = c.in-Some-skipped.skipped in
     let e = c.in-Some-skipped.ensures in
-    let start = c.args.offset + l.end in
+    let start = c.args.front.offset + l.end in
     let to = l.end + s.end in
     let text : List ℕ = take (length piece - l.end) (drop l.end piece) in
-    let weigher = c.walk_letter.new.weigher in
-    let walk = c.walk_letter.new.walk in
-    let now = c.pass_to.new.self in
-    let skipped : AreNext table piece c.args.offset c.args.reach l.end to next s.next =
-    next-n table piece text c.args.offset c.args.reach l.end next s.end s.next rest (omega (arith, c.if-end-reach.false)) e.reach e.within e.next e.text e.begun e.apart (len_utf8_bounds s.next).0 in
+    let matcher = c.walk_letter.new.matcher in
+    let now : Matcher = record matcher { walk = c.pass_to.new.self } in
+    let skipped : AreNext table piece c.args.front.offset c.args.front.reach l.end to next s.next =
+    next-n table piece text c.args.front.offset c.args.front.reach l.end next s.end s.next rest (omega (arith, c.if-end-reach.false)) e.reach e.within e.next e.text e.begun e.apart (len_utf8_bounds s.next).0 in
     let count : s.end ≡ to - l.end = omega arith in
     let part' : take s.end text ≡ take (to - l.end) (drop l.end piece) = ap (take s.end) rest ∙ ap (λ k. take k (drop l.end piece)) count in
-    let goes : HasWalkedOn table pattern weigher walk weigher now (units table (points_from start (chars (take (to - l.end) (drop l.end piece))))) [] =
-    subst (λ (v : Walk). HasWalkedOn table pattern weigher walk weigher v (units table (points_from start (chars (take (to - l.end) (drop l.end piece))))) []) (sym c.pass_to.ensures)
-    (subst (λ (t : List ℕ). HasWalkedOn table pattern weigher walk weigher (passed_to walk (start + s.start)) (units table (points_from start (chars t))) []) part'
-    (e.walked weigher walk (sym c.after_variable.ensures ∙ c.if-after_variable.false) (omega (arith, c.if-walk-ne0.false)))) in
-    let further = come-further laws table pattern piece c.args.offset c.args.reach c.args.from.next l.end to next s.next c.args.weigher.now weigher weigher c.args.walk.now walk now (i.come.0 ++ walked.0) [] come skipped goes in
+    let goes : HasWalkedOn table pattern matcher now (units table (points_from start (chars (take (to - l.end) (drop l.end piece))))) [] =
+    subst (λ (v : Walk). HasWalkedOn table pattern matcher (record matcher { walk = v }) (units table (points_from start (chars (take (to - l.end) (drop l.end piece))))) []) (sym c.pass_to.ensures)
+    (subst (λ (t : List ℕ). HasWalkedOn table pattern matcher (record matcher { walk = passed_to matcher.walk (start + s.start) }) (units table (points_from start (chars t))) []) part'
+    (e.walked matcher (sym c.after_variable.ensures ∙ c.if-after_variable.false) (omega (arith, c.if-matcher-ne0.false)))) in
+    let further = come-further laws table pattern piece c.args.front.offset c.args.front.reach c.args.from.next l.end to next s.next c.args.matcher.now matcher now (i.come.0 ++ walked.0) [] come skipped goes in
     let last = one_part piece to (to + c.len_utf8.result) s.next (omega (arith, c.len_utf8.ensures.value)) skipped.spelled in
     record {
       callable = c.walk_letter.ensures.callable;

@@ -11,16 +11,16 @@ abbrev pub invariant-characters : goal.invariant-characters
 invariant-characters g l = record {
   callable : goal.F-IsAlwaysCallable g l.sink;
   right : AreRight (g.W.Weights.table l.query.table.now) l.query.pattern.now l.cache;
-  state : l.walk.state ≤ length l.query.pattern.now.keys;
-  select : l.walk.select ≡ l.fn.walk.select;
-  room : l.walk.places.capacity ≡ l.fn.walk.places.capacity;
+  state : l.matcher.walk.state ≤ length l.query.pattern.now.keys;
+  select : l.matcher.walk.select ≡ l.fn.matcher.walk.select;
+  room : l.matcher.walk.places.capacity ≡ l.fn.matcher.walk.places.capacity;
   forth : l.at ≤ l.end;
   ends : l.end ≤ length l.piece;
   part : IsUtf8 (take (l.end - l.at) (drop l.at l.piece));
   first : (others : List ℕ) × (chars (take (l.end - l.at) (drop l.at l.piece)) ≡ l.c ∷ others);
   letter : IsLetter (g.W.Weights.table l.query.table.now) l.query.pattern.now (chars (take (l.end - l.at) (drop l.at l.piece))) l.letter;
   come : (ranges : List (ℕ × ℕ)) × FoldsTo (λ f range t. goal.F-step g f range.0 range.1 tt t) l.fn.sink ranges l.sink
-      × HasComeTo (g.W.Weights.table l.query.table.now) l.query.pattern.now l.piece l.offset l.reach l.fn.from.next l.fn.weigher l.fn.walk l.weigher l.walk l.at l.c ranges;
+      × HasComeTo (g.W.Weights.table l.query.table.now) l.query.pattern.now l.piece l.offset l.reach l.fn.from.next l.fn.matcher l.matcher l.at l.c ranges;
 }
 
 abbrev pub decreases-characters : goal.decreases-characters

@@ -16,17 +16,17 @@ returns-clause-walked g c =
     let pattern = c.args.query.now.pattern.now in
     let letter = c.args.letter.now in
     let plain = c.requires.plain in
-    let before = c.args.weigher.now in
+    let before = c.args.matcher.now.weigher in
     let walk = c.take_plain-range.new.self in
-    let made : c.restore.result ≡ weigher pattern.strength pattern.variable (flag_after letter.role before.after_variable) =
-    c.restore.ensures.value ∙ ap₂ (λ (s : Strength) (v : Variable). weigher s v false) c.strength.ensures c.variable.ensures
+    let made : c.restore-matcher.result ≡ weigher pattern.strength pattern.variable (flag_after letter.role before.after_variable) =
+    c.restore-matcher.ensures.value ∙ ap₂ (λ (s : Strength) (v : Variable). weigher s v false) c.strength.ensures c.variable.ensures
     ∙ sym (ap (λ r. weigher pattern.strength pattern.variable (flag_after r before.after_variable)) plain) in
     let range = option_to_list c.take_plain-range.result in (
       range,
       c.call.ensures.called,
       λ cs h.
           let said = h.plain plain in
-          walked-on c.weighers_go_on.ensures c.laws_of_points.ensures.shifted table pattern before c.restore.result c.args.walk.now walk c.args.start cs letter range
+          walked-on c.weighers_go_on.ensures c.laws_of_points.ensures.shifted table pattern c.args.matcher.now (record { weigher = c.restore-matcher.result; walk = walk }) c.args.start cs letter range
           (plain-known letter.role plain) (ap is_mark plain) h made
           (λ items ranges keys k on.
           subst (λ r. WalksOver pattern.keys (items ++ letter_items r c.args.start keys) (ranges ++ range) walk) (sym plain)

@@ -20,15 +20,18 @@ loop-unit-preserved g c =
     record {
       stands = λ points ranges h.
           let before = c.loop-unit.invariant.stands points ranges h in
+          let went = before.went in
           let unit = (next_cut table c.loop-unit.window.points).unit in
           record {
             units = before.units ++ unit ∷ [];
-            items = before.items ++ value_items c.loop-unit.weigher c.in-Some.unit;
             cut = c.in-Some.ensures.stands points before.units before.cut;
-            weighed = c.take_unit.ensures.weighed table unit before.units before.items c.in-Some.ensures.unit before.weighed;
-            walked = c.take_unit.ensures.walked before.items ranges before.walked;
-            strength = ap (λ w. w.strength) c.take_unit.ensures.after ∙ before.strength;
-            variable = ap (λ w. w.variable) c.take_unit.ensures.after ∙ before.variable;
+            went = record {
+              items = went.items ++ value_items c.loop-unit.matcher.weigher c.in-Some.unit;
+              weighed = c.take_unit.ensures.weighed table unit before.units went.items c.in-Some.ensures.unit went.weighed;
+              walked = c.take_unit.ensures.walked went.items ranges went.walked;
+              strength = ap (λ w. w.strength) c.take_unit.ensures.after ∙ went.strength;
+              variable = ap (λ w. w.variable) c.take_unit.ensures.after ∙ went.variable;
+            };
             kept = among-through points c.loop-unit.window.points c.next_unit.new.self.points before.kept c.in-Some.ensures.kept;
           };
       few = omega (arith, c.loop-unit.invariant.few, c.take_unit.ensures.few, c.in-Some.ensures.fewer);
@@ -69,7 +72,7 @@ returns-clause-kept g c = subst (λ w. All (Contains c.args.window.now.points) w
 
 pub returns-clause-stands : goal.returns-clause-stands
 returns-clause-stands g c = λ points ranges h.
-    subst (λ w. HasMatched (g.W.Weights.table c.args.table.now) c.args.pattern.now w c.loop-unit.weigher c.loop-unit.walk points (ranges ++ c.loop-unit.found.items))
+    subst (λ w. HasMatched (g.W.Weights.table c.args.table.now) c.args.pattern.now w c.loop-unit.matcher points (ranges ++ c.loop-unit.found.items))
     (sym c.in_default.ensures.unchanged) (c.loop-unit.invariant.stands points ranges h)
 
 pub returns-clause-left : goal.returns-clause-left

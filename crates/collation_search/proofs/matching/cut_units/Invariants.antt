@@ -10,8 +10,8 @@ use Rattle.collation_search.proofs.matching.cut_units.Given as goal
 abbrev pub invariant-loop-unit : goal.invariant-loop-unit
 invariant-loop-unit g l = record {
   stands : (points : List Point) (ranges : List (ℕ × ℕ))
-      → HasMatched (g.W.Weights.table l.table) l.pattern l.initial.window l.initial.weigher l.initial.walk points (ranges ++ l.initial.found.items)
-      → HasMatched (g.W.Weights.table l.table) l.pattern l.window l.weigher l.walk points (ranges ++ l.found.items);
+      → HasMatched (g.W.Weights.table l.table) l.pattern l.initial.window l.initial.matcher points (ranges ++ l.initial.found.items)
+      → HasMatched (g.W.Weights.table l.table) l.pattern l.window l.matcher points (ranges ++ l.found.items);
   few : length l.found.items + length l.window.points ≤ length l.initial.found.items + length l.initial.window.points;
   kept : All (Contains l.initial.window.points) l.window.points;
   short : All IsSoundPoint l.initial.window.points → has_short_runs 0 (code_points l.initial.window.points) ≡ true
@@ -21,9 +21,9 @@ invariant-loop-unit g l = record {
   last : l.initial.window.has_ended ≡ false → is_closed l.initial.window.points ≡ true → is_closed l.window.points ≡ true;
   left : l.initial.window.has_ended ≡ false
       → left_points (g.W.Weights.table l.table) l.window.points ≡ left_points (g.W.Weights.table l.table) l.initial.window.points;
-  state : l.walk.state ≤ length l.pattern.keys;
-  select : l.walk.select ≡ l.initial.walk.select;
-  room : l.walk.places.capacity ≡ l.initial.walk.places.capacity;
+  state : l.matcher.walk.state ≤ length l.pattern.keys;
+  select : l.matcher.walk.select ≡ l.initial.matcher.walk.select;
+  room : l.matcher.walk.places.capacity ≡ l.initial.matcher.walk.places.capacity;
 }
 
 abbrev pub decreases-loop-unit : goal.decreases-loop-unit

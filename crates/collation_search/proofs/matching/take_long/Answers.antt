@@ -9,7 +9,7 @@ use Rattle.collation_search.proofs.matching.take_long.Goals as goal
 pub walk_over-requires-clause-room : goal.walk_over-requires-clause-room
 walk_over-requires-clause-room c =
     let same = ap (λ t. length (item_starts t)) (c.as_slice.ensures.value ∙ c.take.ensures.items) in
-    omega (arith, value_items-few c.args.weigher.now c.args.unit, same, c.requires.room)
+    omega (arith, value_items-few c.args.matcher.now.weigher c.args.unit, same, c.requires.room)
 
 pub returns-clause-weighed : goal.returns-clause-weighed
 returns-clause-weighed c = λ table points units given is stands.
@@ -25,4 +25,4 @@ returns-clause-walked c = λ before ranges h.
 pub returns-clause-few : goal.returns-clause-few
 returns-clause-few c =
     let same = ap (λ t. length (item_starts t)) (c.as_slice.ensures.value ∙ c.take.ensures.items) in
-    omega (arith, value_items-few c.args.weigher.now c.args.unit, same, c.walk_over.ensures.few)
+    omega (arith, value_items-few c.args.matcher.now.weigher c.args.unit, same, c.walk_over.ensures.few)

@@ -19,10 +19,10 @@ returns-in-Some-clause-walked c = λ before ranges h.
 
 pub returns-in-None-clause-weighed : goal.returns-in-None-clause-weighed
 returns-in-None-clause-weighed c = λ table points units given is stands.
-    subst (λ (w : Weigher). WeigherStandsFor table c.take_long.new.weigher (units ++ points ∷ []) (given ++ value_items w c.args.unit)) c.in-None.ensures.none
+    subst (λ (w : Weigher). WeigherStandsFor table c.take_long.new.matcher.weigher (units ++ points ∷ []) (given ++ value_items w c.args.unit)) c.in-None.ensures.none
     (c.take_long.ensures.weighed table points units given is (subst (λ (w : Weigher). WeigherStandsFor table w units given) (sym c.in-None.ensures.none) stands))
 
 pub returns-in-None-clause-walked : goal.returns-in-None-clause-walked
 returns-in-None-clause-walked c = λ before ranges h.
-    subst (λ (w : Weigher). WalksOver c.args.pattern.now.keys (before ++ value_items w c.args.unit) (ranges ++ c.take_long.new.found.items) c.take_long.new.walk) c.in-None.ensures.none
+    subst (λ (w : Weigher). WalksOver c.args.pattern.now.keys (before ++ value_items w c.args.unit) (ranges ++ c.take_long.new.found.items) c.take_long.new.matcher.walk) c.in-None.ensures.none
     (c.take_long.ensures.walked before ranges h)

@@ -30,12 +30,14 @@ returns-clause-stands c = λ table.
       reordered = c.new-self.ensures.starts;
       matched = record {
         units = [];
-        items = [];
         cut = c.clear.ensures.stands table;
-        weighed = c.new-self-2.ensures.stands table;
-        walked = c.begin_again.ensures.walks;
-        strength = ap (λ w. w.strength) c.new-self-2.ensures.value ∙ c.strength.ensures;
-        variable = ap (λ w. w.variable) c.new-self-2.ensures.value ∙ c.variable.ensures;
+        went = record {
+          items = [];
+          weighed = c.new-self-2.ensures.stands table;
+          walked = c.begin_again.ensures.walks;
+          strength = ap (λ w. w.strength) c.new-self-2.ensures.value ∙ c.strength.ensures;
+          variable = ap (λ w. w.variable) c.new-self-2.ensures.value ∙ c.variable.ensures;
+        };
         kept = All-same (Contains first) _ _ none (All-nil (Contains first));
       };
     }

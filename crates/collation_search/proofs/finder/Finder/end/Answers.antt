@@ -6,8 +6,7 @@ use Rattle.std.specs.List.{Contains}
 use Rattle.unicode_normalization.specs.StreamSafe.{has_short_runs}
 use Rattle.nfd_points.specs.Points.{points}
 use Rattle.collation_elements.specs.Units.{units}
-use Rattle.collation_search.specs.Matching.{HasMatched}
-use Rattle.collation_search.specs.Apart.{HasWalked}
+use Rattle.collation_search.specs.Matching.{HasMatched, HasWalked}
 use Rattle.collation_search.proofs.MatchingLemmas.{matched-first, among-pushed}
 use Rattle.collation_search.proofs.PauseLemmas.{walked-all, walked-items}
 use Rattle.collation_search.proofs.finder.Finder.end.Goals as goal
@@ -36,19 +35,19 @@ returns-clause-walked g c = λ taken ranges h.
     let cut = c.end.ensures.stands table (h.points ++ c.as_slice.result.now) h.matched.units (c.push_points.ensures.stands table h.points h.matched.units h.matched.cut) in
     let points_now = ap (λ w. w.points) c.end.ensures.ended ∙ ap (λ w. w.points) c.push_points.ensures.points in
     let kept = All-same (Contains (h.points ++ c.as_slice.result.now)) _ _ points_now (among-pushed h.points c.args.self.now.window.points c.as_slice.result.now h.matched.kept) in
-    let pushed = subst (λ (ps : List Point). HasMatched table pattern c.end.new.self c.args.self.now.weigher c.args.self.now.walk (h.points ++ ps) ranges)
+    let pushed = subst (λ (ps : List Point). HasMatched table pattern c.end.new.self c.args.self.now.matcher (h.points ++ ps) ranges)
     c.as_slice.ensures.value
-    (record { units = h.matched.units; items = h.matched.items; cut = cut; weighed = h.matched.weighed; walked = h.matched.walked; strength = h.matched.strength; variable = h.matched.variable; kept = kept }) in
-    let before = matched-first table pattern c.end.new.self c.args.self.now.weigher c.args.self.now.walk (h.points ++ out) ranges c.args.found.now.items c.requires.empty pushed in
-    let all = walked-all table pattern c.cut_units.new.window c.cut_units.new.weigher c.cut_units.new.walk (h.points ++ out) (ranges ++ c.cut_units.new.found.items)
+    (record { units = h.matched.units; cut = cut; went = h.matched.went; kept = kept }) in
+    let before = matched-first table pattern c.end.new.self c.args.self.now.matcher (h.points ++ out) ranges c.args.found.now.items c.requires.empty pushed in
+    let all = walked-all table pattern c.cut_units.new.window c.cut_units.new.matcher (h.points ++ out) (ranges ++ c.cut_units.new.found.items)
     (c.cut_units.ensures.stands (h.points ++ out) ranges before) none in
-    subst (λ ps. HasWalked table pattern c.cut_units.new.weigher c.cut_units.new.walk (units table ps) (ranges ++ c.cut_units.new.found.items))
+    subst (λ ps. HasWalked table pattern c.cut_units.new.matcher (units table ps) (ranges ++ c.cut_units.new.found.items))
     (sym (c.finish.ensures.rest taken h.points h.reordered)) all
 
 pub returns-clause-ended : goal.returns-clause-ended
 returns-clause-ended g c = λ taken ranges h.
     let table = g.W.Weights.table c.args.table.now in
-    walked-items table c.args.pattern.now c.cut_units.new.weigher c.cut_units.new.walk (units table (points taken)) (ranges ++ c.cut_units.new.found.items) (returns-clause-walked g c taken ranges h)
+    walked-items table c.args.pattern.now c.cut_units.new.matcher (units table (points taken)) (ranges ++ c.cut_units.new.found.items) (returns-clause-walked g c taken ranges h)
 
 pub returns-clause-good : goal.returns-clause-good
 returns-clause-good g c = λ taken ranges h. h.reordered.good

@@ -25,12 +25,14 @@ returns-clause-stands g c =
       reordered = c.new.ensures.starts;
       matched = record {
         units = [];
-        items = [];
         cut = c.in_ok-with_capacity.ensures.stands table;
-        weighed = c.new-2.ensures.stands table;
-        walked = c.in_ok-new.ensures.walks;
-        strength = ap (λ w. w.strength) c.new-2.ensures.value ∙ c.strength.ensures;
-        variable = ap (λ w. w.variable) c.new-2.ensures.value ∙ c.variable.ensures;
+        went = record {
+          items = [];
+          weighed = c.new-2.ensures.stands table;
+          walked = c.in_ok-new.ensures.walks;
+          strength = ap (λ w. w.strength) c.new-2.ensures.value ∙ c.strength.ensures;
+          variable = ap (λ w. w.variable) c.new-2.ensures.value ∙ c.variable.ensures;
+        };
         kept = All-same (Contains first) _ _ none (All-nil (Contains first));
       };
     }

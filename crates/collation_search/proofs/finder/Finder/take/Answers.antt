@@ -39,20 +39,16 @@ returns-clause-stands g c = λ taken ranges h offset.
     let table = g.W.Weights.table c.args.table.now in
     let pattern = c.args.pattern.now in
     let out = c.push.new.out.items in
-    let pushed = subst (λ (ps : List Point). HasMatched table pattern c.push_points.new.window c.args.self.now.weigher c.args.self.now.walk (h.points ++ ps) ranges)
+    let pushed = subst (λ (ps : List Point). HasMatched table pattern c.push_points.new.window c.args.self.now.matcher (h.points ++ ps) ranges)
     c.as_slice.ensures.value
     (record {
       units = h.matched.units;
-      items = h.matched.items;
       cut = c.push_points.ensures.stands table h.points h.matched.units h.matched.cut;
-      weighed = h.matched.weighed;
-      walked = h.matched.walked;
-      strength = h.matched.strength;
-      variable = h.matched.variable;
+      went = h.matched.went;
       kept = All-same (Contains (h.points ++ c.as_slice.result.now)) _ _ (ap (λ w. w.points) c.push_points.ensures.points)
           (among-pushed h.points c.args.self.now.window.points c.as_slice.result.now h.matched.kept);
     }) in
-    let before = matched-first table pattern c.push_points.new.window c.args.self.now.weigher c.args.self.now.walk (h.points ++ out) ranges c.args.found.now.items c.requires.empty pushed in
+    let before = matched-first table pattern c.push_points.new.window c.args.self.now.matcher (h.points ++ out) ranges c.args.found.now.items c.requires.empty pushed in
     record {
       points = h.points ++ out;
       reordered = c.in_ok-push.ensures.carries taken h.points h.reordered offset;
@@ -84,8 +80,8 @@ returns-clause-afresh g c = λ taken ranges p offset begins.
     let given = first_given out c.push.new.self.held b.others b.first all starter c.in_ok-push.ensures.held.non_starters in
     let ends = ends_here table (points taken) at c.args.c b (subst (λ k. EndsBefore table (points taken) k c.args.c) (sym offset) p.ends) in
     let held = ap (λ w. w.points) c.push_points.ensures.points ∙ ap (λ (ps : List Point). ps ++ c.as_slice.result.now) p.paused.none_left ∙ c.as_slice.ensures.value in
-    let first = matched-afresh table pattern c.push_points.new.window old.weigher old.walk (points taken) out given.0 b.first ranges given.1 ends p.paused.walked held in
-    let before = matched-first table pattern c.push_points.new.window old.weigher old.walk (points taken ++ out) ranges c.args.found.now.items c.requires.empty first in
+    let first = matched-afresh table pattern c.push_points.new.window old.matcher (points taken) out given.0 b.first ranges given.1 ends p.paused.walked held in
+    let before = matched-first table pattern c.push_points.new.window old.matcher (points taken ++ out) ranges c.args.found.now.items c.requires.empty first in
     record {
       points = points taken ++ out;
       reordered = c.in_ok-push.ensures.afresh taken p.paused.none_waits offset begins p.paused.good;

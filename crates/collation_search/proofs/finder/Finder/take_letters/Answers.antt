@@ -7,10 +7,9 @@ use Rattle.std.proofs.lemmas.List.{append-nil}
 use Rattle.std.proofs.lemmas.Str.{chars-nil}
 use Rattle.utf8_cut.specs.Sequences.{SpellsCharacter}
 use Rattle.nfd_points.specs.Points.{byte_len, points, points_of, points_from, begins_with_starter}
-use Rattle.nfd_points.specs.Reordering.{Waiting}
 use Rattle.collation_elements.specs.Units.{units}
-use Rattle.collation_elements.specs.Windows.{Held}
-use Rattle.collation_search.specs.Apart.{EndsBefore, AreApart, HasWalkedOn, IsPausedBefore}
+use Rattle.collation_search.specs.Apart.{EndsBefore, AreApart, IsPausedBefore}
+use Rattle.collation_search.specs.Matching.{HasWalkedOn}
 use Rattle.collation_search.specs.Finding.{FinderStandsFor}
 use Rattle.collation_search.proofs.ApartLaws.{Laws}
 use Rattle.collation_search.proofs.ApartLemmas.{begun}
@@ -45,11 +44,11 @@ returns-then-not-can_begin-clause-taken g c =
           (subst (λ (t : List (ℕ × ℕ)). FinderStandsFor table pattern c.args.self.now taken t) (sym (append-nil handed)) h),
     )
 
-pub walk_apart-at-requires-clause-begins : goal.walk_apart-at-requires-clause-begins
-walk_apart-at-requires-clause-begins g c =
+pub walk_letters-walked-requires-clause-begins : goal.walk_letters-walked-requires-clause-begins
+walk_letters-walked-requires-clause-begins g c =
     let table = g.W.Weights.table c.args.query.now.table.now in
-    let b = begun c.laws_of_decompositions.ensures.short c.args.offset c.in-Some.first in
-    ap begins_with_starter b.is ∙ (apart-at c.laws_of_points.ensures.shifted table c.args.query.now.pattern.now c.in-Some.first c.letter-letter.result c.args.offset (c.can_begin.ensures.apart c.if-not-can_begin.false) c.letter-letter.ensures.letter b.first (ap (λ t. slice_get t 0) b.is)).0
+    let b = begun c.laws_of_decompositions.ensures.short c.args.front.offset c.in-Some.first in
+    ap begins_with_starter b.is ∙ (apart-at c.laws_of_points.ensures.shifted table c.args.query.now.pattern.now c.in-Some.first c.letter-letter.result c.args.front.offset (c.can_begin.ensures.apart c.if-not-can_begin.false) c.letter-letter.ensures.letter b.first (ap (λ t. slice_get t 0) b.is)).0
 
 -- the last character
 last_spelled : (piece : List ℕ) (at n c : ℕ) → n ≡ len_utf8 c → SpellsCharacter (take (len_utf8 c) (drop at piece)) c → IsUtf8 (take n (drop at piece)) × (chars (take n (drop at piece)) ≡ c ∷ [])
@@ -59,9 +58,10 @@ last_spelled piece at n c len spelled =
 
 pub returns-clause-text : goal.returns-clause-text
 returns-clause-text g c =
-    let walked = c.walk_apart-at in
-    text-more c.args.piece.now walked.result.0 c.len_utf8.result walked.ensures.text
-    (last_spelled c.args.piece.now walked.result.0 c.len_utf8.result walked.result.1 c.len_utf8.ensures.value walked.ensures.next).0
+    let walked = c.walk_letters-walked in
+    let come = walked.ensures.come.2 in
+    text-more c.args.front.piece.now walked.result.len c.len_utf8.result come.text
+    (last_spelled c.args.front.piece.now walked.result.len c.len_utf8.result walked.result.next c.len_utf8.ensures.value come.next).0
 
 on_ok-there : {E X : Type 0} → (r : Result (Unit {0}) E) → r ≡ Ok tt → OnOk r X → X
 on_ok-there {E} {X} r same h = subst (λ (t : Result (Unit {0}) E). OnOk t X) same h
@@ -70,15 +70,16 @@ pub returns-clause-taken : goal.returns-clause-taken
 returns-clause-taken g c =
     let table = g.W.Weights.table c.args.query.now.table.now in
     let pattern = c.args.query.now.pattern.now in
-    let piece = c.args.piece.now in
-    let at = c.walk_apart-at.result.0 in
-    let next = c.walk_apart-at.result.1 in
-    let e = c.walk_apart-at.ensures in
+    let piece = c.args.front.piece.now in
+    let at = c.walk_letters-walked.result.len in
+    let next = c.walk_letters-walked.result.next in
+    let walked = c.walk_letters-walked.ensures.come in
+    let e = walked.2 in
     let cs = chars (take at piece) in
     let held = c.pause.new.found.items in
     let last = c.take.new.found.items in
     let before = c.pause.new.self in
-    let after = c.walk_apart-at.new.self in
+    let after = c.walk_letters-walked.new.matcher in
     let laws : Laws = record {
       short = c.laws_of_decompositions.ensures.short;
       in_order = c.laws_of_decompositions.ensures.in_order;
@@ -92,33 +93,30 @@ returns-clause-taken g c =
     let within = e.within in
     let len = chars-len piece at (omega (arith, within)) e.text in
     let first_calls = subst (λ (t : List (ℕ × ℕ)). FoldsTo (λ f range t'. goal.F-step g f range.0 range.1 tt t') c.args.sink.now t c.hand_out.new.sink) c.as_slice.ensures.value c.hand_out.ensures.called in
-    let last_calls = subst (λ (t : List (ℕ × ℕ)). FoldsTo (λ f range t'. goal.F-step g f range.0 range.1 tt t') c.walk_apart-at.new.sink t c.hand_out-2.new.sink) c.as_slice-2.ensures.value c.hand_out-2.ensures.called in (
-      held ++ (e.walked.0 ++ last),
-      folds-append (λ f range t. goal.F-step g f range.0 range.1 tt t) c.args.sink.now held (e.walked.0 ++ last) c.hand_out.new.sink c.hand_out-2.new.sink first_calls
-          (folds-append (λ f range t. goal.F-step g f range.0 range.1 tt t) c.hand_out.new.sink e.walked.0 last c.walk_apart-at.new.sink c.hand_out-2.new.sink e.walked.1 last_calls),
+    let last_calls = subst (λ (t : List (ℕ × ℕ)). FoldsTo (λ f range t'. goal.F-step g f range.0 range.1 tt t') c.walk_letters-walked.new.sink t c.hand_out-2.new.sink) c.as_slice-2.ensures.value c.hand_out-2.ensures.called in (
+      held ++ (walked.0 ++ last),
+      folds-append (λ f range t. goal.F-step g f range.0 range.1 tt t) c.args.sink.now held (walked.0 ++ last) c.hand_out.new.sink c.hand_out-2.new.sink first_calls
+          (folds-append (λ f range t. goal.F-step g f range.0 range.1 tt t) c.hand_out.new.sink walked.0 last c.walk_letters-walked.new.sink c.hand_out-2.new.sink walked.1 last_calls),
       λ taken handed h place.
           let ends : EndsBefore table (points taken) (byte_len taken) c.in-Some.first = λ x is more.
           let begins = apart-at c.laws_of_points.ensures.shifted table pattern c.in-Some.first c.letter-letter.result (byte_len taken) (c.can_begin.ensures.apart c.if-not-can_begin.false) c.letter-letter.ensures.letter x is in
           c.units_stay_apart.ensures.before table (points taken) x more begins.0 begins.1 in
-          let paused : IsPausedBefore table pattern before.reorder before.window before.weigher before.walk taken (handed ++ held) c.in-Some.first = record { paused = c.pause.ensures.paused taken handed h; ends = ends } in
+          let paused : IsPausedBefore table pattern before.reorder before.window before.matcher taken (handed ++ held) c.in-Some.first = record { paused = c.pause.ensures.paused taken handed h; ends = ends } in
           let run : AreApart table (byte_len taken) cs next = subst (λ k. AreApart table k cs next) place e.apart in
-          let on : HasWalkedOn table pattern before.weigher before.walk after.weigher after.walk (units table (points_from (byte_len taken) cs)) e.walked.0 =
-          subst (λ k. HasWalkedOn table pattern before.weigher before.walk after.weigher after.walk (units table (points_from k cs)) e.walked.0) place e.walked.2 in
-          let there = paused-on laws table pattern before.reorder before.window before.weigher after.weigher before.walk after.walk taken cs c.in-Some.first next e.begun.0 (handed ++ held) e.walked.0
+          let on : HasWalkedOn table pattern before.matcher after (units table (points_from (byte_len taken) cs)) walked.0 =
+          subst (λ k. HasWalkedOn table pattern before.matcher after (units table (points_from k cs)) walked.0) place e.walked in
+          let there = paused-on laws table pattern before.reorder before.window before.matcher after taken cs c.in-Some.first next e.begun.0 (handed ++ held) walked.0
           e.begun.1 paused run on in
-          let here : IsPausedBefore table pattern after.reorder after.window after.weigher after.walk (taken ++ cs) ((handed ++ held) ++ e.walked.0) next =
-          subst (λ (w : Waiting). IsPausedBefore table pattern w after.window after.weigher after.walk (taken ++ cs) ((handed ++ held) ++ e.walked.0) next) (sym e.reorder)
-          (subst (λ (w : Held). IsPausedBefore table pattern before.reorder w after.weigher after.walk (taken ++ cs) ((handed ++ held) ++ e.walked.0) next) (sym e.window) there) in
-          let offset : c.args.offset + at ≡ byte_len (taken ++ cs) = omega (arith, place, len, c.laws_of_points.ensures.bytes_of_parts taken cs) in
-          let begins = subst (λ k. begins_with_starter (points_of (c.args.offset + k) next) ≡ true) len e.apart.next_begins in
-          let ok = c.take.ensures.apart (ap (λ (w : Waiting). w.held) e.reorder ∙ c.pause.ensures.none_waits) in
-          let found = on_ok-there c.take.result ok (c.take.ensures.afresh (taken ++ cs) ((handed ++ held) ++ e.walked.0) here offset begins) in
+          let offset : c.args.front.offset + at ≡ byte_len (taken ++ cs) = omega (arith, place, len, c.laws_of_points.ensures.bytes_of_parts taken cs) in
+          let begins = subst (λ k. begins_with_starter (points_of (c.args.front.offset + k) next) ≡ true) len e.apart.next_begins in
+          let ok = c.take.ensures.apart c.pause.ensures.none_waits in
+          let found = on_ok-there c.take.result ok (c.take.ensures.afresh (taken ++ cs) ((handed ++ held) ++ walked.0) there offset begins) in
           let codes : (taken ++ cs) ++ next ∷ [] ≡ taken ++ chars (take (at + c.len_utf8.result) piece) =
           append_assoc taken cs (next ∷ [])
           ∙ ap (λ (t : List ℕ). taken ++ t) (sym (chars-more piece at c.len_utf8.result e.text ∙ ap (λ (t : List ℕ). cs ++ t) (last_spelled piece at c.len_utf8.result next c.len_utf8.ensures.value e.next).1)) in
-          let all : ((handed ++ held) ++ e.walked.0) ++ last ≡ handed ++ (held ++ (e.walked.0 ++ last)) =
-          append_assoc (handed ++ held) e.walked.0 last ∙ append_assoc handed held (e.walked.0 ++ last) in
-          subst (λ t. FinderStandsFor table pattern c.take.new.self t (handed ++ (held ++ (e.walked.0 ++ last)))) codes
+          let all : ((handed ++ held) ++ walked.0) ++ last ≡ handed ++ (held ++ (walked.0 ++ last)) =
+          append_assoc (handed ++ held) walked.0 last ∙ append_assoc handed held (walked.0 ++ last) in
+          subst (λ t. FinderStandsFor table pattern c.take.new.self t (handed ++ (held ++ (walked.0 ++ last)))) codes
           (subst (λ (t : List (ℕ × ℕ)). FinderStandsFor table pattern c.take.new.self ((taken ++ cs) ++ next ∷ []) t) all found),
     )
 
@@ -137,14 +135,15 @@ pub returns-clause-left : goal.returns-clause-left
 returns-clause-left g c = λ place taken handed h here reach before.
     let table = g.W.Weights.table c.args.query.now.table.now in
     let pattern = c.args.query.now.pattern.now in
-    let piece = c.args.piece.now in
-    let at = c.walk_apart-at.result.0 in
-    let next = c.walk_apart-at.result.1 in
-    let e = c.walk_apart-at.ensures in
+    let piece = c.args.front.piece.now in
+    let at = c.walk_letters-walked.result.len in
+    let next = c.walk_letters-walked.result.next in
+    let walked = c.walk_letters-walked.ensures.come in
+    let e = walked.2 in
     let cs = chars (take at piece) in
     let held = c.pause.new.found.items in
     let paused = c.pause.new.self in
-    let walked = c.walk_apart-at.new.self in
+    let after = c.walk_letters-walked.new.matcher in
     let laws : Laws = record {
       short = c.laws_of_decompositions.ensures.short;
       in_order = c.laws_of_decompositions.ensures.in_order;
@@ -160,22 +159,19 @@ returns-clause-left g c = λ place taken handed h here reach before.
     let ends : EndsBefore table (points taken) (byte_len taken) c.in-Some.first = λ x is more.
     let begins = apart-at c.laws_of_points.ensures.shifted table pattern c.in-Some.first c.letter-letter.result (byte_len taken) (c.can_begin.ensures.apart c.if-not-can_begin.false) c.letter-letter.ensures.letter x is in
     c.units_stay_apart.ensures.before table (points taken) x more begins.0 begins.1 in
-    let first : IsPausedBefore table pattern paused.reorder paused.window paused.weigher paused.walk taken (handed ++ held) c.in-Some.first = record { paused = c.pause.ensures.paused taken handed h; ends = ends } in
+    let first : IsPausedBefore table pattern paused.reorder paused.window paused.matcher taken (handed ++ held) c.in-Some.first = record { paused = c.pause.ensures.paused taken handed h; ends = ends } in
     let run : AreApart table (byte_len taken) cs next = subst (λ k. AreApart table k cs next) here e.apart in
-    let on : HasWalkedOn table pattern paused.weigher paused.walk walked.weigher walked.walk (units table (points_from (byte_len taken) cs)) e.walked.0 =
-    subst (λ k. HasWalkedOn table pattern paused.weigher paused.walk walked.weigher walked.walk (units table (points_from k cs)) e.walked.0) here e.walked.2 in
-    let there = paused-on laws table pattern paused.reorder paused.window paused.weigher walked.weigher paused.walk walked.walk taken cs c.in-Some.first next e.begun.0 (handed ++ held) e.walked.0
+    let on : HasWalkedOn table pattern paused.matcher after (units table (points_from (byte_len taken) cs)) walked.0 =
+    subst (λ k. HasWalkedOn table pattern paused.matcher after (units table (points_from k cs)) walked.0) here e.walked in
+    let there = paused-on laws table pattern paused.reorder paused.window paused.matcher after taken cs c.in-Some.first next e.begun.0 (handed ++ held) walked.0
     e.begun.1 first run on in
-    let last : IsPausedBefore table pattern walked.reorder walked.window walked.weigher walked.walk (taken ++ cs) ((handed ++ held) ++ e.walked.0) next =
-    subst (λ (w : Waiting). IsPausedBefore table pattern w walked.window walked.weigher walked.walk (taken ++ cs) ((handed ++ held) ++ e.walked.0) next) (sym e.reorder)
-    (subst (λ (w : Held). IsPausedBefore table pattern paused.reorder w walked.weigher walked.walk (taken ++ cs) ((handed ++ held) ++ e.walked.0) next) (sym e.window) there) in
-    let offset : c.args.offset + at ≡ byte_len (taken ++ cs) = omega (arith, here, len, c.laws_of_points.ensures.bytes_of_parts taken cs) in
-    let begins = subst (λ k. begins_with_starter (points_of (c.args.offset + k) next) ≡ true) len e.apart.next_begins in
-    let ok = c.take.ensures.apart (ap (λ (w : Waiting). w.held) e.reorder ∙ c.pause.ensures.none_waits) in
-    let now = on_ok-there c.take.result ok (c.take.ensures.left_afresh (taken ++ cs) ((handed ++ held) ++ e.walked.0) last offset begins) in
+    let offset : c.args.front.offset + at ≡ byte_len (taken ++ cs) = omega (arith, here, len, c.laws_of_points.ensures.bytes_of_parts taken cs) in
+    let begins = subst (λ k. begins_with_starter (points_of (c.args.front.offset + k) next) ≡ true) len e.apart.next_begins in
+    let ok = c.take.ensures.apart c.pause.ensures.none_waits in
+    let now = on_ok-there c.take.result ok (c.take.ensures.left_afresh (taken ++ cs) ((handed ++ held) ++ walked.0) there offset begins) in
     let codes : (taken ++ cs) ++ next ∷ [] ≡ taken ++ chars (take (at + c.len_utf8.result) piece) =
     append_assoc taken cs (next ∷ [])
     ∙ ap (λ (t : List ℕ). taken ++ t) (sym (chars-more piece at c.len_utf8.result e.text ∙ ap (λ (t : List ℕ). cs ++ t) (last_spelled piece at c.len_utf8.result next c.len_utf8.ensures.value e.next).1)) in
-    let near = e.reach in
+    let near = e.near in
     cut-wider table (byte_len (taken ++ cs)) place (taken ++ chars (take (at + c.len_utf8.result) piece)) c.take.new.self.window.points (omega (arith, near, offset, reach))
     (subst (λ t. IsCutUpTo table (byte_len (taken ++ cs)) t c.take.new.self.window.points) codes now)

@@ -31,7 +31,7 @@ returns-in-Some-finish-clause-bad g c = λ text u handed compiled h.
     let bad = sym (cut_end u c.in-Some-finish.offset h.open_bytes within cut) in
     let walked = c.end_text.ensures.ended (chars (whole u)) handed h.found in
     let all = append-nil u in
-    let answered = answer-at_fault s c.matches_by_clusters.ensures.settled c.matches_by_clusters.ensures.items text u [] (handed ++ c.end_text.new.found.items) c.end_text.new.self.walk
+    let answered = answer-at_fault s c.matches_by_clusters.ensures.settled c.matches_by_clusters.ensures.items text u [] (handed ++ c.end_text.new.found.items) c.end_text.new.self.matcher.walk
     (record { kind = 31; offset = c.in-Some-finish.offset }) c.end_text.ensures.select compiled h.some_key (c.whole_characters_are_the_longest_text.ensures.text u) within walked (ap fault all ∙ bad)
     (first_fault-at u c.in-Some-finish.offset cut) in
     ap (answer_to s text) (sym all) ∙ answered

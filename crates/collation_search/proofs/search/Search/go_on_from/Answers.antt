@@ -30,7 +30,7 @@ returns-clause-goes_on g c = λ words says.
       start = f.start ∙ says.start;
       has_keys = f.has_keys ∙ says.has_keys;
       places = f.places ∙ says.places;
-      capacity = f.capacity ∙ c.requires.new.found.matched.walked.capacity;
+      capacity = f.capacity ∙ c.requires.new.found.matched.went.walked.capacity;
       select = f.select;
       last_end = f.last_end ∙ says.last_end;
     } in

@@ -44,9 +44,9 @@ returns-clause-in_time g c = λ text u later handed range compiled h late there.
       faults = c.laws_of_faults.ensures.following;
     } in
     let m = h.found.matched in
-    let walked = m.walked in
-    let given : items s.table s.pattern.strength s.pattern.variable false m.units ≡ m.items =
-    sym (m.weighed.items ∙ ap (λ t. items s.table t search.finder.weigher.variable false m.units) m.strength ∙ ap (λ v. items s.table s.pattern.strength v false m.units) m.variable) in
+    let walked = m.went.walked in
+    let given : items s.table s.pattern.strength s.pattern.variable false m.units ≡ m.went.items =
+    sym (m.went.weighed.items ∙ ap (λ t. items s.table t search.finder.matcher.weigher.variable false m.units) m.went.strength ∙ ap (λ v. items s.table s.pattern.strength v false m.units) m.went.variable) in
     let under_way : IsUnderWay s.table s.pattern.strength s.pattern.variable (chars (whole u)) search.finder.reorder search.finder.window walked.before walked.current =
     record {
       given = h.found.points;

@@ -21,8 +21,8 @@ pub returns-clause-apart : goal.returns-clause-apart
 returns-clause-apart g c = (c.in-Some.ensures.passed c.args.offset).is_next
 
 pub returns-clause-walked : goal.returns-clause-walked
-returns-clause-walked g c = λ weigher walk plain none.
+returns-clause-walked g c = λ matcher plain none.
     let s = c.in-Some.passed in
     let laws : Laws = record { go_on = c.laws_of_borders.ensures.go_on; foreign = c.laws_of_symbols.ensures.foreign; one = c.laws_of_symbols.ensures.one } in
-    goes-on laws c.weighers_go_on.ensures (g.W.Weights.table c.args.query.now.table.now) c.args.query.now.pattern.now weigher walk c.args.offset (c.args.offset + s.start) (chars (take s.end c.args.piece.now)) s.next
+    goes-on laws c.weighers_go_on.ensures (g.W.Weights.table c.args.query.now.table.now) c.args.query.now.pattern.now matcher c.args.offset (c.args.offset + s.start) (chars (take s.end c.args.piece.now)) s.next
     plain none c.requires.later (c.in-Some.ensures.passed c.args.offset)
