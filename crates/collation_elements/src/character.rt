@@ -128,7 +128,8 @@ fn gather<W: Weights>(
     requires { window.old.has_ended ≡ true }
     ensures capacity { window.new.capacity ≡ window.old.capacity }
     ensures items { IfSome result (λ gathered. gathered.items
-        ≡ items (W.table table.now) weigher.old.strength weigher.old.variable weigher.old.after_variable (units (W.table table.now) window.old.points)) }
+        ≡ items (W.table table.now) weigher.old.strength weigher.old.variable
+        weigher.old.after_variable (units (W.table table.now) window.old.points)) }
     ensures after { OnSome result (weigher.new.after_variable
         ≡ after_units (W.table table.now) weigher.old.variable weigher.old.after_variable
         (units (W.table table.now) window.old.points)) }

@@ -42,6 +42,3 @@ pub use crate::texts::{ItemsFault, items_of_text};
 pub use crate::unit::Unit;
 pub use crate::weigher::{MOST_ITEMS, Weigher};
 pub use crate::window::Window;
-
-#[cfg(test)]
-mod tests;

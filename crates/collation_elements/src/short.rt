@@ -63,9 +63,11 @@ impl Weigher {
     /// The items of a unit of one element.
     #[inline(always)]
     fn take_one(&mut self, first_point: Point, e: Element) -> ShortItems
-        ensures items { let unit : UnitValue = record { first_point = first_point; elements = e ∷ [] } in
+        ensures items { let unit : UnitValue
+            = record { first_point = first_point; elements = e ∷ [] } in
             listed result ≡ value_items self.old unit }
-        ensures after { let unit : UnitValue = record { first_point = first_point; elements = e ∷ [] } in
+        ensures after { let unit : UnitValue
+            = record { first_point = first_point; elements = e ∷ [] } in
             self.new ≡ weigher_after self.old unit }
     {
         let strength = self.strength();
@@ -79,9 +81,11 @@ impl Weigher {
     /// The items of a unit of two elements, if these are a lead and its follower.
     #[inline(always)]
     fn take_pair(&mut self, first_point: Point, e: Element, f: Element) -> Option<ShortItems>
-        ensures items { let unit : UnitValue = record { first_point = first_point; elements = e ∷ f ∷ [] } in
+        ensures items { let unit : UnitValue
+            = record { first_point = first_point; elements = e ∷ f ∷ [] } in
             IfSome result (λ short. listed short ≡ value_items self.old unit) }
-        ensures after { let unit : UnitValue = record { first_point = first_point; elements = e ∷ f ∷ [] } in
+        ensures after { let unit : UnitValue
+            = record { first_point = first_point; elements = e ∷ f ∷ [] } in
             OnSome result (self.new ≡ weigher_after self.old unit) }
         ensures none { IfNone result (self.new ≡ self.old) }
     {

@@ -31,7 +31,10 @@ impl<'t> Model for Unit<'t> {
 
     ghost use Rattle.collation_elements.specs.UnitElements.{elements_held};
 
-    ghost view = { λ u. record { first_point = u.first_point; elements = elements_held u.elements } };
+    ghost view = { λ u. record {
+      first_point = u.first_point;
+      elements = elements_held u.elements;
+    } };
 
     ghost invariant = { λ u. length (elements_held u.elements) ≤ MOST_ROW_ELEMENTS };
 }

@@ -35,7 +35,11 @@ impl Model for Window {
 
     ghost Value = { Held };
 
-    ghost view = { λ w. record { points = w.queue.items; capacity = w.queue.capacity; has_ended = w.has_ended } };
+    ghost view = { λ w. record {
+      points = w.queue.items;
+      capacity = w.queue.capacity;
+      has_ended = w.has_ended;
+    } };
 }
 
 impl Window {
@@ -45,7 +49,11 @@ impl Window {
         requires some { 1 ≤ longest_key }
         requires few { longest_key ≤ MOST_STRING_POINTS }
         ensures empty { IfOk result
-            (λ w. w ≡ record { points = []; capacity = longest_key + MOST_GIVEN; has_ended = false }) }
+            (λ w. w ≡ record {
+              points = [];
+              capacity = longest_key + MOST_GIVEN;
+              has_ended = false;
+            }) }
         ensures stands { IfOk result (λ w. (table : TableMap) → WindowStandsFor table w [] []) }
     {
         Ok(Window {

@@ -27,6 +27,3 @@ pub use crate::letter::{Letter, Role, UNKNOWN};
 pub use crate::pairs::letter_of_pair;
 pub use crate::store::Letters;
 pub use crate::symbols::{FIRST, FOREIGN, NO_SYMBOL, Symbols, advance, symbol_of};
-
-#[cfg(test)]
-mod tests;

@@ -11,8 +11,6 @@ mod faults;
 pub mod laws;
 mod level_weights;
 mod pattern;
-#[cfg(test)]
-mod tests;
 
 pub use crate::faults::PatternFault;
 pub use crate::pattern::Pattern;

@@ -29,9 +29,15 @@ impl Model for Pattern {
 
     ghost Value = { Compiled };
 
-    ghost view = { λ p. record { keys = p.keys.items; strength = p.strength; variable = p.variable } };
+    ghost view = { λ p. record {
+      keys = p.keys.items;
+      strength = p.strength;
+      variable = p.variable;
+    } };
 
-    ghost invariant = { λ p. (1 ≤ length p.keys.items) × (length p.borders.items ≡ length p.keys.items) × AreBorders p.keys.items p.borders.items };
+    ghost invariant = { λ p. (1 ≤ length p.keys.items)
+        × (length p.borders.items ≡ length p.keys.items)
+        × AreBorders p.keys.items p.borders.items };
 }
 
 impl Pattern {

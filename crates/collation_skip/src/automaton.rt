@@ -113,7 +113,8 @@ impl Automaton {
     ) -> Option<Passed>
         requires passed { 0 < cursor.passed_at
             → (cursor.passed_at ≤ length piece.now)
-            × Stands (W.table table.now) pattern.now self.now piece.now cursor.passed_at cursor.passed_row }
+            × Stands (W.table table.now) pattern.now self.now piece.now
+            cursor.passed_at cursor.passed_row }
         requires letters { AreLetters (W.table table.now) pattern.now letters.old }
         ensures within { IfSome result (λ it. it.end + len_utf8 it.next ≤ length piece.now) }
         ensures order { IfSome result (λ it. it.start ≤ it.end) }
@@ -161,7 +162,8 @@ impl Automaton {
         requires letters { AreLetters (W.table table.now) pattern.now letters.old }
         ensures passed { IfSome result (λ it. 0 < it.passed_at
             → (it.passed_at ≤ length piece.now)
-            × Stands (W.table table.now) pattern.now self.new piece.now it.passed_at it.passed_row) }
+            × Stands (W.table table.now) pattern.now self.new piece.now
+            it.passed_at it.passed_row) }
         ensures right { AreRight (W.table table.now) pattern.now self.new }
         ensures letters { AreLetters (W.table table.now) pattern.now letters.new }
     {
@@ -192,7 +194,8 @@ impl Automaton {
         ensures stands { IfSome result (λ it.
             Stands (W.table table.now) pattern.now self.new piece.now it.at it.row) }
         ensures passed { IfSome result (λ it. 0 < it.passed_at → (it.passed_at ≤ length piece.now)
-            × Stands (W.table table.now) pattern.now self.new piece.now it.passed_at it.passed_row) }
+            × Stands (W.table table.now) pattern.now self.new piece.now
+            it.passed_at it.passed_row) }
         ensures right { AreRight (W.table table.now) pattern.now self.new }
         ensures letters { AreLetters (W.table table.now) pattern.now letters.new }
     {
@@ -273,12 +276,14 @@ impl Automaton {
             (W.table table.now) pattern.now self.now piece.now from.at from.row }
         requires passed { 0 < from.passed_at
             → (from.passed_at ≤ length piece.now)
-            × Stands (W.table table.now) pattern.now self.now piece.now from.passed_at from.passed_row }
+            × Stands (W.table table.now) pattern.now self.now piece.now
+            from.passed_at from.passed_row }
         ensures stands { Stands
             (W.table table.now) pattern.now self.now piece.now result.at result.row }
         ensures passed { 0 < result.passed_at
             → (result.passed_at ≤ length piece.now)
-            × Stands (W.table table.now) pattern.now self.now piece.now result.passed_at result.passed_row }
+            × Stands (W.table table.now) pattern.now self.now piece.now
+            result.passed_at result.passed_row }
         ensures on { from.at ≤ result.at }
     {
         let cells: &[u32] = &self.cells;

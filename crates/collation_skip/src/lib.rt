@@ -31,8 +31,3 @@ pub use crate::ascii::AsciiBlocks;
 pub use crate::automaton::Automaton;
 pub use crate::passed::Passed;
 pub use crate::skip::Skip;
-
-#[cfg(test)]
-mod blocks_tests;
-#[cfg(test)]
-mod tests;

@@ -64,7 +64,14 @@ impl State {
     /// The same where the last letter goes on: it is this one.
     pub(crate) fn with_letter(&self, letter: Letter) -> State
         ensures { result
-            ≡ record { depth = self.now.depth; letter = record letter { is_apart = false }; character = 0; len = 0; before = 0; begun = Whole } }
+            ≡ record {
+              depth = self.now.depth;
+              letter = record letter { is_apart = false };
+              character = 0;
+              len = 0;
+              before = 0;
+              begun = Whole;
+            } }
     {
         State {
             depth: self.depth,

@@ -41,6 +41,3 @@ pub use lookup::Weights;
 pub use plain_table::PlainTable;
 pub use ranges::ImplicitRange;
 pub use table::Table;
-
-#[cfg(test)]
-mod tests;

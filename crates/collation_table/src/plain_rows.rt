@@ -37,7 +37,9 @@ impl Model for PlainRows {
 
     ghost view = { λ a. record { rows = plain_rows a.rows.items; ranges = a.ranges.items } };
 
-    ghost invariant = { λ a. AreLinesSound (record { rows = plain_rows a.rows.items; ranges = a.ranges.items }) × IsNumbered a.rows.items a.numbers };
+    ghost invariant = { λ a.
+        AreLinesSound (record { rows = plain_rows a.rows.items; ranges = a.ranges.items })
+        × IsNumbered a.rows.items a.numbers };
 }
 
 impl PlainRows {

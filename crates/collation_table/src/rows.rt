@@ -42,9 +42,18 @@ impl Model for Rows {
 
     ghost Value = { TableMap };
 
-    ghost view = { λ a. record { rows = rows_at a.points.items a.elements.items a.places.items; ranges = a.ranges.items } };
+    ghost view = { λ a. record {
+      rows = rows_at a.points.items a.elements.items a.places.items;
+      ranges = a.ranges.items;
+    } };
 
-    ghost invariant = { λ a. AreLinesSound (record { rows = rows_at a.points.items a.elements.items a.places.items; ranges = a.ranges.items }) × IsIndexed a.points.items a.elements.items a.places.items a.trie a.longest a.largest };
+    ghost invariant = { λ a.
+        AreLinesSound (record {
+          rows = rows_at a.points.items a.elements.items a.places.items;
+          ranges = a.ranges.items;
+        })
+        × IsIndexed a.points.items a.elements.items a.places.items
+        a.trie a.longest a.largest };
 }
 
 /// The elements at a place.

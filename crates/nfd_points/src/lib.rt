@@ -20,5 +20,3 @@ mod limits;
 mod ordering;
 mod points;
 mod reordering;
-#[cfg(test)]
-mod tests;

@@ -171,6 +171,3 @@ impl Cut {
         }
     }
 }
-
-#[cfg(test)]
-mod tests;

@@ -1,0 +1,302 @@
+//! What no clause says of `utf8_cut`: that the code does on rows from elsewhere what they say, and that `front` and a `Cut` agree on
+//! many bytes. Expected values come from the Unicode Standard, table 3-7, or from `std`.
+ghost use Rattle.std.specs.Prelude.{◌≡◌, List, [], ◌∷◌, Some, None, IsTrue, true, false};
+ghost use Rattle.utf8_cut.specs.Characters.{characters, first_fault, ill_formed_at, is_utf8_prefix, is_incomplete_sequence};
+
+use crate::calls::{put, text_is};
+use std::alloc::Global;
+use std::process::Abort;
+use utf8_cut::{
+    Cut, Cutting, any_bytes_may_follow, first_character, front,
+    incomplete_sequences_begin_characters, text_may_stand_before,
+    whole_characters_are_the_longest_text,
+};
+
+/// The definitions on bytes that are written out.
+fn worked_rows()
+    ensures empty { characters [] ≡ [] }
+    ensures empty_fault { first_fault [] ≡ None }
+    ensures two_bytes { characters (0xC3 ∷ 0xA9 ∷ []) ≡ (0xE9, 0) ∷ [] }
+    ensures not_continued { ill_formed_at (0xE2 ∷ 0x28 ∷ []) ≡ Some 0 }
+    ensures surrogate { ill_formed_at (0xED ∷ 0xA0 ∷ []) ≡ Some 0 }
+    ensures overlong_two { ill_formed_at (0xC0 ∷ []) ≡ Some 0 }
+    ensures overlong_three { ill_formed_at (0x61 ∷ 0xE0 ∷ 0x9F ∷ []) ≡ Some 1 }
+    ensures overlong_four { ill_formed_at (0xF0 ∷ 0x8F ∷ []) ≡ Some 0 }
+    ensures too_great { ill_formed_at (0xC3 ∷ 0xA9 ∷ 0xF4 ∷ 0x90 ∷ []) ≡ Some 2 }
+    ensures above_a_byte { ill_formed_at (0x61 ∷ 0x100 ∷ 0x61 ∷ []) ≡ Some 1 }
+    ensures incomplete_fault { first_fault (0x61 ∷ 0xC3 ∷ []) ≡ Some 1 }
+    ensures incomplete_is_utf8_prefix { IsTrue (is_utf8_prefix (0x61 ∷ 0xC3 ∷ [])) }
+    ensures incomplete_is_not_ill_formed { ill_formed_at (0x61 ∷ 0xC3 ∷ []) ≡ None }
+    ensures three_bytes_incomplete { IsTrue (is_incomplete_sequence (0xF0 ∷ 0x9F ∷ 0x98 ∷ [])) }
+    ensures whole_is_not_incomplete { is_incomplete_sequence (0xC3 ∷ 0xA9 ∷ []) ≡ false }
+    ensures least_and_greatest { characters
+        (0x7F ∷ 0xC2 ∷ 0x80 ∷ 0xDF ∷ 0xBF ∷ 0xE0 ∷ 0xA0 ∷ 0x80 ∷ [])
+        ≡ (0x7F, 0) ∷ (0x80, 1) ∷ (0x7FF, 3) ∷ (0x800, 5) ∷ [] }
+    ensures beside_surrogates { characters (0xED ∷ 0x9F ∷ 0xBF ∷ 0xEE ∷ 0x80 ∷ 0x80 ∷ [])
+        ≡ (0xD7FF, 0) ∷ (0xE000, 3) ∷ [] }
+    ensures past_three_bytes { characters (0xEF ∷ 0xBF ∷ 0xBF ∷ 0xF0 ∷ 0x90 ∷ 0x80 ∷ 0x80 ∷ [])
+        ≡ (0xFFFF, 0) ∷ (0x10000, 3) ∷ [] }
+    ensures greatest { characters (0xF4 ∷ 0x8F ∷ 0xBF ∷ 0xBF ∷ []) ≡ (0x10FFFF, 0) ∷ [] }
+{}
+
+#[test]
+fn definitions_compute() {
+    worked_rows();
+    any_bytes_may_follow();
+    text_may_stand_before();
+    whole_characters_are_the_longest_text();
+    incomplete_sequences_begin_characters();
+}
+
+/// Pushes a byte. No test pushes as many as a `Cut` takes.
+fn push(cut: &mut Cut, byte: u8) -> Cutting {
+    if cut.count() >= 1u64 << 62 {
+        return Cutting::More;
+    }
+    cut.push(byte)
+}
+
+/// Writes what a byte made: a dot where no character is whole, a code point and its offset, or `!` and the offset of a fault.
+fn put_cutting(rt: &impl Abort, text: &mut String, cutting: Cutting) {
+    let written = match cutting {
+        Cutting::More => write!(text, "."),
+        Cutting::Char(c, at) => {
+            let code = c as u32;
+            write!(text, "{code:X}@{at} ")
+        }
+        Cutting::Bad(at) => write!(text, "!{at} "),
+    };
+    written.expect(rt, "memory");
+}
+
+/// What a new `Cut` answers to the bytes, and the `Cut`.
+fn cut_of(rt: &impl Abort, alloc: Global, bytes: &[u8]) -> (String, Cut) {
+    let mut cut = Cut::new();
+    let mut text = String::new(alloc);
+    for byte in bytes {
+        put_cutting(rt, &mut text, push(&mut cut, *byte));
+    }
+    (text, cut)
+}
+
+/// Compares the answers to bytes, where what is held begins then, and the fault where the bytes end.
+fn cut_is(
+    rt: &impl Abort,
+    alloc: Global,
+    bytes: &[u8],
+    want: &str,
+    start: u64,
+    fault: Option<u64>,
+) {
+    let (text, cut) = cut_of(rt, alloc, bytes);
+    text_is(rt, &text, want);
+    assert_eq!(rt; cut.count(), bytes.len() as u64);
+    assert_eq!(rt; cut.held_start(), start);
+    assert_eq!(rt; cut.finish(), fault);
+}
+
+/// The last row has the least and the greatest characters of each length.
+const ROWS: [(&[u8], &str, u64, Option<u64>); 7] = [
+    (b"\xc3\xa9", ".E9@0 ", 2, None),
+    (b"\xe2\x28", ".!0 ", 0, Some(0)),
+    (b"\xed\xa0", ".!0 ", 0, Some(0)),
+    (b"\xc0", "!0 ", 0, Some(0)),
+    (b"a\xffb\xc3\xa9", "61@0 !1 !1 !1 !1 ", 1, Some(1)),
+    (b"a\xc3", "61@0 .", 1, Some(1)),
+    (
+        b"\x7f\xc2\x80\xdf\xbf\xe0\xa0\x80\xed\x9f\xbf\xee\x80\x80\xef\xbf\xbf\xf0\x90\x80\x80\xf4\x8f\xbf\xbf",
+        "7F@0 .80@1 .7FF@3 ..800@5 ..D7FF@8 ..E000@11 ..FFFF@14 ...10000@17 ...10FFFF@21 ",
+        25,
+        None,
+    ),
+];
+
+#[test]
+fn bytes_are_cut(rt: HostRuntime) {
+    for (bytes, want, start, fault) in &ROWS {
+        cut_is(&rt, rt.alloc(), *bytes, *want, *start, *fault);
+    }
+}
+
+/// Overlong forms, surrogates, and sequences above U+10FFFF.
+#[test]
+fn ill_formed_starts(rt: HostRuntime) {
+    for starts in b"\xe0\x80\xe0\x9f\xf0\x80\xf0\x8f\xed\xa0\xed\xbf\xf4\x90\xf4\xbf".chunks(2) {
+        cut_is(&rt, rt.alloc(), starts, ".!0 ", 0, Some(0));
+    }
+    for start in b"\xc0\xc1\xf5\xf8\xfc\xfe\xff\x80\xbf".chunks(1) {
+        cut_is(&rt, rt.alloc(), start, "!0 ", 0, Some(0));
+    }
+}
+
+/// What `std` says of two bytes of which the first is not ASCII.
+fn by_std(bytes: &[u8]) -> Cutting {
+    match std::str::from_utf8(bytes) {
+        Ok(text) => match text.chars().next() {
+            Some(c) => Cutting::Char(c, 0),
+            None => Cutting::More,
+        },
+        Err(error) if error.error_len().is_none() => Cutting::More,
+        Err(_) => Cutting::Bad(0),
+    }
+}
+
+#[test]
+fn two_bytes_are_as_std_reads_them(rt: HostRuntime) {
+    for first in 0x80..=0xFFu8 {
+        for second in 0x00..=0xFFu8 {
+            let mut cut = Cut::new();
+            let _ = push(&mut cut, first);
+            assert_eq!(rt; push(&mut cut, second), by_std(&[first, second]));
+        }
+    }
+}
+
+const FRONTS: [(&[u8], &str, Option<u64>); 6] = [
+    (b"", "", None),
+    (b"a\xc3\xa9", "a\u{E9}", None),
+    (b"a\xc3", "a", Some(1)),
+    (b"ab\xe2\x28", "ab", Some(2)),
+    (b"a\xe2\x82", "a", Some(1)),
+    (b"\xffa", "", Some(0)),
+];
+
+#[test]
+fn front_gives_text_and_fault(rt: HostRuntime) {
+    for (bytes, want, want_fault) in &FRONTS {
+        let (text, fault) = front(*bytes);
+        text_is(&rt, text, *want);
+        assert_eq!(rt; fault, *want_fault);
+    }
+}
+
+/// Mostly whole characters, so that most faults stand after some text.
+const PIECES: [&[u8]; 16] = [
+    b"a",
+    b"a long run of ASCII letters",
+    b"\xc3\xa9",
+    b"\xdf\xbf",
+    b"\xe2\x82\xac",
+    b"\xed\x9f\xbf",
+    b"\xef\xbf\xbf",
+    b"\xf0\x9f\x98\x80",
+    b"\xf4\x8f\xbf\xbf",
+    b"z",
+    b"\xe0\xa0\x80",
+    b"\xf0\x90",
+    b"\xe2\x82",
+    b"\xc3",
+    b"\xed\xa0\x80",
+    b"\x80",
+];
+
+/// The next twelve of these pieces, of which two of three are whole characters.
+fn draw(rt: &impl Abort, alloc: Global, seed: &mut u64) -> Vec<u8> {
+    let mut bytes = Vec::new(alloc);
+    for _ in 0..12 {
+        *seed = seed
+            .wrapping_mul(6364136223846793005)
+            .wrapping_add(1442695040888963407);
+        let drawn = (*seed >> 33) as usize % 48;
+        let piece = PIECES[if drawn < 16 { drawn } else { drawn % 11 }];
+        bytes.extend_from_slice(piece).expect(rt, "memory");
+    }
+    bytes
+}
+
+/// Writes what pushes of whole characters answer.
+fn put_whole(rt: &impl Abort, out: &mut String, text: &str) {
+    for (at, c) in text.char_indices() {
+        let more = match c.len_utf8() {
+            1 => "",
+            2 => ".",
+            3 => "..",
+            _ => "...",
+        };
+        put(rt, out, more);
+        put_cutting(rt, out, Cutting::Char(c, at as u64));
+    }
+}
+
+/// `front` and a `Cut` that is pushed the bytes one by one give the same characters and fault.
+fn front_agrees(rt: &impl Abort, alloc: Global, bytes: &[u8]) {
+    let (text, fault) = front(bytes);
+    let mut whole = String::new(alloc);
+    put_whole(rt, &mut whole, text);
+    let (pushed, cut) = cut_of(rt, alloc, bytes);
+    assert!(rt; pushed.starts_with(whole.as_str()), "{bytes:?}");
+    assert_eq!(rt; cut.count(), bytes.len() as u64);
+    assert_eq!(rt; cut.held_start(), text.len() as u64);
+    assert_eq!(rt; cut.finish(), fault);
+}
+
+#[test]
+fn front_agrees_with_single_pushes(rt: HostRuntime) {
+    let mut seed = 1u64;
+    for _ in 0..2000 {
+        let bytes = draw(&rt, rt.alloc(), &mut seed);
+        front_agrees(&rt, rt.alloc(), &bytes);
+    }
+}
+
+#[test]
+fn characters_are_taken_at_once(rt: HostRuntime) {
+    let mut cut = Cut::new();
+    let _ = cut.push(b'a');
+    assert!(rt; cut.held_start() == cut.count());
+    cut.take_characters(5);
+    assert_eq!(rt; cut.count(), 6);
+    assert_eq!(rt; cut.held_start(), 6);
+    assert_eq!(rt; cut.push(b'b'), Cutting::Char('b', 6));
+}
+
+const FIRSTS: [(&[u8], Option<char>); 10] = [
+    (b"ab", Some('a')),
+    (b"\xc3\xa9a", Some('\u{E9}')),
+    (b"\xe2\x82\xac\xff", Some('\u{20AC}')),
+    (b"\xf4\x8f\xbf\xbf", Some('\u{10FFFF}')),
+    (b"", None),
+    (b"\xc3", None),
+    (b"\xc1\xa9", None),
+    (b"\xe2\x82a", None),
+    (b"\xed\xa0\x80", None),
+    (b"\xf0\x9f\x98", None),
+];
+
+#[test]
+fn first_characters(rt: HostRuntime) {
+    for (bytes, want) in &FIRSTS {
+        assert_eq!(rt; first_character(*bytes), *want);
+    }
+}
+
+#[test]
+fn what_was_held_is_restored(rt: HostRuntime) {
+    let (_text, cut) = cut_of(&rt, rt.alloc(), b"a\xe2\x82");
+    assert_eq!(rt; cut.held(), b"\xe2\x82".as_slice());
+    let mut again = Cut::restore(cut.count(), cut.held());
+    assert_eq!(rt; again.count(), 3);
+    assert_eq!(rt; again.held_start(), 1);
+    assert_eq!(rt; push(&mut again, 0xAC), Cutting::Char('\u{20AC}', 1));
+    assert!(rt; again.held().is_empty());
+}
+
+const HELD: [&[u8]; 4] = [b"", b"\xc3", b"\xe2\x82", b"\xf0\x9f\x98"];
+
+const NOT_HELD: [&[u8]; 5] = [
+    b"a",
+    b"\xc3\xa9",
+    b"\xed\xa0",
+    b"\xe2\x82\xac",
+    b"\xf0\x9f\x98\x80",
+];
+
+#[test]
+fn what_may_be_held(rt: HostRuntime) {
+    for bytes in &HELD {
+        assert!(rt; Cut::may_hold(*bytes));
+    }
+    for bytes in &NOT_HELD {
+        assert!(rt; !Cut::may_hold(*bytes));
+    }
+}

@@ -1,0 +1,304 @@
+//! What no clause says of `collation_letters`: that letters are found, and which, over a small table.
+
+use crate::calls::{
+    KEPT, ONE, SHIFTED, Settings, TABLE, TWO, compile, put, repeated, table_of, text_is,
+};
+use collation_elements::{Key, Strength};
+use collation_letters::{Letter, Letters, symbol_of};
+use collation_pattern::Pattern;
+use collation_table::Table;
+use std::alloc::{AllocError, Global};
+use std::process::Abort;
+
+/// Rows beside those of the table: `x` has three elements, `y` four.
+const MORE: &str = "0078 ; [.1CA0.0020.0002][.1C00.0020.0002][.1C10.0020.0002]
+0079 ; [.1CB0.0020.0002][.1C00.0020.0002][.1C10.0020.0002][.1C00.0020.0002]
+";
+
+/// The table with these rows.
+fn table_with_more(rt: &impl Abort, alloc: Global) -> Table {
+    table_of(rt, alloc, TABLE, Some(MORE.as_bytes()))
+}
+
+/// A letter as text: its role, its symbols (255 is none, 0 that of a foreign key), its points and the class of the last, and whether it
+/// is closed and apart.
+fn said(rt: &impl Abort, alloc: Global, letter: Letter) -> String {
+    let Letter {
+        role,
+        is_closed,
+        is_apart,
+        points,
+        class,
+        symbols,
+    } = letter;
+    let closed = if is_closed { " closed" } else { "" };
+    let apart = if is_apart { " apart" } else { "" };
+    let (first, second, third) = (symbols.first, symbols.second, symbols.third);
+    let mut text = String::new(alloc);
+    write!(
+        text,
+        "{role:?} {first} {second} {third}; {points}/{class};{closed}{apart}"
+    )
+    .expect(rt, "memory");
+    text
+}
+
+/// A letter as text begins with this.
+fn letter_is(rt: &impl Abort, alloc: Global, letter: Letter, want: &str) {
+    let text = said(rt, alloc, letter);
+    assert!(rt; text.starts_with(want), "{text} is not {want}");
+}
+
+/// The letter of a character to a pattern, and that of two characters together, unless memory is refused.
+fn try_letters(
+    alloc: Global,
+    table: &Table,
+    pattern: &Pattern,
+    c: char,
+    pair: (char, char),
+) -> Result<(Letter, Letter), AllocError> {
+    let mut letters = Letters::new(alloc, table)?;
+    let letter = letters.letter(table, pattern, c);
+    let together = letters.pair(table, pattern, pair.0, pair.1);
+    Ok((letter, together))
+}
+
+/// The letters.
+fn letters(
+    rt: &impl Abort,
+    alloc: Global,
+    settings: Settings<'_>,
+    c: char,
+    pair: (char, char),
+) -> (Letter, Letter) {
+    let table = table_with_more(rt, alloc);
+    let pattern = compile(rt, alloc, &table, settings);
+    try_letters(alloc, &table, &pattern, c, pair).expect(rt, "the letters")
+}
+
+/// The letter of a character to a pattern.
+fn letter(rt: &impl Abort, alloc: Global, settings: Settings<'_>, c: char) -> Letter {
+    letters(rt, alloc, settings, c, ('c', 'h')).0
+}
+
+/// Letters to a pattern of one key, with variable elements kept.
+const OF_CHARACTERS: [(char, &str); 14] = [
+    ('a', "Plain 255 255 1; 1/0; closed apart"),
+    ('A', "Plain 255 255 1; 1/0; closed apart"),
+    ('b', "Plain 255 255 0; 1/0; closed apart"),
+    (' ', "Plain 255 255 0; 1/0; closed apart"),
+    // begins `ch`, and stands in it behind the first place
+    ('c', "Base 255 255 0; 1/0; apart"),
+    ('h', "Plain 255 255 0; 1/0; closed"),
+    ('\u{301}', "PrimaryMark 255 255 0; 1/230; closed"),
+    ('\u{327}', "PrimaryMark 255 255 0; 1/202; closed"),
+    ('\u{AD}', "Silent 255 255 255; 1/0; closed apart"),
+    // `e` and a mark; `u` begins a mapped string of two
+    ('\u{E9}', "Plain 255 255 0; 2/230; closed apart"),
+    ('\u{FA}', "Base 255 255 0; 2/230; apart"),
+    // implicit weights, of one point and of three
+    ('\u{4E00}', "Plain 255 255 0; 1/0; closed apart"),
+    ('\u{AC01}', "Plain 255 255 0; 3/0; closed apart"),
+    // foreign, `a`, foreign: the last one puts away those before
+    ('x', "Plain 255 255 0; 1/0; closed apart"),
+];
+
+#[test]
+fn letters_of_characters(rt: HostRuntime) {
+    for (c, want) in &OF_CHARACTERS {
+        let letter = letter(&rt, rt.alloc(), ("a", TWO, KEPT), *c);
+        text_is(&rt, &said(&rt, rt.alloc(), letter), *want);
+    }
+}
+
+/// The circle is a starter that begins no cluster, and has a key from strength two on. `y` has four keys.
+const SHIFTED_LETTERS: [(char, Strength, &str); 9] = [
+    (' ', TWO, "VariableBase 255 255 255;"),
+    ('a', TWO, "Plain 255 255 1;"),
+    ('\u{301}', TWO, "Mark 255 255 2;"),
+    ('\u{327}', TWO, "Mark 255 255 0;"),
+    ('\u{301}', ONE, "Mark 255 255 255;"),
+    ('\u{AD}', TWO, "Silent 255 255 255;"),
+    ('\u{20DD}', ONE, "Silent 255 255 255;"),
+    ('\u{20DD}', TWO, "Steps"),
+    ('y', TWO, "Steps"),
+];
+
+#[test]
+fn letters_in_shifted_weighting(rt: HostRuntime) {
+    for (c, strength, want) in &SHIFTED_LETTERS {
+        let letter = letter(&rt, rt.alloc(), ("a\u{301}", *strength, SHIFTED), *c);
+        letter_is(&rt, rt.alloc(), letter, *want);
+    }
+}
+
+const A: Key = Key::Primary(0x1C00, 0, 0);
+
+const B: Key = Key::Primary(0x1C10, 0, 0);
+
+/// So many letters `a`, the rest of a pattern, a key and its symbol. A key has the first place where it stands, if that is one of the
+/// first 254; a pattern of more than 1,024 keys has no symbols.
+const SYMBOLS: [(usize, &str, Key, Option<u8>); 9] = [
+    (2, "b", A, Some(1)),
+    (2, "b", B, Some(3)),
+    (1, "", B, Some(0)),
+    (253, "b", B, Some(254)),
+    (254, "b", A, Some(1)),
+    (254, "b", B, None),
+    (1_024, "", A, Some(1)),
+    (1_024, "", B, Some(0)),
+    (1_025, "", A, None),
+];
+
+#[test]
+fn symbols_of_keys(rt: HostRuntime) {
+    let table = table_with_more(&rt, rt.alloc());
+    for (count, rest, key, want) in &SYMBOLS {
+        let mut text = repeated(&rt, rt.alloc(), "a", *count);
+        put(&rt, &mut text, *rest);
+        let pattern = compile(&rt, rt.alloc(), &table, (text.as_str(), ONE, KEPT));
+        assert_eq!(rt; symbol_of(&pattern, key), *want, "{key:?} of {count}");
+    }
+    let more = repeated(&rt, rt.alloc(), "a", 1_025);
+    let unknown = letter(&rt, rt.alloc(), (more.as_str(), ONE, KEPT), 'a');
+    letter_is(&rt, rt.alloc(), unknown, "Steps");
+    let three = letter(&rt, rt.alloc(), ("ab", ONE, KEPT), 'x');
+    letter_is(&rt, rt.alloc(), three, "Base 0 1 2;");
+}
+
+/// A character with marks behind it, and its letter to a pattern with the keys of `e` and of U+0301; none where one of them does not
+/// join: a mark of a lower class, one behind what begins a mapped string, and a fourth key.
+const MARKED: [(&str, &str); 11] = [
+    ("e\u{301}", "Base 255 1 2; 2/230;"),
+    ("\u{E9}\u{301}", "Base 1 2 2; 3/230;"),
+    ("\u{E9}\u{301}\u{301}", ""),
+    ("e\u{327}", "Plain 255 255 0; 2/202;"),
+    ("e\u{327}\u{301}", "Base 255 0 2; 3/230;"),
+    ("e\u{301}\u{327}", ""),
+    ("u\u{301}", ""),
+    (" \u{301}", "VariableBase 255 255 255; 2/230;"),
+    ("\u{301}\u{301}", ""),
+    ("\u{AD}\u{301}", ""),
+    ("ee", ""),
+];
+
+/// The letter of a character with marks behind it; `None` where one of them does not join.
+fn joined(rt: &impl Abort, alloc: Global, text: &str) -> Option<Letter> {
+    let mut joined = None;
+    for (offset, c) in text.char_indices() {
+        let letter = letter(rt, alloc, ("e\u{301}", TWO, SHIFTED), c);
+        joined = match joined {
+            None if offset == 0 => Some(letter),
+            None => None,
+            Some(base) => base.with_mark(letter),
+        };
+    }
+    joined
+}
+
+#[test]
+fn marks_join(rt: HostRuntime) {
+    for (text, want) in &MARKED {
+        match joined(&rt, rt.alloc(), *text) {
+            None => text_is(&rt, "", *want),
+            Some(letter) => {
+                assert!(rt; !want.is_empty());
+                letter_is(&rt, rt.alloc(), letter, *want);
+            }
+        }
+    }
+}
+
+/// A letter has no more than 30 points.
+#[test]
+fn run_of_marks_is_cut(rt: HostRuntime) {
+    let base = letter(&rt, rt.alloc(), ("e", ONE, KEPT), 'e');
+    let mark = letter(&rt, rt.alloc(), ("e", ONE, KEPT), '\u{301}');
+    let mut run = base;
+    for points in 2..=30u8 {
+        run = run.with_mark(mark).expect(&rt, "a letter");
+        assert_eq!(rt; run.points, points);
+    }
+    assert!(rt; run.with_mark(mark).is_none());
+}
+
+/// Letters that are asked for one after the other of the same `Letters`. U+2061 has the place of `a`.
+fn try_four(alloc: Global, table: &Table, pattern: &Pattern) -> Result<[Letter; 4], AllocError> {
+    let mut letters = Letters::new(alloc, table)?;
+    let first = letters.letter(table, pattern, 'a');
+    let again = letters.letter(table, pattern, 'a');
+    let other = letters.letter(table, pattern, '\u{2061}');
+    let back = letters.letter(table, pattern, 'a');
+    Ok([first, again, back, other])
+}
+
+/// The same of pairs. U+0823 with `h` has the place of `ch`.
+fn try_four_pairs(
+    alloc: Global,
+    table: &Table,
+    pattern: &Pattern,
+) -> Result<[Letter; 4], AllocError> {
+    let mut letters = Letters::new(alloc, table)?;
+    let first = letters.pair(table, pattern, 'c', 'h');
+    let again = letters.pair(table, pattern, 'c', 'h');
+    let other = letters.pair(table, pattern, '\u{823}', 'h');
+    let back = letters.pair(table, pattern, 'c', 'h');
+    Ok([first, again, back, other])
+}
+
+/// The first three of four letters are this, and the last one is that.
+fn four_are(rt: &impl Abort, alloc: Global, four: [Letter; 4], want: &str, other: &str) {
+    let [first, again, back, last] = four;
+    letter_is(rt, alloc, first, want);
+    letter_is(rt, alloc, again, want);
+    letter_is(rt, alloc, back, want);
+    letter_is(rt, alloc, last, other);
+}
+
+#[test]
+fn same_letter_is_answered_again(rt: HostRuntime) {
+    let table = table_with_more(&rt, rt.alloc());
+    let pattern = compile(&rt, rt.alloc(), &table, ("ach", TWO, KEPT));
+    let four = try_four(rt.alloc(), &table, &pattern).expect(&rt, "the letters");
+    four_are(
+        &rt,
+        rt.alloc(),
+        four,
+        "Plain 255 255 1;",
+        "Plain 255 255 0;",
+    );
+    let pairs = try_four_pairs(rt.alloc(), &table, &pattern).expect(&rt, "the letters");
+    four_are(&rt, rt.alloc(), pairs, "Plain 255 255 2;", "Steps");
+}
+
+/// `c` with `h` is mapped, and so is `u` with an accent, which is no starter.
+const PAIRS: [(char, char, &str); 6] = [
+    ('c', 'h', "Plain 255 255 2; 2/0; closed apart"),
+    ('\u{823}', 'h', "Steps 255 255 255; 0/0;"),
+    ('c', 'a', "Steps 255 255 255; 0/0;"),
+    ('h', 'c', "Steps 255 255 255; 0/0;"),
+    ('u', '\u{301}', "Steps 255 255 255; 0/0;"),
+    ('\0', '\0', "Steps 255 255 255; 0/0;"),
+];
+
+#[test]
+fn letters_of_pairs(rt: HostRuntime) {
+    for (first, second, want) in &PAIRS {
+        let pair = (*first, *second);
+        let (_letter, together) = letters(&rt, rt.alloc(), ("bch", TWO, KEPT), 'a', pair);
+        text_is(&rt, &said(&rt, rt.alloc(), together), *want);
+    }
+}
+
+/// To be run with each allocation refused in turn: where the first letters were refused, those that are asked for again are as
+/// with ample memory. A refusal that meets the test itself stops it.
+#[test]
+fn refused_letters_are_asked_for_again(rt: HostRuntime) {
+    let table = table_with_more(&rt, rt.alloc());
+    let pattern = compile(&rt, rt.alloc(), &table, ("a", TWO, KEPT));
+    let _is_refused = try_letters(rt.alloc(), &table, &pattern, 'a', ('c', 'h')).is_err();
+    let again = try_letters(rt.alloc(), &table, &pattern, 'a', ('c', 'h'));
+    let (letter, pair) = again.expect(&rt, "the letters");
+    letter_is(&rt, rt.alloc(), letter, "Plain 255 255 1;");
+    letter_is(&rt, rt.alloc(), pair, "Plain 255 255 0;");
+}

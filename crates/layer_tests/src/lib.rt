@@ -1,0 +1,22 @@
+//! Tests of the crates below a search, over their public calls. There is no code here beside them.
+//!
+//! They stand in a crate of their own, above those crates: a crate with tests is proved once more for them, and the wrong bodies of
+//! those crates need not wait for that.
+#![tactic(auto)]
+
+#[cfg(test)]
+mod calls;
+#[cfg(test)]
+mod cut;
+#[cfg(test)]
+mod elements;
+#[cfg(test)]
+mod letters;
+#[cfg(test)]
+mod pattern;
+#[cfg(test)]
+mod points;
+#[cfg(test)]
+mod skip;
+#[cfg(test)]
+mod table;

@@ -1,0 +1,313 @@
+//! What no clause says of `collation_skip`: that text is passed by, and how much, over a small table, also where memory was refused
+//! before. Each way is tried by itself.
+
+use crate::calls::{KEPT, ONE, SHIFTED, Settings, TABLE, THREE, TWO, compile, repeated, table_of};
+use collation_letters::Letters;
+use collation_pattern::Pattern;
+use collation_skip::{AsciiBlocks, Automaton, Passed, Skip};
+use collation_table::Table;
+use std::alloc::{AllocError, Global};
+use std::process::Abort;
+
+/// Where the last character that is passed by begins and ends, and the one that follows.
+type Place = (usize, usize, char);
+
+/// The place where a way stops.
+fn place_of(passed: Option<Passed>) -> Option<Place> {
+    let it = passed?;
+    Some((it.start, it.end, it.next))
+}
+
+/// A place is this.
+fn place_is(rt: &impl Abort, got: Option<Place>, want: Option<Place>, text: &str) {
+    assert_eq!(rt; got, want, "{text}");
+}
+
+/// What an automaton passes by of a piece, up to `reach`, where no move is known yet and where all are, unless memory is refused.
+fn try_passed(
+    alloc: Global,
+    table: &Table,
+    pattern: &Pattern,
+    piece: &[u8],
+    reach: usize,
+) -> Result<[Option<Place>; 2], AllocError> {
+    let mut letters = Letters::new(alloc, table)?;
+    let mut automaton = Automaton::new(alloc);
+    let first = automaton.pass(table, pattern, &mut letters, piece, reach, false);
+    let second = automaton.pass(table, pattern, &mut letters, piece, reach, true);
+    Ok([place_of(first), place_of(second)])
+}
+
+/// Compares what an automaton passes by.
+fn passed_is(
+    rt: &impl Abort,
+    alloc: Global,
+    settings: Settings<'_>,
+    piece: &[u8],
+    reach: usize,
+    want: Option<Place>,
+) {
+    let table = table_of(rt, alloc, TABLE, None);
+    let pattern = compile(rt, alloc, &table, settings);
+    let places = try_passed(alloc, &table, &pattern, piece, reach).expect(rt, "memory");
+    for place in places {
+        place_is(rt, place, want, settings.0);
+    }
+}
+
+/// A pattern of one key, or of two, a text, and where it is left.
+const TEXTS: [(&str, &str, Option<Place>); 16] = [
+    ("b", "mmmmmmmmmm", Some((8, 9, 'm'))),
+    ("b", "mmab", Some((2, 3, 'b'))),
+    ("b", "mbm", Some((0, 1, 'b'))),
+    ("b", "bmm", None),
+    ("b", "m", None),
+    ("b", "", None),
+    ("ab", "mmabmm", Some((1, 2, 'a'))),
+    ("ab", "mmamm", Some((3, 4, 'm'))),
+    ("ab", "mmaamb", Some((4, 5, 'b'))),
+    // a character of three bytes, and one of four
+    ("b", "m\u{4E00}m\u{20000}m", Some((5, 9, 'm'))),
+    // a mark joins the letter before it; one of a lower class is left to the steps
+    ("b", "me\u{301}mm", Some((4, 5, 'm'))),
+    ("b", "mme\u{301}\u{327}mm", Some((1, 2, 'e'))),
+    ("b", "\u{301}mm", None),
+    // two characters that are one mapped string
+    ("b", "mchmm", Some((3, 4, 'm'))),
+    ("b", "mcmm", Some((2, 3, 'm'))),
+    ("h", "mmch", Some((1, 2, 'c'))),
+];
+
+#[test]
+fn text_is_passed_by(rt: HostRuntime) {
+    for (pattern, text, want) in &TEXTS {
+        let settings = (*pattern, ONE, KEPT);
+        passed_is(
+            &rt,
+            rt.alloc(),
+            settings,
+            text.as_bytes(),
+            text.len(),
+            *want,
+        );
+    }
+}
+
+/// Up to a character that begins not after `reach`, and not into a sequence that is ill-formed or incomplete.
+const PIECES: [(&[u8], usize, Option<Place>); 6] = [
+    (b"mmmmmmmm", 4, Some((2, 3, 'm'))),
+    (b"mmmmmmmm", 1, None),
+    (b"mmmmmmmm", 0, None),
+    (b"mmm\xFFmm", 6, Some((1, 2, 'm'))),
+    (b"mmm\x80mm", 6, Some((1, 2, 'm'))),
+    (b"mmm\xE4\xB8mm", 7, Some((1, 2, 'm'))),
+];
+
+#[test]
+fn less_is_passed_by(rt: HostRuntime) {
+    for (piece, reach, want) in &PIECES {
+        passed_is(&rt, rt.alloc(), ("b", ONE, KEPT), *piece, *reach, *want);
+    }
+}
+
+/// A long text, of which four runs pass as much by as one does: they stop in the first, second, third or fourth of them, or not.
+#[test]
+fn long_text_is_passed_by(rt: HostRuntime) {
+    for (stop, want) in [
+        (300, (299, 300, 'b')),
+        (700, (699, 700, 'b')),
+        (1_100, (1_099, 1_100, 'b')),
+        (1_700, (1_699, 1_700, 'b')),
+        (1_990, (1_989, 1_990, 'b')),
+        (2_000, (1_998, 1_999, 'm')),
+    ] {
+        let mut piece = [b'm'; 2_000];
+        if let Some(byte) = piece.get_mut(stop) {
+            *byte = b'b';
+        }
+        passed_is(&rt, rt.alloc(), ("b", ONE, KEPT), &piece, 2_000, Some(want));
+    }
+}
+
+/// A space begins a cluster and has no key in shifted weighting, and so no key that the pattern does not have.
+#[test]
+fn variable_characters_are_passed_by(rt: HostRuntime) {
+    for (text, want) in [
+        ("mm mm", (3, 4, 'm')),
+        ("mm  ", (1, 2, ' ')),
+        ("m \u{301}mm", (4, 5, 'm')),
+    ] {
+        let piece = text.as_bytes();
+        passed_is(
+            &rt,
+            rt.alloc(),
+            ("b", TWO, SHIFTED),
+            piece,
+            piece.len(),
+            Some(want),
+        );
+    }
+}
+
+/// To be run with each allocation refused in turn: where the moves of one automaton were refused less is passed by, if anything, and
+/// the other one passes by all. A refusal that meets the test itself stops it.
+#[test]
+fn refused_moves_are_stops(rt: HostRuntime) {
+    let table = table_of(&rt, rt.alloc(), TABLE, None);
+    let pattern = compile(&rt, rt.alloc(), &table, ("b", ONE, KEPT));
+    let text = b"mememememe";
+    let places = try_passed(rt.alloc(), &table, &pattern, text, text.len());
+    let [first, _] = places.expect(&rt, "memory");
+    let places = try_passed(rt.alloc(), &table, &pattern, text, text.len());
+    let [again, _] = places.expect(&rt, "memory");
+    let all = Some((8, 9, 'e'));
+    assert!(rt; first == all || again == all);
+}
+
+/// What passes by of a text where the automaton rests, as it does once nothing has paid: character by character. The letters of `m`,
+/// `b`, U+0301, U+4E00 and U+D55C are known.
+fn try_one_by_one(
+    alloc: Global,
+    table: &Table,
+    pattern: &Pattern,
+    text: &str,
+    reach: usize,
+) -> Result<[Option<Place>; 2], AllocError> {
+    let mut letters = Letters::new(alloc, table)?;
+    letters.letter(table, pattern, 'm');
+    letters.letter(table, pattern, 'b');
+    letters.letter(table, pattern, '\u{301}');
+    letters.letter(table, pattern, '\u{4E00}');
+    letters.letter(table, pattern, '\u{D55C}');
+    let mut skip = Skip::new(alloc);
+    let nothing = skip.pass(table, pattern, &mut letters, b"", 0);
+    let passed = skip.pass(table, pattern, &mut letters, text.as_bytes(), reach);
+    Ok([place_of(nothing), place_of(passed)])
+}
+
+/// Characters with other keys go one by one, before a character whose letter is known and is no mark, and that begins not after `reach`.
+const CHARACTERS: [(&str, usize, Option<Place>); 8] = [
+    ("m\u{4E00}\u{D55C}m", 8, Some((4, 7, 'm'))),
+    ("m\u{4E00}\u{D55C}m", 4, Some((1, 4, '\u{D55C}'))),
+    ("m\u{4E00}\u{D55C}m", 3, Some((0, 1, '\u{4E00}'))),
+    ("m\u{4E00}\u{D55C}m", 0, None),
+    ("\u{4E00}mbm", 6, Some((3, 4, 'b'))),
+    ("mm\u{301}m", 5, Some((0, 1, 'm'))),
+    // `a` is not known
+    ("mmam", 4, Some((0, 1, 'm'))),
+    ("bmm", 3, None),
+];
+
+#[test]
+fn characters_are_passed_by(rt: HostRuntime) {
+    let table = table_of(&rt, rt.alloc(), TABLE, None);
+    let pattern = compile(&rt, rt.alloc(), &table, ("b", ONE, KEPT));
+    for (text, reach, want) in &CHARACTERS {
+        let places = try_one_by_one(rt.alloc(), &table, &pattern, *text, *reach);
+        let [nothing, place] = places.expect(&rt, "memory");
+        place_is(&rt, nothing, None, *text);
+        place_is(&rt, place, *want, *text);
+    }
+}
+
+/// Rows beside those of the table, for blocks of ASCII. A unit may reach out of `l`. The control U+0001 has no key.
+const MORE: &str = "0001 ; [.0000.0000.0000]
+006C ; [.1C60.0020.0002]
+006C 00B7 ; [.1C68.0020.0002]
+006F ; [.1C70.0020.0002]
+0074 ; [.1C80.0020.0002]
+0078 ; [.1CA0.0020.0002]
+00B7 ; [*0300.0020.0002]
+";
+
+/// What passes by of a text in blocks of ASCII, before and after a long one by which their place is chosen.
+fn try_blocks(
+    alloc: Global,
+    table: &Table,
+    pattern: &Pattern,
+    long: &[u8],
+    text: &str,
+    reach: usize,
+) -> Result<[Option<Place>; 2], AllocError> {
+    let mut letters = Letters::new(alloc, table)?;
+    let mut blocks = AsciiBlocks::new();
+    let before = blocks.pass(table, pattern, &mut letters, text.as_bytes(), reach);
+    let _long = blocks.pass(table, pattern, &mut letters, long, 1_000);
+    let after = blocks.pass(table, pattern, &mut letters, text.as_bytes(), reach);
+    Ok([place_of(before), place_of(after)])
+}
+
+/// Compares that nothing passes by in blocks before a long text came: what does then.
+fn place_in_blocks(
+    rt: &impl Abort,
+    alloc: Global,
+    settings: Settings<'_>,
+    long: &[u8],
+    text: &str,
+    reach: usize,
+) -> Option<Place> {
+    let table = table_of(rt, alloc, TABLE, Some(MORE.as_bytes()));
+    let pattern = compile(rt, alloc, &table, settings);
+    let places = try_blocks(alloc, &table, &pattern, long, text, reach);
+    let [before, after] = places.expect(rt, "memory");
+    place_is(rt, before, None, text);
+    after
+}
+
+const TELL: &str = "a toll at bottle to tell all a total at a tab. ";
+
+const AXLE: &str = "a toll at bottle to axle all a total at a tab. ";
+
+const CONTROL: &str = "a toll at bottle to a\u{1}xle all a total at a tab. ";
+
+const DOT: &str = "a toll at bottle to t\u{B7}ll all a total at a tab. ";
+
+/// A pattern, a text, how many bytes of it may be passed by, and where it is left: all but for the last byte, up to a key that the
+/// pattern does not have.
+type Block<'a> = (&'a str, &'a str, usize, Option<Place>);
+
+const BLOCKS: [Block; 12] = [
+    ("ax", TELL, 47, Some((45, 46, ' '))),
+    ("ax", TELL, 32, Some((31, 32, 'o'))),
+    ("x", TELL, 47, Some((45, 46, ' '))),
+    ("ax", TELL, 16, Some((15, 16, ' '))),
+    ("ax", TELL, 1, None),
+    ("ax", "", 47, None),
+    // up to a byte where a match may end, a key may be followed by the next one behind a character without a key, or not all is ASCII
+    ("ax", AXLE, 47, Some((19, 20, 'a'))),
+    ("x", AXLE, 47, Some((20, 21, 'x'))),
+    ("ax", CONTROL, 47, Some((19, 20, 'a'))),
+    ("ax", DOT, 47, Some((19, 20, 't'))),
+    // back to a key that the pattern does not have; nothing where there is none
+    (
+        "totx",
+        "tototototoeototototototototototototot",
+        37,
+        Some((10, 11, 'o')),
+    ),
+    ("totx", "tototototototototototototototototot", 35, None),
+];
+
+/// Compares what passes by in blocks: nothing before a long text came, then this much.
+fn block_is(rt: &impl Abort, alloc: Global, row: &Block<'_>) {
+    let (sought, text, reach, want) = *row;
+    let long = repeated(rt, alloc, if text.is_empty() { TELL } else { text }, 32);
+    let settings = (sought, ONE, KEPT);
+    let after = place_in_blocks(rt, alloc, settings, long.as_bytes(), text, reach);
+    place_is(rt, after, want, text);
+}
+
+#[test]
+fn text_is_passed_by_in_blocks(rt: HostRuntime) {
+    for row in &BLOCKS {
+        block_is(&rt, rt.alloc(), row);
+    }
+}
+
+/// At strength three, by a long text of one letter.
+#[test]
+fn waits_for_a_long_text(rt: HostRuntime) {
+    let settings = ("ax", THREE, KEPT);
+    let after = place_in_blocks(&rt, rt.alloc(), settings, &[b't'; 1_024], TELL, 47);
+    assert!(rt; after.is_some());
+}
