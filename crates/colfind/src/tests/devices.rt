@@ -94,11 +94,11 @@ impl FailingTarget {
         })
     }
 
-    pub fn taking_nothing(mut self) -> Self
+    pub fn taking_nothing(mut self, takes_nothing: bool) -> Self
         ensures { ⟦<FailingTarget as Target>⟧.failures result
             ≡ ⟦<FailingTarget as Target>⟧.failures self }
     {
-        self.takes_nothing = true;
+        self.takes_nothing = takes_nothing;
         self
     }
 
