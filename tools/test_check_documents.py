@@ -9,7 +9,7 @@ import unittest
 TOOLS = os.path.dirname(os.path.abspath(__file__))
 COLFIND = "#!/bin/sh\necho 0:3\necho colfind: fault 31 at 4 >&2\nexit 2\n"
 FILES = {
-    "crates/one/src/lib.rt": "fn known_name() {} // commented_name\n",
+    "crates/one/src/lib.rt": "fn first() {}\nfn known_name() {} // commented_name\nfn last() {}\n",
     "crates/one/must-fail/name_of_an_edit.edit": "file: src/lib.rt\n",
     "crates/one/README.md": "# One\n",
     "docs/example/text.txt": "abc d\n",
@@ -18,12 +18,12 @@ FILES = {
 
 
 class CheckDocumentsTest(unittest.TestCase):
-    def complaints(self, readme, *options):
+    def complaints(self, readme, *options, path="README.md"):
         """The lines printed about a README, but for the last one, and the status."""
         with tempfile.TemporaryDirectory() as top:
-            for path, contents in {**FILES, "README.md": readme, "built": COLFIND}.items():
-                os.makedirs(os.path.dirname(os.path.join(top, path)), exist_ok=True)
-                with open(os.path.join(top, path), "w", encoding="utf-8") as file:
+            for name, contents in {**FILES, path: readme, "built": COLFIND}.items():
+                os.makedirs(os.path.dirname(os.path.join(top, name)), exist_ok=True)
+                with open(os.path.join(top, name), "w", encoding="utf-8") as file:
                     file.write(contents)
             os.chmod(os.path.join(top, "built"), 0o755)
             os.mkdir(os.path.join(top, "tools"))
@@ -34,8 +34,8 @@ class CheckDocumentsTest(unittest.TestCase):
             ran = subprocess.run(words, stdout=subprocess.PIPE, cwd=top, text=True, check=False)
             return ran.stdout.splitlines()[:-1], ran.returncode
 
-    def finds(self, readme, *wanted):
-        self.assertEqual(self.complaints(readme), (list(wanted), 1 if wanted else 0))
+    def finds(self, readme, *wanted, path="README.md"):
+        self.assertEqual(self.complaints(readme, path=path), (list(wanted), 1 if wanted else 0))
 
     def runs(self, readme, *wanted):
         self.assertEqual(self.complaints(readme, "--colfind", "built"), (list(wanted), 1 if wanted else 0))
@@ -60,6 +60,12 @@ class CheckDocumentsTest(unittest.TestCase):
         self.finds("```text docs/example/text.txt\nabc d\n```\n")
         self.finds("```text docs/example/text.txt\nabc e\n```\n", "README.md:1: not what the file has: docs/example/text.txt")
         self.finds("```text docs/none.txt\nabc d\n```\n", "README.md:1: no such file: docs/none.txt")
+
+    def test_shown_parts(self):
+        shown = "```rust crates/one/src/lib.rt\n{}\n```\n".format
+        self.finds(shown("fn first() {}\n\nfn last() {}"), path="crates/one/README.md")
+        self.finds(shown("fn first() {"), "crates/one/README.md:1: not what the file has: crates/one/src/lib.rt", path="crates/one/README.md")
+        self.finds(shown("fn first() {}"), "README.md:1: not what the file has: crates/one/src/lib.rt")
 
     def test_fenced_blocks_have_no_names(self):
         self.finds("```\n`other_name`\n```\n")

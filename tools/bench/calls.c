@@ -3,6 +3,8 @@
      calls TABLE PATTERN             prints how many ranges standard input has, read in pieces of 65,536 bytes
      calls TABLE PATTERN TITLES N    nanoseconds of processor time for each line of the file TITLES, searched N times over, and how many
                                      lines have a match: by colfind_first_in, by colfind_index, and by ICU with its text in UTF-16
+     calls TABLE PATTERN TEXT        nanoseconds of processor time for a search that is made, one that is resumed amid the text, and pieces of
+                                     64 and of 4,096 bytes of the text
    At strength 1. The status is 2 where something is wrong. */
 #include "../../examples/c/colfind.h"
 #include <stdio.h>
@@ -100,8 +102,48 @@ static void time_titles(colfind_handle *pattern, const char *sought, const char 
     colfind_free(&search);
 }
 
+/* Nanoseconds for a piece of so many bytes; the ranges are taken and thrown away. */
+static double of_a_piece(colfind_handle *pattern, const uint8_t *text, size_t len, size_t size) {
+    colfind_handle search = {0};
+    colfind_range ranges[256];
+    size_t pieces = 0;
+    need(colfind_search(pattern, &search, COLFIND_ALL).kind == 0, "search");
+    double begun = seconds();
+    for (size_t at = 0; at + size <= len; at += size, pieces++) {
+        need(colfind_feed(&search, text + at, size).kind == 0, "text");
+        while (colfind_take(&search, ranges, 256) == 256) {}
+    }
+    double took = seconds() - begun;
+    colfind_free(&search);
+    return 1e9 * took / (double)pieces;
+}
+
+static void time_searches(colfind_handle *pattern, const char *path) {
+    enum { MANY = 20000, ROUNDS = 5 };
+    size_t len;
+    uint8_t *text = read_file(path, &len);
+    static uint64_t words[1 << 16];
+    colfind_handle search = {0};
+    need(colfind_search(pattern, &search, COLFIND_ALL).kind == 0 && colfind_feed(&search, text, 1000).kind == 0, "search");
+    colfind_saved saved = colfind_save(&search, words, 1 << 16);
+    need(saved.status.kind == 0, "save");
+    double least[4] = {1e18, 1e18, 1e18, 1e18};
+    for (int round = 0; round < ROUNDS; round++)
+        for (int way = 0; way < 4; way++) {
+            double begun = seconds(), took;
+            for (int i = 0; way < 2 && i < MANY; i++) {
+                colfind_status made = way == 0 ? colfind_search(pattern, &search, COLFIND_ALL) : colfind_resume(pattern, &search, COLFIND_ALL, words, saved.words);
+                need(made.kind == 0, "search");
+            }
+            took = way < 2 ? 1e9 * (seconds() - begun) / MANY : of_a_piece(pattern, text, len, way == 2 ? 64 : 4096);
+            if (took < least[way]) least[way] = took;
+        }
+    printf("made %.0f\nresumed %.0f\n64 %.0f\n4096 %.0f\n", least[0], least[1], least[2], least[3]);
+    colfind_free(&search);
+}
+
 int main(int argc, char **argv) {
-    need(argc == 3 || argc == 5, "TABLE PATTERN [TITLES N]");
+    need(argc >= 3 && argc <= 5, "TABLE PATTERN [TEXT | TITLES N]");
     size_t n;
     uint8_t *table_bytes = read_file(argv[1], &n);
     colfind_handle table = {0}, pattern = {0};
@@ -109,6 +151,7 @@ int main(int argc, char **argv) {
     free(table_bytes);
     need(colfind_pattern(&table, &pattern, (const uint8_t *)argv[2], strlen(argv[2]), 1, COLFIND_NON_IGNORABLE).kind == 0, "pattern");
     if (argc == 3) count_ranges(&pattern);
+    else if (argc == 4) time_searches(&pattern, argv[3]);
     else time_titles(&pattern, argv[2], argv[3], atol(argv[4]));
     colfind_free(&pattern), colfind_free(&table);
     return 0;

@@ -4,12 +4,13 @@
 
 COLFIND is the built program, TESTS are built test programs (crates/NAME/out/NAME_tests). The answers allowed of the program are
 that of ample memory, and fault 14, 24 or 36 at 0 with nothing printed. Of the tests those are run that are made for it: all of
-collation_table, where each file is read again after a refusal, and those that name refusals. A test may pass, or be
+layer_tests that read tables, where each file is read again after a refusal, and those that name refusals. A test may pass, or be
 stopped by a refusal that met the test itself, or end with its error; nothing else.
 """
 
 import os
 import re
+import signal
 import struct
 import subprocess
 import sys
@@ -141,8 +142,8 @@ def judge(answer):
     status, printed, complained = answer
     if status == 0 and b"test result: ok" in printed:
         return "passed"
-    is_ended = b"its result gives status" in complained or b"was killed by signal 6" in complained
-    if status == 101 and REFUSED_TEST.match(complained) and is_ended:
+    is_ended = status == -signal.SIGABRT or (status == 101 and b"its result gives status" in complained)
+    if is_ended and REFUSED_TEST.match(complained):
         return "ended by the refusal"
     return "wrong"
 
@@ -166,8 +167,8 @@ def sweep_test(refuser, program, test):
     return counts, 0
 
 
-def is_made_for_refusals(program, test):
-    return program.startswith("collation_table") or "::refused_" in test or test.endswith("ask_for_no_memory")
+def is_made_for_refusals(test):
+    return test.startswith("table::") or "::refused_" in test or test.endswith("ask_for_no_memory")
 
 
 def sweep_tests(refuser, program):
@@ -175,7 +176,7 @@ def sweep_tests(refuser, program):
     listed = subprocess.run([program, "--list"], capture_output=True, check=True).stdout.decode()
     totals = {"passed": 0, "ended by the refusal": 0, "wrong": 0}
     for test in re.findall(r"^(\S+): test$", listed, re.M):
-        if is_made_for_refusals(name, test):
+        if is_made_for_refusals(test):
             counts, left = sweep_test(refuser, program, test)
             for outcome, count in counts.items():
                 totals[outcome] += count
