@@ -110,8 +110,8 @@ impl<'a, W: Weights> Search<'a, W> {
     /// # Errors
     ///
     /// The first fault of the text, at which it counts as ended; the sink got the rest of the settled ranges, and the bytes
-    /// of the piece after the fault were not read. From then on the same fault, and nothing is handed out. No memory is taken,
-    /// so that 35 is only a fault that the search began with.
+    /// of the piece after the fault were not read. From then on the same fault, and nothing is handed out. Memory is asked for what
+    /// is cached of characters alone; where it is refused the search goes on, so that 35 is only a fault that it began with.
     pub fn feed<F: FnMut(u64, u64)>(&mut self, piece: &[u8], sink: &mut F) -> Result<(), TextFault>
         requires { F.IsAlwaysCallable sink.old }
         ensures fed { (found : List (ℕ × ℕ))

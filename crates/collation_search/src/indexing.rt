@@ -93,7 +93,8 @@ impl<'a, W: Weights> Search<'a, W> {
 
     /// The first range of the answer to a text, if there is one, though a fault may stand after it: its start and its end, in
     /// bytes from the beginning of this text, the end not included. The search begins again before it and after it, so that one search
-    /// serves many texts; what was found out of characters stays. No memory is taken.
+    /// serves many texts; what was found out of characters stays. Memory is asked for that alone, and the answer is the same where
+    /// it is refused.
     ///
     /// # Errors
     ///
@@ -114,7 +115,7 @@ impl<'a, W: Weights> Search<'a, W> {
     /// The first range of the answer to what stands in a text from an offset on, taken as a text by
     /// itself: `from`, and the start and the end of the range, are in bytes from the beginning of the
     /// text. Behind the end of the text nothing is found. The search begins again before it and
-    /// after it. No memory is taken.
+    /// after it. Memory is asked for as by [`Search::first_in`].
     ///
     /// From the start or the end of a range on it is the first range of the text that begins there
     /// or later, and so from each boundary before the first fault
