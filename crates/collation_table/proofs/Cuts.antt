@@ -1,10 +1,11 @@
 -- A list cut at the first of some byte, against the list of all its parts.
-use Rattle.std.proofs.Common.{◌≡◌, ℕ, ◌+◌, ◌<◌, Bool, true, false, cond, ltb, eqb, List, [], ◌∷◌, length, take, drop, Some, None, option_map, refl, sym, ap, ◌∙◌, arith, length-drop}
-use Rattle.std.specs.List.{slice_split, position_or_len, onto_first}
+use Rattle.std.proofs.Common.{◌≡◌, ℕ, ◌+◌, ◌<◌, Bool, true, false, cond, ltb, eqb, List, [], ◌∷◌, length, take, drop, Option, Some, None, option_map, refl, sym, ap, ◌∙◌, arith, length-drop}
+use Rattle.std.specs.List.{slice_split, position, position_or_len, onto_first}
 use Rattle.std.proofs.lemmas.List.Splits.{slice_split_first, slice_split_none}
-use Rattle.std.proofs.lemmas.List.Sums.{fails_before_first}
-use Rattle.std.proofs.lemmas.Bool.{ltb-true, ltb-false}
+use Rattle.std.proofs.lemmas.List.Sums.{fails_before_first, position_or_len_is}
+use Rattle.std.proofs.lemmas.Bool.{ltb-true, ltb-false, lt-ltb, le-ltb, false_from_ne_true}
 use Rattle.std.proofs.lemmas.Option.{some_pair_parts, none-some}
+use Rattle.memchr.specs.Find.{IsFirstByte, is_byte}
 use Rattle.collation_table.specs.Spelling.{split_once}
 
 -- the parts of a list between the bytes c
@@ -59,3 +60,13 @@ some_of_two false b ps = some_onto b ps
 pub some_part : (c : ℕ) (bytes : List ℕ) → (first : List ℕ) × (more : List (List ℕ)) × (parts c bytes ≡ first ∷ more)
 some_part c [] = ([], [], refl)
 some_part c (b ∷ bytes) = some_of_two (eqb b c) b (parts c bytes)
+
+-- a search for a byte gives the first place where it stands
+pub position-from_first : (c : ℕ) (bytes : List ℕ) (found : Option ℕ) → IsFirstByte (is_byte c) bytes found → found ≡ position (λ b. eqb b c) bytes
+position-from_first c bytes None nowhere =
+    let past : position_or_len (λ b. eqb b c) bytes ≡ length bytes = position_or_len_is (λ b. eqb b c) bytes (length bytes) 0 (omega arith) (λ k below. false_from_ne_true _ (nowhere k (omega arith) below)) (λ below. absurd (omega arith)) in
+    ap (λ t. cond t (Some (place c bytes)) None) (sym (le-ltb (place c bytes) (length bytes) (omega arith)))
+position-from_first c bytes (Some at) found =
+    let within : at < length bytes = found.0.high in
+    let first : position_or_len (λ b. eqb b c) bytes ≡ at = position_or_len_is (λ b. eqb b c) bytes at 0 (omega arith) (λ k below. false_from_ne_true _ (found.0.before k (omega arith) below)) (λ below. found.1) in
+    ap Some (sym first) ∙ ap (λ t. cond t (Some (place c bytes)) None) (sym (lt-ltb (place c bytes) (length bytes) (omega arith)))

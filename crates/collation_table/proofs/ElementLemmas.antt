@@ -1,12 +1,13 @@
 -- What a pass over the rows finds of the elements of the whole table.
-use Rattle.std.proofs.Common.{◌≡◌, ℕ, min, max, Bool, true, false, not, ◌&&◌, ◌||◌, cond, List, [], ◌∷◌, Option, Some, None, fold, refl, sym, ap, ◌∙◌, arith, nat_le}
+use Rattle.std.proofs.Common.{◌≡◌, ℕ, min, max, Bool, true, false, not, ◌&&◌, ◌||◌, cond, List, [], ◌∷◌, Option, Some, None, fold, refl, sym, ap, ◌∙◌, arith, nat_le, nat_lt, ◌==◌}
 use Rattle.std.proofs.lemmas.Bool.Decides.{nat_tests}
 use Rattle.std.proofs.Math.Bool.{and-false, or-false, or_assoc}
+use Rattle.std.proofs.lemmas.Bool.{or_parts}
 use Rattle.std.specs.List.{list_any}
 use Rattle.collation_table.specs.declared.elements.Element.{Element}
 use Rattle.collation_table.specs.Table.{TableMap, greatest}
-use Rattle.collation_table.specs.WellFormed.{table_elements, is_primary, is_secondary, is_tertiary, breaks_wf2, breaks_wf4}
-use Rattle.collation_table.specs.Bounds.{higher_second, higher_third, span_with, wider_span, is_too_light, is_within_span}
+use Rattle.collation_table.specs.WellFormed.{table_elements, is_primary, is_secondary, is_tertiary, is_follower, is_lead, is_high_variable, skips_level, breaks_pairs, breaks_wf1, breaks_wf2, breaks_wf3, breaks_wf4, breaks_pair_rule}
+use Rattle.collation_table.specs.Bounds.{higher_second, higher_third, span_with, wider_span, is_too_light, is_within_span, is_unusual}
 
 -- ---- WF2 by two bounds
 
@@ -116,3 +117,41 @@ pub breaks_wf4-no_variable : (T : TableMap) → fold wider_span None (table_elem
 unfolding at_or_above at_or_below
 breaks_wf4-no_variable T is =
     wf4_by_span None (table_elements T) is ∙ none_passes _ (λ p. and-false (is_primary p && not p.is_variable && false)) (table_elements T)
+
+-- ---- the conditions on a row where no element is unusual
+
+record BreaksNothing (e : Element) : Type 0 where
+  wf1 : skips_level e ≡ false
+  wf3 : (e.is_variable && (e.w1 == 0)) ≡ false
+  follower : is_follower e ≡ false
+  high : is_high_variable e ≡ false
+  lead : is_lead e ≡ false
+
+low : (w : ℕ) → nat_le 0x8000 w ≡ false → nat_le 0xFB00 w ≡ false
+low w below = grind (arith, nat_tests)
+
+usual : (e : Element) → is_unusual e ≡ false → BreaksNothing e
+usual e none = record {
+  wf1 = ap (λ b. not (is_follower e) && b) ((λ i. first.1 i || second.1 i)) ∙ and-false (not (is_follower e));
+  wf3 = third.1;
+  follower = (λ i. not e.is_variable && first.0 i && (e.w2 == 0) && (e.w3 == 0)) ∙ (λ i. and-false (not e.is_variable) i && (e.w2 == 0) && (e.w3 == 0));
+  high = ap (λ b. e.is_variable && b) (low e.w1 first.0) ∙ and-false e.is_variable;
+  lead = (λ i. not e.is_variable && (low e.w1 first.0 i && nat_le e.w1 0xFBFF) && not (is_follower e)) ∙ (λ i. and-false (not e.is_variable) i && not (is_follower e));
+}
+  where
+    third : ((nat_le 0x8000 e.w1 || (nat_lt 0 e.w1 && (e.w2 == 0)) || (nat_lt 0 e.w2 && (e.w3 == 0))) ≡ false) × ((e.is_variable && (e.w1 == 0)) ≡ false)
+    third = or_parts _ _ none
+
+    second : ((nat_le 0x8000 e.w1 || (nat_lt 0 e.w1 && (e.w2 == 0))) ≡ false) × ((nat_lt 0 e.w2 && (e.w3 == 0)) ≡ false)
+    second = or_parts _ _ third.0
+
+    first : (nat_le 0x8000 e.w1 ≡ false) × ((nat_lt 0 e.w1 && (e.w2 == 0)) ≡ false)
+    first = or_parts _ _ second.0
+
+pub usual-row : (row : List Element) → list_any is_unusual row ≡ false → (breaks_wf1 row ≡ false) × (breaks_wf3 row ≡ false) × (breaks_pair_rule row ≡ false)
+usual-row [] none = (refl, refl, refl)
+usual-row (e ∷ row) none =
+    let parts = or_parts (is_unusual e) (list_any is_unusual row) none in
+    let here = usual e parts.0 in
+    let rest = usual-row row parts.1 in
+    ((λ i. here.wf1 i || rest.0 i), (λ i. here.wf3 i || rest.1 i), (λ i. here.follower i || here.high i || breaks_pairs (here.lead i) row) ∙ rest.2)

@@ -1,7 +1,9 @@
 pub mod Cuts
 pub mod ElementLemmas
 pub mod FileFaults
+pub mod FrontElements
 pub mod IndexLemmas
+pub mod LineForms
 pub mod LinesOfFile
 pub mod OverlayLemmas
 pub mod PageLemmas
@@ -12,4 +14,5 @@ pub mod RowLemmas
 pub mod StarterLemmas
 pub mod TableLemmas
 pub mod TrieLemmas
+pub mod Words
 pub mod WorkedTables

@@ -1,5 +1,5 @@
 -- Rows of which some are left out, rows that follow others, and the overlay of two tables.
-use Rattle.std.proofs.Common.{◌≡◌, ℕ, zero, suc, ◌+◌, Bool, true, false, not, ◌||◌, cond, List, [], ◌∷◌, ◌++◌, take, drop, filter, slice_get, Option, Some, None, is_some, refl, sym, ap, ◌∙◌, append-nil, bytes_eq}
+use Rattle.std.proofs.Common.{◌≡◌, ℕ, zero, suc, ◌+◌, Bool, true, false, not, ◌||◌, cond, List, [], ◌∷◌, ◌++◌, take, drop, filter, slice_get, Option, Some, None, is_some, refl, sym, ap, ◌∙◌, append-nil, bytes_eq, length, arith}
 use Rattle.std.proofs.lemmas.List.{drop_more, take_more}
 use Rattle.std.proofs.lemmas.List.Elements.{filter-append}
 use Rattle.std.proofs.lemmas.Option.{slice_get_within, get_or_from_slice_get}
@@ -130,15 +130,20 @@ overlay-rows base tailor string = row_with-append string (filter (λ row. not (i
         ap (λ o. option_or o (row_with string tailor.rows)) (row_with-left_out (λ s. not (is_mapped tailor s)) string base.rows (ap (λ o. not (is_some o)) e))
         ∙ e ∙ ap (λ o. option_or o (row_with string base.rows)) (sym e)
 
+-- without rows no string is mapped
+pub none_mapped : (T : TableMap) → length T.rows ≡ 0 → (rows : List (List ℕ × List Element)) → list_any (λ row. is_mapped T row.0) rows ≡ false
+none_mapped T none [] = refl
+none_mapped T none (r ∷ rows) = (λ i. is_some (row_with r.0 (nil T.rows none i)) || list_any (λ row. is_mapped T row.0) rows) ∙ none_mapped T none rows
+  where
+    nil : (l : List (List ℕ × List Element)) → length l ≡ 0 → l ≡ []
+    nil [] is = refl
+    nil (x ∷ xs) is = absurd (omega arith)
+
 pub overlay-base : (base : TableMap) → overlay base empty_table ≡ base
 overlay-base base = λ i. record {
-  rows = (append-nil (filter (λ row. not (is_mapped empty_table row.0)) base.rows) ∙ filter-whole (λ row. is_mapped empty_table row.0) base.rows (none base.rows)) i;
+  rows = (append-nil (filter (λ row. not (is_mapped empty_table row.0)) base.rows) ∙ filter-whole (λ row. is_mapped empty_table row.0) base.rows (none_mapped empty_table refl base.rows)) i;
   ranges = append-nil base.ranges i;
 }
-  where
-    none : (rows : List (List ℕ × List Element)) → list_any (λ row. is_mapped empty_table row.0) rows ≡ false
-    none [] = refl
-    none (r ∷ rows) = none rows
 
 pub overlay_laws-hold : OverlayLaws
 overlay_laws-hold = record { rows = overlay-rows; base_alone = overlay-base; tailor_alone = λ tailor. refl }

@@ -1,18 +1,21 @@
 -- The elements and the code points so far, and those of the parts that are left.
-use Rattle.std.proofs.Common.{◌≡◌, ℕ, ◌+◌, ◌<◌, true, false, not, cond, eqb, List, [], ◌∷◌, ◌++◌, length, drop, get_or, map, filter, Option, Some, None, option_map, refl, sym, ap, ◌∙◌, subst, arith, append_assoc, append-nil}
-use Rattle.std.proofs.lemmas.List.{at_drop_more, at_drop_all}
+use Rattle.std.proofs.Common.{◌≡◌, ℕ, true, false, not, cond, eqb, List, [], ◌∷◌, ◌++◌, length, map, filter, Option, Some, None, option_map, refl, sym, ap, ◌∙◌, subst, append_assoc}
 use Rattle.std.specs.List.{list_all, slice_split}
 use Rattle.collation_table.specs.declared.elements.Element.{Element}
-use Rattle.collation_table.specs.Spelling.{◌>>=◌, only_if, all_some, is_blank, split_once, some_of, bracketed_of, elements_of_parts, elements_of, code_point_of, string_of}
+use Rattle.collation_table.specs.Spelling.{◌>>=◌, only_if, all_some, is_blank, split_once, some_of, bracketed_of, elements_of_parts, elements_of, code_point_of}
 use Rattle.collation_table.proofs.Cuts.{parts, IsCut-from_some, parts-from_none, some_part}
 
 -- the list of what is left after what was found
 abbrev pub joined : {A : Type 0} → List A → Option (List A) → Option (List A)
 joined xs more = option_map (λ ys. xs ++ ys) more
 
-joined-push : {A : Type 0} (xs : List A) (x : A) (more : Option (List A)) → joined (xs ++ x ∷ []) more ≡ joined xs (option_map (λ ys. x ∷ ys) more)
+pub joined-push : {A : Type 0} (xs : List A) (x : A) (more : Option (List A)) → joined (xs ++ x ∷ []) more ≡ joined xs (option_map (λ ys. x ∷ ys) more)
 joined-push xs x None = refl
 joined-push xs x (Some ys) = ap Some (append_assoc xs (x ∷ []) ys)
+
+pub joined-none : {A : Type 0} (more : Option (List A)) → joined [] more ≡ more
+joined-none None = refl
+joined-none (Some ys) = refl
 
 -- Elements
 
@@ -39,12 +42,7 @@ pub elements_stop : (xs : List Element) (text bytes part following : List ℕ) �
 elements_stop xs text bytes part following cut found before =
     ap (λ o. o >>= λ es. some_of es) (sym before ∙ ap (joined xs) (elements_of_parts-cut bytes part following cut ∙ ap (λ o. o >>= λ e. option_map (λ es. e ∷ es) (elements_of_parts (parts 93 following))) found))
 
--- after the last element stand only blanks, or other bytes
-pub elements_end : (xs : List Element) (text bytes : List ℕ) → split_once 93 bytes ≡ None → joined xs (elements_of_parts (parts 93 bytes)) ≡ elements_of_parts (parts 93 text) → list_all is_blank bytes ≡ true → elements_of text ≡ some_of xs
-elements_end xs text bytes cut before blank =
-    ap (λ o. o >>= λ es. some_of es) (sym before ∙ ap (λ ps. joined xs (elements_of_parts ps)) (parts-from_none 93 bytes cut) ∙ ap (λ t. joined xs (only_if t [])) blank)
-    ∙ ap (λ es. some_of es) (append-nil xs)
-
+-- after the last element stand other bytes than blanks
 pub elements_trail : (xs : List Element) (text bytes : List ℕ) → split_once 93 bytes ≡ None → joined xs (elements_of_parts (parts 93 bytes)) ≡ elements_of_parts (parts 93 text) → list_all is_blank bytes ≡ false → elements_of text ≡ None
 elements_trail xs text bytes cut before blank =
     ap (λ o. o >>= λ es. some_of es) (sym before ∙ ap (λ ps. joined xs (elements_of_parts ps)) (parts-from_none 93 bytes cut) ∙ ap (λ t. joined xs (only_if t [])) blank)
@@ -59,36 +57,15 @@ points_in ps = all_some (map code_point_of (filter (λ word. not (eqb (length wo
 abbrev pub pieces : List ℕ → List (List ℕ)
 pieces bytes = slice_split is_blank bytes
 
-points_in-empty : (ps : List (List ℕ)) (w : List ℕ) → eqb (length w) 0 ≡ true → points_in (w ∷ ps) ≡ points_in ps
+pub points_in-empty : (ps : List (List ℕ)) (w : List ℕ) → eqb (length w) 0 ≡ true → points_in (w ∷ ps) ≡ points_in ps
 points_in-empty ps w e = ap (λ t. all_some (map code_point_of (cond (not t) (w ∷ filter (λ word. not (eqb (length word) 0)) ps) (filter (λ word. not (eqb (length word) 0)) ps)))) e
 
-points_in-none : (ps : List (List ℕ)) (w : List ℕ) → eqb (length w) 0 ≡ false → code_point_of w ≡ None → points_in (w ∷ ps) ≡ None
+pub points_in-none : (ps : List (List ℕ)) (w : List ℕ) → eqb (length w) 0 ≡ false → code_point_of w ≡ None → points_in (w ∷ ps) ≡ None
 points_in-none ps w e none =
     ap (λ t. all_some (map code_point_of (cond (not t) (w ∷ filter (λ word. not (eqb (length word) 0)) ps) (filter (λ word. not (eqb (length word) 0)) ps)))) e
     ∙ ap (λ o. all_some (o ∷ map code_point_of (filter (λ word. not (eqb (length word) 0)) ps))) none
 
-points_in-some : (ps : List (List ℕ)) (w : List ℕ) (cp : ℕ) → eqb (length w) 0 ≡ false → code_point_of w ≡ Some cp → points_in (w ∷ ps) ≡ option_map (λ string. cp ∷ string) (points_in ps)
+pub points_in-some : (ps : List (List ℕ)) (w : List ℕ) (cp : ℕ) → eqb (length w) 0 ≡ false → code_point_of w ≡ Some cp → points_in (w ∷ ps) ≡ option_map (λ string. cp ∷ string) (points_in ps)
 points_in-some ps w cp e some =
     ap (λ t. all_some (map code_point_of (cond (not t) (w ∷ filter (λ word. not (eqb (length word) 0)) ps) (filter (λ word. not (eqb (length word) 0)) ps)))) e
     ∙ ap (λ o. all_some (o ∷ map code_point_of (filter (λ word. not (eqb (length word) 0)) ps))) some
-
--- one turn, over the part w at a place of the parts
-points_at : (ps : List (List ℕ)) (i : ℕ) (w : List ℕ) → (i < length ps) × (w ≡ get_or ps i w) → points_in (drop i ps) ≡ points_in (w ∷ drop (i + 1) ps)
-points_at ps i w at = at_drop_more points_in ps i w at.0 ∙ ap (λ x. points_in (x ∷ drop (i + 1) ps)) (sym at.1)
-
-pub points_more : (string : List ℕ) (cp : ℕ) (all : Option (List ℕ)) (ps : List (List ℕ)) (i : ℕ) (w : List ℕ) → (i < length ps) × (w ≡ get_or ps i w) → eqb (length w) 0 ≡ false → code_point_of w ≡ Some cp → joined string (points_in (drop i ps)) ≡ all → joined (string ++ cp ∷ []) (points_in (drop (i + 1) ps)) ≡ all
-points_more string cp all ps i w at full found before =
-    joined-push string cp (points_in (drop (i + 1) ps)) ∙ ap (joined string) (sym (points_at ps i w at ∙ points_in-some (drop (i + 1) ps) w cp full found)) ∙ before
-
-pub points_skip : (string : List ℕ) (all : Option (List ℕ)) (ps : List (List ℕ)) (i : ℕ) (w : List ℕ) → (i < length ps) × (w ≡ get_or ps i w) → eqb (length w) 0 ≡ true → joined string (points_in (drop i ps)) ≡ all → joined string (points_in (drop (i + 1) ps)) ≡ all
-points_skip string all ps i w at empty before = ap (joined string) (sym (points_at ps i w at ∙ points_in-empty (drop (i + 1) ps) w empty)) ∙ before
-
--- a word is no code point
-pub points_stop : (string text : List ℕ) (i : ℕ) (w : List ℕ) → (i < length (pieces text)) × (w ≡ get_or (pieces text) i w) → eqb (length w) 0 ≡ false → code_point_of w ≡ None → joined string (points_in (drop i (pieces text))) ≡ points_in (pieces text) → string_of text ≡ None
-points_stop string text i w at full none before =
-    ap (λ o. o >>= λ string. some_of string) (sym before ∙ ap (joined string) (points_at (pieces text) i w at ∙ points_in-none (drop (i + 1) (pieces text)) w full none))
-
--- each word is
-pub points_end : (string text : List ℕ) (n : ℕ) → n ≡ length (pieces text) → joined string (points_in (drop n (pieces text))) ≡ points_in (pieces text) → string_of text ≡ some_of string
-points_end string text n all before =
-    ap (λ o. o >>= λ string. some_of string) (sym before ∙ ap (joined string) (at_drop_all points_in (pieces text) n (omega arith))) ∙ ap (λ string. some_of string) (append-nil string)

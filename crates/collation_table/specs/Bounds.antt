@@ -1,6 +1,7 @@
 -- The bounds by which WF2 and WF4 are decided in one pass each: the heaviest weights, above which each secondary and tertiary
--- element has to be at its own level, and the span of the variable primary weights, both ends in it.
-use Rattle.std.specs.Prelude.{ℕ, min, max, Bool, not, ◌&&◌, ◌||◌, nat_le, Option, Some, None, if◌then◌else◌, fold}
+-- element has to be at its own level, and the span of the variable primary weights, both ends in it. And the elements without which
+-- a row breaks none of the conditions on a row.
+use Rattle.std.specs.Prelude.{ℕ, min, max, Bool, not, ◌&&◌, ◌||◌, nat_le, nat_lt, ◌==◌, Option, Some, None, if◌then◌else◌, fold}
 use Rattle.collation_table.specs.declared.elements.Element.{Element}
 use Rattle.collation_table.specs.Table.{TableMap}
 use Rattle.collation_table.specs.WellFormed.{table_elements, is_primary, is_secondary, is_tertiary}
@@ -35,3 +36,8 @@ is_too_light second third e = (is_secondary e && nat_le e.w2 second) || (is_tert
 
 abbrev pub is_within_span : ℕ → ℕ → Element → Bool
 is_within_span least greatest e = is_primary e && not e.is_variable && nat_le least e.w1 && nat_le e.w1 greatest
+
+-- a first weight as high as a follower's, a weight that is not zero before one that is, or a variable element with the first weight
+-- zero
+abbrev pub is_unusual : Element → Bool
+is_unusual e = nat_le 0x8000 e.w1 || (nat_lt 0 e.w1 && (e.w2 == 0)) || (nat_lt 0 e.w2 && (e.w3 == 0)) || (e.is_variable && (e.w1 == 0))

@@ -1,5 +1,5 @@
 -- What a contract sees of the vectors inside `Rows`.
-use Rattle.std.specs.Prelude.{◌≡◌, ℕ, ◌≤◌, max, List, map, length, flat_map, slice_range, Some, option_map}
+use Rattle.std.specs.Prelude.{◌≡◌, ℕ, ◌≤◌, max, List, ◌++◌, map, length, flat_map, slice_range, Some, option_map}
 use Rattle.std.specs.List.{AllByRecursion}
 use Rattle.collation_table.specs.declared.elements.Element.{Element}
 use Rattle.collation_table.specs.declared.pages.Place.{Place}
@@ -11,6 +11,10 @@ use Rattle.collation_table.specs.Trie.{IsTrie, place_of}
 -- what lies at a place
 abbrev pub part : {X : Type 0} → List X → Place → List X
 part xs p = slice_range xs p.start p.end
+
+-- where the second list lies once it is appended to the first
+abbrev pub after : {X : Type 0} → List X → List X → Place
+after xs ys = record { start = length xs; end = length (xs ++ ys) }
 
 -- each row, its mapped string among the code points of all mapped strings and its elements among
 -- those of all rows

@@ -1,6 +1,7 @@
 //! Collation elements (UTS #10, section 3.1).
 ghost use Rattle.std.specs.Prelude.{◌≡◌};
 ghost use Rattle.collation_table.specs.WellFormed.{is_follower, is_lead, is_primary, is_secondary, is_tertiary, skips_level, is_high_variable};
+ghost use Rattle.collation_table.specs.Bounds.{is_unusual};
 
 /// The least primary weight of an element of follower form.
 const LEAST_FOLLOWER: u16 = 0x8000;
@@ -66,6 +67,17 @@ impl Element {
         ensures { result ≡ skips_level self.now }
     {
         !self.is_follower() && (self.w1 > 0 && self.w2 == 0 || self.w2 > 0 && self.w3 == 0)
+    }
+
+    /// Whether it may break a condition on its row: its first weight is as high as a follower's, a weight is not zero and the next
+    /// one is, or it is variable and its first weight is zero.
+    pub(crate) fn is_unusual(&self) -> bool
+        ensures { result ≡ is_unusual self.now }
+    {
+        self.w1 >= LEAST_FOLLOWER
+            || self.w1 > 0 && self.w2 == 0
+            || self.w2 > 0 && self.w3 == 0
+            || self.is_variable && self.w1 == 0
     }
 
     /// Whether it is variable and its first weight is as high as a lead's.

@@ -1,9 +1,11 @@
 //! What is wrong with a line of a table file, by itself and after the lines before it.
 
-ghost use Rattle.std.specs.Prelude.{◌≡◌, ◌≤◌, option_map, IfSome};
+ghost use Rattle.std.specs.Prelude.{◌≡◌, ◌≤◌, [], ◌∷◌, option_map, IfSome};
 ghost use Rattle.std.specs.List.{list_any};
-ghost use Rattle.collation_table.specs.Faults.{is_beyond_unicode, range_kind, entry_kind, line_kind};
+ghost use Rattle.collation_table.specs.Faults.{is_beyond_unicode, first_kind, range_kind, entry_kind, line_kind};
+ghost use Rattle.collation_table.specs.Kinds.{wf1_kind, wf3_kind, pair_rule_kind};
 ghost use Rattle.collation_table.specs.Reading.{form};
+ghost use Rattle.collation_table.specs.WellFormed.{breaks_wf1, breaks_wf3, breaks_pair_rule};
 
 use crate::elements::Element;
 use crate::faults::{
@@ -14,7 +16,7 @@ use crate::limits::{MOST_ENTRY_LINES, MOST_RANGE_LINES, MOST_ROW_ELEMENTS, MOST_
 use crate::lines::Line;
 use crate::ranges::ImplicitRange;
 use crate::row_store::RowStore;
-use crate::well_formed::{breaks_pair_rule, breaks_wf1, breaks_wf3};
+use crate::well_formed::{any_unusual, breaks_pair_rule, breaks_wf1, breaks_wf3};
 
 /// The last code point of Unicode.
 const LAST_CODE_POINT: u32 = 0x10FFFF;
@@ -43,6 +45,29 @@ fn range_fault<S: RowStore>(earlier: usize, rows: &S, range: &ImplicitRange) -> 
     }
 }
 
+/// The smallest kind of fault that a row has by itself. Nearly every row has no unusual element, which one pass tells.
+fn row_fault(row: &[Element]) -> Option<u8>
+    ensures kind { result
+        ≡ first_kind
+        ((breaks_wf1 row.now, wf1_kind)
+        ∷ (breaks_wf3 row.now, wf3_kind)
+        ∷ (breaks_pair_rule row.now, pair_rule_kind)
+        ∷ []) }
+    ensures few { IfSome result (λ kind. kind ≤ 13) }
+{
+    if !any_unusual(row) {
+        None
+    } else if breaks_wf1(row) {
+        Some(BREAKS_WF1)
+    } else if breaks_wf3(row) {
+        Some(BREAKS_WF3)
+    } else if breaks_pair_rule(row) {
+        Some(BREAKS_PAIRS)
+    } else {
+        None
+    }
+}
+
 /// The smallest kind of fault of an entry line after the lines that gave `rows`.
 fn entry_fault<S: RowStore>(rows: &S, string: &[u32], row: &[Element]) -> Option<u8>
     ensures kind { result ≡ entry_kind (S.table rows.now) string.now row.now }
@@ -54,16 +79,12 @@ fn entry_fault<S: RowStore>(rows: &S, string: &[u32], row: &[Element]) -> Option
         Some(MAPPED_TWICE)
     } else if string.len() > MOST_STRING_POINTS || row.len() > MOST_ROW_ELEMENTS {
         Some(TOO_LONG)
-    } else if breaks_wf1(row) {
-        Some(BREAKS_WF1)
-    } else if breaks_wf3(row) {
-        Some(BREAKS_WF3)
-    } else if breaks_pair_rule(row) {
-        Some(BREAKS_PAIRS)
-    } else if rows.row_count() >= MOST_ENTRY_LINES {
-        Some(TOO_MANY_LINES)
     } else {
-        None
+        match row_fault(row) {
+            Some(kind) => Some(kind),
+            None if rows.row_count() >= MOST_ENTRY_LINES => Some(TOO_MANY_LINES),
+            None => None,
+        }
     }
 }
 

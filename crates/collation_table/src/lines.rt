@@ -1,21 +1,19 @@
 //! The forms of a line of a table file (UTS #10, the form of allkeys.txt).
 
-ghost use Rattle.std.specs.Prelude.{◌≡◌, ◌==◌, IfOk, IfSome, option_map};
+ghost use Rattle.std.specs.Prelude.{◌≡◌, ◌==◌, IfOk, IfSome, Some, option_map, slice_index, if◌then◌else◌};
 ghost use Rattle.std.specs.List.{before_first};
-ghost use Rattle.collation_table.specs.Spelling.{number_sign, begins_with_blank, ends_word, is_version, range_of, entry_of, form_of, line_form};
+ghost use Rattle.collation_table.specs.Spelling.{number_sign, begins_with_blank, trim_start, ends_word, Range, Version, is_version, range_of, entry_of, form_of, line_form};
 ghost use Rattle.collation_table.specs.Reading.{form, HasParts};
 
 use crate::elements::Element;
-use crate::pieces::{
-    cut, is_blank_byte, is_blank_only, strip_text, without_leading_blanks, without_outer_blanks,
-};
+use crate::pieces::{cut, is_blank_byte, strip_text, without_leading_blanks, without_outer_blanks};
 use crate::ranges::ImplicitRange;
-use crate::spelling::{code_point, elements, string, weight};
+use crate::spelling::{code_point, read_elements, read_string, weight};
 use std::alloc::{AllocError, Global};
 
 /// What a line says.
-#[derive(Debug, Drop)]
-pub(crate) enum Line {
+#[derive(Clone, Copy, Debug)]
+pub(crate) enum Line<'a> {
     /// Nothing but blanks and a comment.
     Empty,
     /// The version of the table, which is passed over.
@@ -23,7 +21,27 @@ pub(crate) enum Line {
     /// Code points whose implicit weights begin with a base of their own.
     Range(ImplicitRange),
     /// A row of the table.
-    Entry { string: Vec<u32>, row: Vec<Element> },
+    Entry {
+        string: &'a [u32],
+        row: &'a [Element],
+    },
+}
+
+/// Room for the code points and the elements of a line, kept from one line to the next.
+#[derive(Drop)]
+pub(crate) struct LineRoom {
+    string: Vec<u32>,
+    row: Vec<Element>,
+}
+
+impl LineRoom {
+    /// Takes no memory.
+    pub(crate) fn new(alloc: Global) -> LineRoom {
+        LineRoom {
+            string: Vec::new(alloc),
+            row: Vec::new(alloc),
+        }
+    }
 }
 
 /// Whether the bytes begin with a blank.
@@ -67,46 +85,68 @@ fn range(text: &[u8]) -> Option<ImplicitRange>
 
 /// The row of a line `CODE POINTS ; ELEMENTS`.
 #[tactic(auto, unfolding(crate::specs::Spelling::entry_of))]
-fn entry(alloc: Global, text: &[u8]) -> Result<Option<Line>, AllocError>
+fn entry<'a>(room: &'a mut LineRoom, text: &[u8]) -> Result<Option<Line<'a>>, AllocError>
     ensures value { IfOk result (λ found. option_map form found ≡ entry_of text.now) }
     ensures some { IfOk result (λ found. IfSome found HasParts) }
 {
     let Some((left, right)) = cut(text, b';') else {
         return Ok(None);
     };
-    let Some(string) = string(alloc, left)? else {
+    if !read_string(&mut room.string, left)? {
         return Ok(None);
-    };
-    let Some(row) = elements(alloc, right)? else {
+    }
+    if !read_elements(&mut room.row, right)? {
         return Ok(None);
-    };
-    Ok(Some(Line::Entry { string, row }))
+    }
+    Ok(Some(Line::Entry {
+        string: room.string.as_slice(),
+        row: room.row.as_slice(),
+    }))
+}
+
+/// The version or the range that a line says whose first byte behind its blanks is given.
+fn directive<'a>(text: &[u8], first: u8) -> Option<Line<'a>>
+    requires { first ≡ slice_index (trim_start text.now) 0 }
+    ensures value { option_map form result
+        ≡ (if is_version text.now then Some Version else option_map Range (range_of text.now)) }
+    ensures some { IfSome result HasParts }
+{
+    if first != b'@' {
+        return None;
+    }
+    if is_version_line(text) {
+        return Some(Line::Version);
+    }
+    Some(Line::Range(range(text)?))
 }
 
 /// What a line says without its end and its comment, or `None` where it has none of the four forms.
-#[tactic(auto, unfolding(crate::specs::Spelling::form_of))]
-fn line_without_comment(alloc: Global, text: &[u8]) -> Result<Option<Line>, AllocError>
+fn line_without_comment<'a>(
+    room: &'a mut LineRoom,
+    text: &[u8],
+) -> Result<Option<Line<'a>>, AllocError>
     ensures value { IfOk result (λ found. option_map form found ≡ form_of text.now) }
     ensures some { IfOk result (λ found. IfSome found HasParts) }
 {
-    if is_blank_only(text) {
+    let trimmed = without_leading_blanks(text);
+    if trimmed.is_empty() {
         return Ok(Some(Line::Empty));
     }
-    if is_version_line(text) {
-        return Ok(Some(Line::Version));
+    if let Some(line) = directive(text, trimmed[0]) {
+        return Ok(Some(line));
     }
-    if let Some(range) = range(text) {
-        return Ok(Some(Line::Range(range)));
-    }
-    entry(alloc, text)
+    entry(room, text)
 }
 
 /// What a line says, given without its end; its comment, from the first `#` on, is passed over.
-pub(crate) fn parse_line(alloc: Global, text: &[u8]) -> Result<Option<Line>, AllocError>
+pub(crate) fn parse_line<'a>(
+    room: &'a mut LineRoom,
+    text: &[u8],
+) -> Result<Option<Line<'a>>, AllocError>
     ensures value { IfOk result (λ found. option_map form found ≡ line_form text.now) }
     ensures some { IfOk result (λ found. IfSome found HasParts) }
 {
-    line_without_comment(alloc, without_comment(text))
+    line_without_comment(room, without_comment(text))
 }
 
 /// What stands before the first `#`.

@@ -1,5 +1,5 @@
 //! What a table has for code points, in pages of 256: so one is found by two reads of an array.
-ghost use Rattle.std.specs.Prelude.{◌≡◌, ℕ, OnOk};
+ghost use Rattle.std.specs.Prelude.{◌≡◌, ℕ, true, Some, OnOk};
 ghost use Rattle.collation_table.specs.Trie.{page_entry, no_page_entry, HasRoom};
 
 use std::alloc::{AllocError, Global};
@@ -75,8 +75,33 @@ impl Pages {
         }
     }
 
-    /// Makes room for a code point.
+    /// Whether there is a page for a code point, with a place for it.
+    fn has_room(&self, cp: u32) -> bool
+        ensures { result ≡ true → HasRoom self.now.pages.items cp }
+    {
+        let number = (cp / PAGE_POINTS) as usize;
+        if number >= self.pages.len() {
+            return false;
+        }
+        self.pages[number].len() > (cp % PAGE_POINTS) as usize
+    }
+
+    /// Makes room for a code point where there is none. Most code points find their page there.
+    #[inline(always)]
     fn make_room(&mut self, alloc: Global, cp: u32) -> Result<(), AllocError>
+        ensures same { OnOk result ((q : ℕ)
+            → page_entry self.new.pages.items q ≡ page_entry self.old.pages.items q) }
+        ensures room { OnOk result (HasRoom self.new.pages.items cp) }
+    {
+        if self.has_room(cp) {
+            return Ok(());
+        }
+        self.add_page(alloc, cp)?;
+        Ok(())
+    }
+
+    /// Adds the page of a code point, and those before it.
+    fn add_page(&mut self, alloc: Global, cp: u32) -> Result<(), AllocError>
         ensures same { OnOk result ((q : ℕ)
             → page_entry self.new.pages.items q ≡ page_entry self.old.pages.items q) }
         ensures room { OnOk result (HasRoom self.new.pages.items cp) }
@@ -99,6 +124,22 @@ impl Pages {
     {
         self.make_room(alloc, cp)?;
         self.pages[(cp / PAGE_POINTS) as usize][(cp % PAGE_POINTS) as usize] = entry;
+        Ok(())
+    }
+
+    /// Puts a place into the entry of a code point.
+    pub fn set_place(&mut self, alloc: Global, cp: u32, place: Place) -> Result<(), AllocError>
+        ensures here { OnOk result
+            (let was = page_entry self.old.pages.items cp in
+            page_entry self.new.pages.items cp
+            ≡ record was { entry = record was.entry { place = Some place } }) }
+        ensures others { OnOk result ((q : ℕ) → ((q ≡ cp) → ⊥)
+            → page_entry self.new.pages.items q ≡ page_entry self.old.pages.items q) }
+    {
+        self.make_room(alloc, cp)?;
+        self.pages[(cp / PAGE_POINTS) as usize][(cp % PAGE_POINTS) as usize]
+            .entry
+            .place = Some(place);
         Ok(())
     }
 }

@@ -1,9 +1,11 @@
 //! Cutting a file into lines, and a line into its parts, which stand between blanks and signs.
 
 ghost use Rattle.std.specs.Prelude.{◌≡◌, ◌<◌, ◌≤◌, ◌==◌, ◌∷◌, length, option_map};
-ghost use Rattle.std.specs.List.{list_all, position, prefix_len, suffix_len};
+ghost use Rattle.std.specs.List.{position, position_or_len, prefix_len, suffix_len};
 ghost use Rattle.std.specs.Str.Lines.{lines, strip_carriage_return};
 ghost use Rattle.collation_table.specs.Spelling.{is_blank, trim_start, trim, trim_end, split_once, after};
+
+use memchr::memchr;
 
 /// Whether a byte is a space or a tab.
 pub(crate) fn is_blank_byte(byte: u8) -> bool
@@ -12,18 +14,22 @@ pub(crate) fn is_blank_byte(byte: u8) -> bool
     byte == b' ' || byte == b'\t'
 }
 
-/// Whether the bytes are blanks only.
-pub(crate) fn is_blank_only(bytes: &[u8]) -> bool
-    ensures { result ≡ list_all is_blank bytes.now }
-{
-    bytes.iter().all(|byte| is_blank_byte(*byte))
-}
-
 /// Where the first `byte` stands.
 fn place_of(bytes: &[u8], byte: u8) -> Option<usize>
     ensures { result ≡ position (λ b. b == byte) bytes.now }
 {
-    bytes.iter().position(|b| *b == byte)
+    memchr(byte, bytes)
+}
+
+/// How many bytes stand before the first blank.
+pub(crate) fn word_len(bytes: &[u8]) -> usize
+    ensures value { result ≡ position_or_len is_blank bytes.now }
+    ensures within { result ≤ length bytes.now }
+{
+    bytes
+        .iter()
+        .take_while(|byte| !is_blank_byte(**byte))
+        .count()
 }
 
 /// What stands before the first `separator`, and what stands after it.

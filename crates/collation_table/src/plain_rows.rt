@@ -1,7 +1,8 @@
 //! The rows and the implicit ranges of a plain table: a list of rows, and an ordered map from each mapped string to the number of
 //! its row.
-ghost use Rattle.std.specs.Prelude.{◌≡◌, [], ◌∷◌, ◌++◌, false, length, IfOk, option_copied};
-ghost use Rattle.collation_table.specs.Table.{row_of, is_mapped};
+ghost use Rattle.std.specs.Prelude.{◌≡◌, [], ◌∷◌, ◌++◌, false, length, is_some, OnOk, option_copied};
+ghost use Rattle.collation_table.specs.Table.{row_of, row_with, is_mapped};
+ghost use Rattle.collation_table.specs.Plain.{plain_rows, IsNumbered};
 ghost use Rattle.collation_table.specs.WellFormed.{IsRowSound, breaks_ranges};
 
 use crate::elements::Element;
@@ -42,6 +43,34 @@ impl Model for PlainRows {
         × IsNumbered a.rows.items a.numbers };
 }
 
+/// Puts a row after the others and into the map. Where memory is refused, it may be in one of them.
+fn store(
+    alloc: Global,
+    rows: &mut Vec<PlainRow>,
+    numbers: &mut BTreeMap<Vec<u32>, usize>,
+    string: &[u32],
+    row: &[Element],
+) -> Result<(), AllocError>
+    requires numbered { IsNumbered rows.old.items numbers.old }
+    requires absent { is_some (row_with string.now (plain_rows rows.old.items)) ≡ false }
+    ensures rows { OnOk result
+        (plain_rows rows.new.items ≡ plain_rows rows.old.items ++ (string.now, row.now) ∷ []) }
+    ensures numbered { OnOk result (IsNumbered rows.new.items numbers.new) }
+{
+    let number = rows.len();
+    let mut key = Vec::new(alloc);
+    key.extend_from_slice(string)?;
+    let mut added = PlainRow {
+        string: Vec::new(alloc),
+        elements: Vec::new(alloc),
+    };
+    added.string.extend_from_slice(string)?;
+    added.elements.extend_from_slice(row)?;
+    rows.push(added)?;
+    numbers.insert(key, number)?;
+    Ok(())
+}
+
 impl PlainRows {
     /// No rows and no ranges. Takes no memory.
     pub(crate) fn new(alloc: Global) -> PlainRows
@@ -71,33 +100,14 @@ impl RowStore for PlainRows {
         self.row(string).is_some()
     }
 
-    fn insert(
-        self,
-        alloc: Global,
-        string: &[u32],
-        row: &[Element],
-    ) -> Result<PlainRows, AllocError> {
-        let PlainRows {
-            mut rows,
-            mut numbers,
-            ranges,
-        } = self;
-        let number = rows.len();
-        let mut key = Vec::new(alloc);
-        key.extend_from_slice(string)?;
-        let mut added = PlainRow {
-            string: Vec::new(alloc),
-            elements: Vec::new(alloc),
-        };
-        added.string.extend_from_slice(string)?;
-        added.elements.extend_from_slice(row)?;
-        rows.push(added)?;
-        numbers.insert(key, number)?;
-        Ok(PlainRows {
-            rows,
-            numbers,
-            ranges,
-        })
+    fn insert(&mut self, alloc: Global, string: &[u32], row: &[Element]) -> Result<(), AllocError> {
+        match store(alloc, &mut self.rows, &mut self.numbers, string, row) {
+            Ok(()) => Ok(()),
+            Err(error) => {
+                *self = PlainRows::new(alloc);
+                Err(error)
+            }
+        }
     }
 
     fn row_count(&self) -> usize {
@@ -112,17 +122,8 @@ impl RowStore for PlainRows {
         ranges::breaks_ranges(self.ranges.as_slice(), range)
     }
 
-    fn push_range(self, range: ImplicitRange) -> Result<PlainRows, AllocError> {
-        let PlainRows {
-            rows,
-            numbers,
-            mut ranges,
-        } = self;
-        ranges.push(range)?;
-        Ok(PlainRows {
-            rows,
-            numbers,
-            ranges,
-        })
+    fn push_range(&mut self, range: ImplicitRange) -> Result<(), AllocError> {
+        self.ranges.push(range)?;
+        Ok(())
     }
 }

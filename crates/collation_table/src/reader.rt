@@ -8,7 +8,7 @@ ghost use Rattle.collation_table.specs.Faults.{forms_of, map_after, line_kind, f
 
 use crate::faults::{TAILOR_KINDS, TableFault};
 use crate::line_faults::line_fault;
-use crate::lines::{Line, parse_line};
+use crate::lines::{Line, LineRoom, parse_line};
 use crate::lookup::Weights;
 use crate::pieces::first_line;
 use crate::row_store::RowStore;
@@ -48,29 +48,29 @@ impl TableFile {
     }
 }
 
-/// The rows with what a line says, or its fault. Memory is asked for only where it has none; where that is refused, it is reported
-/// at line 0.
+/// Adds what a line says to the rows, or gives its fault. Memory is asked for only where it has none; where that is refused, it is
+/// reported at line 0.
 fn add_line<S: RowStore>(
     alloc: Global,
     file: TableFile,
-    rows: S,
+    rows: &mut S,
     number: u64,
     line: Option<Line>,
-) -> Result<S, TableFault>
+) -> Result<(), TableFault>
     requires parts { IfSome line HasParts }
     ensures right { OnOk result
-        (line_kind (earlier_ranges file) (S.table rows) (option_map form line) ≡ None) }
-    ensures rows { IfOk result
-        (λ new. S.table new ≡ with_line (S.table rows) (option_map form line)) }
+        (line_kind (earlier_ranges file) (S.table rows.old) (option_map form line.entry) ≡ None) }
+    ensures rows { OnOk result
+        (S.table rows.new ≡ with_line (S.table rows.old) (option_map form line.entry)) }
     // A line at fault has its fault reported, whatever memory is refused.
     ensures fault { IfErr result
         (λ fault. fault
         ≡ unwrap_or (option_map (reported file)
         (fault_at_line number
-        (line_kind (earlier_ranges file) (S.table rows)
-        (option_map form line)))) allocation_refused) }
+        (line_kind (earlier_ranges file) (S.table rows.old)
+        (option_map form line.entry)))) allocation_refused) }
 {
-    match line_fault(file.earlier_ranges(), &rows, &line) {
+    match line_fault(file.earlier_ranges(), rows, &line) {
         Some(kind) => {
             return Err(TableFault {
                 line: number,
@@ -81,10 +81,8 @@ fn add_line<S: RowStore>(
     }
     match line {
         Some(Line::Range(range)) => Ok(rows.push_range(range)?),
-        Some(Line::Entry { string, row }) => {
-            Ok(rows.insert(alloc, string.as_slice(), row.as_slice())?)
-        }
-        Some(Line::Empty | Line::Version) | None => Ok(rows),
+        Some(Line::Entry { string, row }) => { Ok(rows.insert(alloc, string, row)?) }
+        Some(Line::Empty | Line::Version) | None => Ok(()),
     }
 }
 
@@ -92,21 +90,22 @@ fn add_line<S: RowStore>(
 fn read_line<S: RowStore>(
     alloc: Global,
     file: TableFile,
-    rows: S,
+    rows: &mut S,
+    room: &mut LineRoom,
     number: u64,
     text: &[u8],
-) -> Result<S, TableFault>
+) -> Result<(), TableFault>
     ensures right { OnOk result
-        (line_kind (earlier_ranges file) (S.table rows) (line_form text.now) ≡ None) }
-    ensures rows { IfOk result
-        (λ new. S.table new ≡ with_line (S.table rows) (line_form text.now)) }
+        (line_kind (earlier_ranges file) (S.table rows.old) (line_form text.now) ≡ None) }
+    ensures rows { OnOk result
+        (S.table rows.new ≡ with_line (S.table rows.old) (line_form text.now)) }
     ensures fault { IfErr result
         (IsFaultOrAllocationRefused
         (option_map (reported file)
         (fault_at_line number
-        (line_kind (earlier_ranges file) (S.table rows) (line_form text.now))))) }
+        (line_kind (earlier_ranges file) (S.table rows.old) (line_form text.now))))) }
 {
-    let line = parse_line(alloc, text)?;
+    let line = parse_line(room, text)?;
     add_line(alloc, file, rows, number, line)
 }
 
@@ -130,12 +129,13 @@ pub(crate) fn read_lines<S: RowStore>(
         (first_line_fault (S.table earlier).ranges (forms_of bytes.now)))) }
 {
     let mut rows = earlier;
+    let mut room = LineRoom::new(alloc);
     let mut rest = bytes;
     let mut number = 0;
     while !rest.is_empty() {
         let (text, following) = first_line(rest);
         number += 1;
-        rows = read_line(alloc, file, rows, number, text)?;
+        read_line(alloc, file, &mut rows, &mut room, number, text)?;
         rest = following;
     }
     Ok(rows)

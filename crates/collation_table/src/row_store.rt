@@ -1,5 +1,5 @@
 //! What the reader of a table file asks of the rows and the ranges that the lines so far gave, however they are kept.
-ghost use Rattle.std.specs.Prelude.{◌≡◌, [], ◌∷◌, ◌++◌, false, length, IfOk};
+ghost use Rattle.std.specs.Prelude.{◌≡◌, [], ◌∷◌, ◌++◌, false, length, OnOk};
 ghost use Rattle.collation_table.specs.Table.{TableMap, is_mapped};
 ghost use Rattle.collation_table.specs.WellFormed.{IsRowSound, breaks_ranges, lacks_prefix};
 
@@ -30,20 +30,21 @@ pub(crate) trait RowStore: Drop {
     fn refuses(&self, range: &ImplicitRange) -> bool
         ensures { result ≡ breaks_ranges (table self.now).ranges range.now };
 
-    /// The rows with one more after the others.
-    fn insert(self, alloc: Global, string: &[u32], row: &[Element]) -> Result<Self, AllocError>
-        requires absent { is_mapped (table self) string.now ≡ false }
+    /// Adds a row after the others. Where memory is refused, some rows may be lost.
+    fn insert(&mut self, alloc: Global, string: &[u32], row: &[Element]) -> Result<(), AllocError>
+        requires absent { is_mapped (table self.old) string.now ≡ false }
         requires sound { IsRowSound string.now row.now }
-        ensures { IfOk result
-            (λ rows. table rows
-            ≡ record (table self) { rows = (table self).rows ++ (string.now, row.now) ∷ [] }) };
+        ensures { OnOk result
+            (table self.new
+            ≡ record (table self.old)
+            { rows = (table self.old).rows ++ (string.now, row.now) ∷ [] }) };
 
-    /// The rows with one more range after the others.
-    fn push_range(self, range: ImplicitRange) -> Result<Self, AllocError>
-        requires { breaks_ranges (table self).ranges range ≡ false }
-        ensures { IfOk result
-            (λ rows. table rows
-            ≡ record (table self) { ranges = (table self).ranges ++ range ∷ [] }) };
+    /// Adds a range after the others.
+    fn push_range(&mut self, range: ImplicitRange) -> Result<(), AllocError>
+        requires { breaks_ranges (table self.old).ranges range ≡ false }
+        ensures { OnOk result
+            (table self.new
+            ≡ record (table self.old) { ranges = (table self.old).ranges ++ range ∷ [] }) };
 }
 
 /// Whether a mapped string of three code points or more ends in a non-starter, and is not mapped without it (WF5).
@@ -76,11 +77,11 @@ impl RowStore for Rows {
         self.refuses(range)
     }
 
-    fn insert(self, alloc: Global, string: &[u32], row: &[Element]) -> Result<Rows, AllocError> {
+    fn insert(&mut self, alloc: Global, string: &[u32], row: &[Element]) -> Result<(), AllocError> {
         self.insert(alloc, string, row)
     }
 
-    fn push_range(self, range: ImplicitRange) -> Result<Rows, AllocError> {
+    fn push_range(&mut self, range: ImplicitRange) -> Result<(), AllocError> {
         self.push_range(range)
     }
 }

@@ -1,7 +1,8 @@
 //! The rows and the implicit ranges of a table, as the lines of its file give them one by one.
-ghost use Rattle.std.specs.Prelude.{◌≡◌, [], ◌∷◌, ◌++◌, false, length, take, slice_get, None, Some, IfOk, IfSome, OnSome, option_copied, ◌<◌, ◌≤◌};
+ghost use Rattle.std.specs.Prelude.{◌≡◌, ℕ, List, [], ◌∷◌, ◌++◌, false, length, take, slice_get, None, Some, IfSome, OnOk, OnSome, option_copied, ◌<◌, ◌≤◌};
 ghost use Rattle.collation_table.specs.Table.{TableMap, BeginsNoLongerString, ContinuesNoString, GoesOnInNoString, row_of, row_with, is_mapped, longest_prefix, longest_mapped, most_elements};
-ghost use Rattle.collation_table.specs.Entries.{part};
+ghost use Rattle.collation_table.specs.Entries.{part, after};
+ghost use Rattle.collation_table.specs.Trie.{IsTrie, place_of};
 ghost use Rattle.collation_table.specs.WellFormed.{IsRowSound, breaks_ranges};
 
 use crate::elements::Element;
@@ -72,6 +73,63 @@ fn points_at(points: &[u32], place: Place) -> &[u32]
     ensures { result.now ≡ part points.now place }
 {
     &points[place.start..place.end]
+}
+
+/// Puts a list after the items of a vector. One item alone is not copied by a call: most strings and rows have one.
+fn append<T: Copy>(items: &mut Vec<T>, list: &[T]) -> Result<(), AllocError>
+    ensures { OnOk result (items.new.items ≡ items.old.items ++ list.now) }
+{
+    match list {
+        [item] => items.push(*item)?,
+        _ => items.extend_from_slice(list)?,
+    }
+    Ok(())
+}
+
+/// Puts a row after those in the vectors and into the index. Where memory is refused, it may be in some of them.
+fn store(
+    alloc: Global,
+    points: &mut Vec<u32>,
+    elements: &mut Vec<Element>,
+    places: &mut Vec<RowPlaces>,
+    trie: &mut Trie,
+    string: &[u32],
+    row: &[Element],
+) -> Result<(), AllocError>
+    requires trie { IsTrie trie.old }
+    requires some { 0 < length string.now }
+    ensures points { OnOk result (points.new.items ≡ points.old.items ++ string.now) }
+    ensures elements { OnOk result (elements.new.items ≡ elements.old.items ++ row.now) }
+    ensures places { OnOk result
+        (places.new.items
+        ≡ places.old.items
+        ++ (record {
+          string = after points.old.items string.now;
+          row = after elements.old.items row.now;
+        }) ∷ []) }
+    ensures trie { OnOk result (IsTrie trie.new) }
+    ensures here { OnOk result
+        (place_of trie.new string.now ≡ Some (after elements.old.items row.now)) }
+    ensures others { OnOk result ((q : List ℕ) → ((q ≡ string.now) → ⊥)
+        → place_of trie.new q ≡ place_of trie.old q) }
+{
+    let string_start = points.len();
+    append(points, string)?;
+    let row_start = elements.len();
+    append(elements, row)?;
+    let place = Place {
+        start: row_start,
+        end: elements.len(),
+    };
+    places.push(RowPlaces {
+        string: Place {
+            start: string_start,
+            end: points.len(),
+        },
+        row: place,
+    })?;
+    trie.insert(alloc, string, place)?;
+    Ok(())
 }
 
 impl Rows {
@@ -150,47 +208,38 @@ impl Rows {
         self.trie.continues_string(cp)
     }
 
-    /// The rows with one more after the others.
-    pub fn insert(self, alloc: Global, string: &[u32], row: &[Element]) -> Result<Rows, AllocError>
-        requires absent { is_mapped self string.now ≡ false }
+    /// Adds a row after the others. Where memory is refused, all rows and ranges are lost.
+    pub fn insert(
+        &mut self,
+        alloc: Global,
+        string: &[u32],
+        row: &[Element],
+    ) -> Result<(), AllocError>
+        requires absent { is_mapped self.old string.now ≡ false }
         requires sound { IsRowSound string.now row.now }
-        ensures { IfOk result
-            (λ rows. rows ≡ record self { rows = self.rows ++ (string.now, row.now) ∷ [] }) }
+        ensures { OnOk result
+            (self.new ≡ record self.old { rows = self.old.rows ++ (string.now, row.now) ∷ [] }) }
     {
-        let Rows {
-            mut points,
-            mut elements,
-            mut places,
-            mut trie,
-            ranges,
-            longest,
-            largest,
-        } = self;
-        let string_start = points.len();
-        points.extend_from_slice(string)?;
-        let row_start = elements.len();
-        elements.extend_from_slice(row)?;
-        let place = Place {
-            start: row_start,
-            end: elements.len(),
-        };
-        places.push(RowPlaces {
-            string: Place {
-                start: string_start,
-                end: points.len(),
-            },
-            row: place,
-        })?;
-        trie.insert(alloc, string, place)?;
-        Ok(Rows {
-            points,
-            elements,
-            places,
-            trie,
-            ranges,
-            longest: longest.max(string.len()),
-            largest: largest.max(row.len()),
-        })
+        let stored = store(
+            alloc,
+            &mut self.points,
+            &mut self.elements,
+            &mut self.places,
+            &mut self.trie,
+            string,
+            row,
+        );
+        match stored {
+            Ok(()) => {
+                self.longest = self.longest.max(string.len());
+                self.largest = self.largest.max(row.len());
+                Ok(())
+            }
+            Err(error) => {
+                *self = Rows::new(alloc);
+                Err(error)
+            }
+        }
     }
 
     /// The mapped string and the elements of a row, counted from 0.
@@ -242,29 +291,13 @@ impl Rows {
         ranges::breaks_ranges(self.ranges.as_slice(), range)
     }
 
-    /// The rows with one more range after the others.
-    pub fn push_range(self, range: ImplicitRange) -> Result<Rows, AllocError>
-        requires { breaks_ranges self.ranges range ≡ false }
-        ensures { IfOk result (λ rows. rows ≡ record self { ranges = self.ranges ++ range ∷ [] }) }
+    /// Adds a range after the others.
+    pub fn push_range(&mut self, range: ImplicitRange) -> Result<(), AllocError>
+        requires { breaks_ranges self.old.ranges range ≡ false }
+        ensures { OnOk result
+            (self.new ≡ record self.old { ranges = self.old.ranges ++ range ∷ [] }) }
     {
-        let Rows {
-            points,
-            elements,
-            places,
-            trie,
-            mut ranges,
-            longest,
-            largest,
-        } = self;
-        ranges.push(range)?;
-        Ok(Rows {
-            points,
-            elements,
-            places,
-            trie,
-            ranges,
-            longest,
-            largest,
-        })
+        self.ranges.push(range)?;
+        Ok(())
     }
 }

@@ -1,22 +1,55 @@
 //! Code points, weights, collation elements and mapped strings as a table file spells them (UTS #10, the form of allkeys.txt).
 
-ghost use Rattle.std.specs.Prelude.{◌≡◌, ◌^◌, ◌<◌, ◌≤◌, length, IfOk, IfSome, option_map};
+ghost use Rattle.std.specs.Prelude.{◌≡◌, ◌^◌, ◌<◌, ◌≤◌, [], ◌∷◌, length, drop, unwrap_or, IfOk, IfSome, IsTrue, option_map};
 ghost use Rattle.std.specs.List.{list_all};
-ghost use Rattle.collation_table.specs.Spelling.{is_blank, hex_digit, hex_after, code_point_of, weight_of, mark_of, weights_of, element_of, bracketed_of, some_of, elements_of, string_of};
+ghost use Rattle.collation_table.specs.Reading.{has_element_signs, element_at_front};
+ghost use Rattle.collation_table.specs.Spelling.{is_blank, trim_start, hex_digit, hex_after, code_point_of, weight_of, mark_of, only_if, some_of, elements_of, string_of};
 
 use crate::elements::Element;
-use crate::pieces::{cut, is_blank_byte, is_blank_only, strip_text, without_leading_blanks};
-use std::alloc::{AllocError, Global};
+use crate::pieces::{without_leading_blanks, word_len};
+use std::alloc::AllocError;
 
-/// The value of a digit `0` to `9` or `A` to `F`.
-fn digit_value(byte: u8) -> Option<u8>
-    ensures { result ≡ hex_digit byte }
+/// More than any number that four digits spell.
+const NO_DIGIT: u32 = 0x10000;
+
+/// The value of each byte that is a digit `0` to `9` or `A` to `F`, and `NO_DIGIT` for another.
+static DIGIT_VALUES: [u32; 256] = [
+    NO_DIGIT, NO_DIGIT, NO_DIGIT, NO_DIGIT, NO_DIGIT, NO_DIGIT, NO_DIGIT, NO_DIGIT, NO_DIGIT,
+    NO_DIGIT, NO_DIGIT, NO_DIGIT, NO_DIGIT, NO_DIGIT, NO_DIGIT, NO_DIGIT, NO_DIGIT, NO_DIGIT,
+    NO_DIGIT, NO_DIGIT, NO_DIGIT, NO_DIGIT, NO_DIGIT, NO_DIGIT, NO_DIGIT, NO_DIGIT, NO_DIGIT,
+    NO_DIGIT, NO_DIGIT, NO_DIGIT, NO_DIGIT, NO_DIGIT, NO_DIGIT, NO_DIGIT, NO_DIGIT, NO_DIGIT,
+    NO_DIGIT, NO_DIGIT, NO_DIGIT, NO_DIGIT, NO_DIGIT, NO_DIGIT, NO_DIGIT, NO_DIGIT, NO_DIGIT,
+    NO_DIGIT, NO_DIGIT, NO_DIGIT, 0, 1, 2, 3, 4, 5, 6, 7, 8, 9, NO_DIGIT, NO_DIGIT, NO_DIGIT,
+    NO_DIGIT, NO_DIGIT, NO_DIGIT, NO_DIGIT, 10, 11, 12, 13, 14, 15, NO_DIGIT, NO_DIGIT, NO_DIGIT,
+    NO_DIGIT, NO_DIGIT, NO_DIGIT, NO_DIGIT, NO_DIGIT, NO_DIGIT, NO_DIGIT, NO_DIGIT, NO_DIGIT,
+    NO_DIGIT, NO_DIGIT, NO_DIGIT, NO_DIGIT, NO_DIGIT, NO_DIGIT, NO_DIGIT, NO_DIGIT, NO_DIGIT,
+    NO_DIGIT, NO_DIGIT, NO_DIGIT, NO_DIGIT, NO_DIGIT, NO_DIGIT, NO_DIGIT, NO_DIGIT, NO_DIGIT,
+    NO_DIGIT, NO_DIGIT, NO_DIGIT, NO_DIGIT, NO_DIGIT, NO_DIGIT, NO_DIGIT, NO_DIGIT, NO_DIGIT,
+    NO_DIGIT, NO_DIGIT, NO_DIGIT, NO_DIGIT, NO_DIGIT, NO_DIGIT, NO_DIGIT, NO_DIGIT, NO_DIGIT,
+    NO_DIGIT, NO_DIGIT, NO_DIGIT, NO_DIGIT, NO_DIGIT, NO_DIGIT, NO_DIGIT, NO_DIGIT, NO_DIGIT,
+    NO_DIGIT, NO_DIGIT, NO_DIGIT, NO_DIGIT, NO_DIGIT, NO_DIGIT, NO_DIGIT, NO_DIGIT, NO_DIGIT,
+    NO_DIGIT, NO_DIGIT, NO_DIGIT, NO_DIGIT, NO_DIGIT, NO_DIGIT, NO_DIGIT, NO_DIGIT, NO_DIGIT,
+    NO_DIGIT, NO_DIGIT, NO_DIGIT, NO_DIGIT, NO_DIGIT, NO_DIGIT, NO_DIGIT, NO_DIGIT, NO_DIGIT,
+    NO_DIGIT, NO_DIGIT, NO_DIGIT, NO_DIGIT, NO_DIGIT, NO_DIGIT, NO_DIGIT, NO_DIGIT, NO_DIGIT,
+    NO_DIGIT, NO_DIGIT, NO_DIGIT, NO_DIGIT, NO_DIGIT, NO_DIGIT, NO_DIGIT, NO_DIGIT, NO_DIGIT,
+    NO_DIGIT, NO_DIGIT, NO_DIGIT, NO_DIGIT, NO_DIGIT, NO_DIGIT, NO_DIGIT, NO_DIGIT, NO_DIGIT,
+    NO_DIGIT, NO_DIGIT, NO_DIGIT, NO_DIGIT, NO_DIGIT, NO_DIGIT, NO_DIGIT, NO_DIGIT, NO_DIGIT,
+    NO_DIGIT, NO_DIGIT, NO_DIGIT, NO_DIGIT, NO_DIGIT, NO_DIGIT, NO_DIGIT, NO_DIGIT, NO_DIGIT,
+    NO_DIGIT, NO_DIGIT, NO_DIGIT, NO_DIGIT, NO_DIGIT, NO_DIGIT, NO_DIGIT, NO_DIGIT, NO_DIGIT,
+    NO_DIGIT, NO_DIGIT, NO_DIGIT, NO_DIGIT, NO_DIGIT, NO_DIGIT, NO_DIGIT, NO_DIGIT, NO_DIGIT,
+    NO_DIGIT, NO_DIGIT, NO_DIGIT, NO_DIGIT, NO_DIGIT, NO_DIGIT, NO_DIGIT, NO_DIGIT, NO_DIGIT,
+    NO_DIGIT, NO_DIGIT, NO_DIGIT, NO_DIGIT, NO_DIGIT, NO_DIGIT, NO_DIGIT, NO_DIGIT, NO_DIGIT,
+    NO_DIGIT, NO_DIGIT, NO_DIGIT, NO_DIGIT, NO_DIGIT, NO_DIGIT, NO_DIGIT, NO_DIGIT, NO_DIGIT,
+    NO_DIGIT, NO_DIGIT, NO_DIGIT, NO_DIGIT, NO_DIGIT, NO_DIGIT, NO_DIGIT, NO_DIGIT, NO_DIGIT,
+    NO_DIGIT, NO_DIGIT,
+];
+
+/// The value of a digit, and `NO_DIGIT` for another byte.
+fn digit_or_more(byte: u8) -> u32
+    ensures value { result ≡ unwrap_or (hex_digit byte) 65536 }
+    ensures within { result ≤ 65536 }
 {
-    match byte {
-        b'0'..=b'9' => Some(byte - b'0'),
-        b'A'..=b'F' => Some(byte - b'A' + 10),
-        _ => None,
-    }
+    DIGIT_VALUES[usize::from(byte)]
 }
 
 /// The number that at most six digits spell.
@@ -26,20 +59,38 @@ fn number(digits: &[u8]) -> Option<u32>
     ensures bound { IfSome result (λ number. number < 16 ^ length digits.now) }
 {
     let mut number = 0;
-    for digit in digits {
-        number = number * 16 + u32::from(digit_value(*digit)?);
+    for byte in digits {
+        let digit = digit_or_more(*byte);
+        if digit == NO_DIGIT {
+            return None;
+        }
+        number = number * 16 + digit;
     }
     Some(number)
 }
 
 /// The code point that four to six digits spell; it may be above 10FFFF.
 pub(crate) fn code_point(digits: &[u8]) -> Option<u32>
-    ensures { result ≡ code_point_of digits.now }
+    ensures value { result ≡ code_point_of digits.now }
+    ensures long { IfSome result (λ _. 4 ≤ length digits.now) }
 {
     if digits.len() < 4 || digits.len() > 6 {
         return None;
     }
     number(digits)
+}
+
+/// The number that four digits spell. A byte that is no digit makes it too great, so one test is enough.
+fn four_digits(a: u8, b: u8, c: u8, d: u8) -> Option<u16>
+    ensures { result ≡ hex_after 0 (a ∷ b ∷ c ∷ d ∷ []) }
+{
+    let high = digit_or_more(a) * 4096 + digit_or_more(b) * 256;
+    let number = high + digit_or_more(c) * 16 + digit_or_more(d);
+    if number < NO_DIGIT {
+        Some(number as u16)
+    } else {
+        None
+    }
 }
 
 /// The weight that exactly four digits spell.
@@ -49,8 +100,7 @@ pub(crate) fn weight(digits: &[u8]) -> Option<u16>
     if digits.len() != 4 {
         return None;
     }
-    let weight = number(digits)?;
-    Some(weight as u16)
+    four_digits(digits[0], digits[1], digits[2], digits[3])
 }
 
 /// Whether a mark says that the element is variable: `*` does, `.` does not, and no other byte is a mark.
@@ -64,16 +114,27 @@ fn is_variable_mark(mark: u8) -> Option<bool>
     }
 }
 
-/// The element of three weights with `.` between them.
-#[tactic(auto, unfolding(crate::specs::Spelling::weights_of))]
-fn weights(is_variable: bool, text: &[u8]) -> Option<Element>
-    ensures { result ≡ weights_of is_variable text.now }
+/// Whether `text` has the signs of an element at their places: `[`, `.` before the second and the third weight, `]`.
+fn has_element_signs(text: &[u8]) -> bool
+    ensures value { result ≡ has_element_signs text.now }
+    ensures within { IsTrue result → 17 ≤ length text.now }
 {
-    let (first, rest) = cut(text, b'.')?;
-    let (second, third) = cut(rest, b'.')?;
-    let w1 = weight(first)?;
-    let w2 = weight(second)?;
-    let w3 = weight(third)?;
+    text.len() >= 17 && text[0] == b'[' && text[6] == b'.' && text[11] == b'.' && text[16] == b']'
+}
+
+/// The element that `text` begins with: 17 bytes with its brackets.
+#[tactic(auto, unfolding(crate::specs::Reading::element_at_front))]
+fn element_at_front(text: &[u8]) -> Option<Element>
+    ensures value { result ≡ element_at_front text.now }
+    ensures within { IfSome result (λ _. 17 ≤ length text.now) }
+{
+    if !has_element_signs(text) {
+        return None;
+    }
+    let is_variable = is_variable_mark(text[1])?;
+    let w1 = weight(&text[2..6])?;
+    let w2 = weight(&text[7..11])?;
+    let w3 = weight(&text[12..16])?;
     Some(Element {
         is_variable,
         w1,
@@ -82,66 +143,54 @@ fn weights(is_variable: bool, text: &[u8]) -> Option<Element>
     })
 }
 
-/// What stands between the brackets of an element: a mark and three weights.
-fn marked_weights(inside: &[u8]) -> Option<Element>
-    ensures { result ≡ element_of inside.now }
+/// What stands behind the first `len` bytes and the blanks that follow them.
+fn without_front(text: &[u8], len: usize) -> &[u8]
+    requires { len ≤ length text.now }
+    ensures { result.now ≡ trim_start (drop len text.now) }
 {
-    let (mark, text) = inside.split_first()?;
-    weights(is_variable_mark(*mark)?, text)
+    without_leading_blanks(&text[len..])
 }
 
-/// The element of which `text` has all but the `]`; blanks may stand before it.
-#[tactic(auto, unfolding(crate::specs::Spelling::bracketed_of))]
-fn bracketed(text: &[u8]) -> Option<Element>
-    ensures { result ≡ bracketed_of text.now }
+/// Whether something is in the list.
+fn is_filled<T>(list: &Vec<T>) -> bool
+    ensures value { only_if result list.now.items ≡ some_of list.now.items }
+    ensures some { IsTrue result → 0 < length list.now.items }
 {
-    marked_weights(strip_text(without_leading_blanks(text), b"[")?)
+    !list.is_empty()
 }
 
-/// The list, if something is in it.
-fn non_empty<T: Drop>(list: Vec<T>) -> Option<Vec<T>>
-    ensures value { option_map (λ list. list.items) result ≡ some_of list.items }
-    ensures some { IfSome result (λ list. 0 < length list.items) }
+/// Puts the elements that `text` spells into `elements`: one or more, with or without blanks between them. `false` where it spells
+/// none.
+pub(crate) fn read_elements(elements: &mut Vec<Element>, text: &[u8]) -> Result<bool, AllocError>
+    ensures value { IfOk result (λ found. only_if found elements.new.items ≡ elements_of text.now) }
+    ensures some { IfOk result (λ found. IsTrue found → 0 < length elements.new.items) }
 {
-    if list.is_empty() { None } else { Some(list) }
-}
-
-/// The elements that `text` spells, one or more with or without blanks between them, or `None`.
-pub(crate) fn elements(alloc: Global, text: &[u8]) -> Result<Option<Vec<Element>>, AllocError>
-    ensures value { IfOk result
-        (λ found. option_map (λ elements. elements.items) found ≡ elements_of text.now) }
-    ensures some { IfOk result (λ found. IfSome found (λ elements. 0 < length elements.items)) }
-{
-    let mut elements = Vec::new(alloc);
-    let mut rest = text;
-    while let Some((part, following)) = cut(rest, b']') {
-        let Some(element) = bracketed(part) else {
-            return Ok(None);
+    elements.clear();
+    let mut rest = without_leading_blanks(text);
+    while !rest.is_empty() {
+        let Some(element) = element_at_front(rest) else {
+            return Ok(false);
         };
         elements.push(element)?;
-        rest = following;
+        rest = without_front(rest, 17);
     }
-    if !is_blank_only(rest) {
-        return Ok(None);
-    }
-    Ok(non_empty(elements))
+    Ok(is_filled(elements))
 }
 
-/// The code points that `text` spells, one or more with blanks between them, or `None`.
-pub(crate) fn string(alloc: Global, text: &[u8]) -> Result<Option<Vec<u32>>, AllocError>
-    ensures value { IfOk result
-        (λ found. option_map (λ string. string.items) found ≡ string_of text.now) }
-    ensures some { IfOk result (λ found. IfSome found (λ string. 0 < length string.items)) }
+/// Puts the code points that `text` spells into `string`: one or more, with blanks between them. `false` where it spells none.
+pub(crate) fn read_string(string: &mut Vec<u32>, text: &[u8]) -> Result<bool, AllocError>
+    ensures value { IfOk result (λ found. only_if found string.new.items ≡ string_of text.now) }
+    ensures some { IfOk result (λ found. IsTrue found → 0 < length string.new.items) }
 {
-    let mut string = Vec::new(alloc);
-    for word in text.split(|byte| is_blank_byte(*byte)) {
-        if word.is_empty() {
-            continue;
-        }
-        let Some(point) = code_point(word) else {
-            return Ok(None);
+    string.clear();
+    let mut rest = without_leading_blanks(text);
+    while !rest.is_empty() {
+        let len = word_len(rest);
+        let Some(point) = code_point(&rest[..len]) else {
+            return Ok(false);
         };
         string.push(point)?;
+        rest = without_front(rest, len);
     }
-    Ok(non_empty(string))
+    Ok(is_filled(string))
 }

@@ -5,7 +5,7 @@
 //! logarithm of the number of steps is why the trie has this form; the time of a look-up is measured, and no clause speaks of it.
 ghost use Rattle.std.specs.Prelude.{◌≡◌, ℕ, ◌<◌, ◌≤◌, List, [], ◌∷◌, ◌++◌, false, length, is_some, None, Some, OnOk, IfOk, OnSome, IfSome};
 ghost use Rattle.collation_table.specs.Table.{TableMap, is_mapped, longest_prefix};
-ghost use Rattle.collation_table.specs.Trie.{at, place_of, seek, continues, Leads, IsTrie, IsMarked, IsSet};
+ghost use Rattle.collation_table.specs.Trie.{at, step_key, place_of, seek, continues, Leads, IsTrie, IsMarked, IsSet};
 
 use crate::pages::{Entry, NO_ENTRY, PageEntry, Pages, Place};
 use std::alloc::{AllocError, Global};
@@ -15,8 +15,15 @@ use std::collections::BTreeMap;
 #[derive(Drop)]
 pub(crate) struct Trie {
     pages: Pages,
-    steps: BTreeMap<(u32, u32), Entry>,
+    steps: BTreeMap<u64, Entry>,
     nodes: u32,
+}
+
+/// A node and a code point as one number, so that a look at a step compares one number with another.
+fn step_key(node: u32, cp: u32) -> u64
+    ensures { result ≡ step_key node cp }
+{
+    u64::from(node) * (1 << 32) + u64::from(cp)
 }
 
 impl Trie {
@@ -44,7 +51,7 @@ impl Trie {
         if !page_entry.continues {
             return NO_ENTRY;
         }
-        match self.steps.get(&(node, cp)) {
+        match self.steps.get(&step_key(node, cp)) {
             Some(entry) => *entry,
             None => NO_ENTRY,
         }
@@ -83,7 +90,7 @@ impl Trie {
                 continues: true,
             },
         )?;
-        self.steps.insert((node, cp), entry)?;
+        self.steps.insert(step_key(node, cp), entry)?;
         Ok(())
     }
 
@@ -156,6 +163,38 @@ impl Trie {
         Ok(node)
     }
 
+    /// Sets the place to which a code point leads after a node.
+    fn set_place(
+        &mut self,
+        alloc: Global,
+        node: u32,
+        cp: u32,
+        place: Place,
+    ) -> Result<(), AllocError>
+        requires { IsMarked self.old }
+        ensures set { OnOk result
+            (IsSet (at self.old) (at self.new) node cp
+            (record (at self.old node cp) { place = Some place })) }
+        ensures marked { OnOk result (IsMarked self.new) }
+        ensures nodes { OnOk result (self.new.nodes ≡ self.old.nodes) }
+    {
+        if node == 0 {
+            self.pages.set_place(alloc, cp, place)?;
+            return Ok(());
+        }
+        let entry = self.step(node, cp);
+        self.set_step(
+            alloc,
+            node,
+            cp,
+            Entry {
+                place: Some(place),
+                node: entry.node,
+            },
+        )?;
+        Ok(())
+    }
+
     /// Puts a mapped string at a place.
     pub fn insert(&mut self, alloc: Global, string: &[u32], place: Place) -> Result<(), AllocError>
         requires trie { IsTrie self.old }
@@ -167,16 +206,7 @@ impl Trie {
     {
         let last = string.len() - 1;
         let node = self.follow_all(alloc, &string[..last])?;
-        let entry = self.step(node, string[last]);
-        self.set_step(
-            alloc,
-            node,
-            string[last],
-            Entry {
-                place: Some(place),
-                node: entry.node,
-            },
-        )?;
+        self.set_place(alloc, node, string[last], place)?;
         Ok(())
     }
 

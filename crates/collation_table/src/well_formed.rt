@@ -3,7 +3,7 @@
 ghost use Rattle.std.specs.Prelude.{◌≡◌, fold};
 ghost use Rattle.std.specs.List.{list_any};
 ghost use Rattle.collation_table.specs.WellFormed.{breaks_wf1, breaks_wf3, breaks_pair_rule};
-ghost use Rattle.collation_table.specs.Bounds.{higher_second, higher_third, wider_span, is_too_light, is_within_span};
+ghost use Rattle.collation_table.specs.Bounds.{higher_second, higher_third, wider_span, is_too_light, is_within_span, is_unusual};
 
 use crate::elements::Element;
 
@@ -39,6 +39,13 @@ pub fn breaks_pair_rule(row: &[Element]) -> bool
         after_lead = element.is_lead();
     }
     after_lead
+}
+
+/// Whether an element of a row is unusual. Where none is, the row breaks none of the conditions on a row.
+pub(crate) fn any_unusual(row: &[Element]) -> bool
+    ensures { result ≡ list_any is_unusual row.now }
+{
+    row.iter().any(|element| element.is_unusual())
 }
 
 /// The greatest second weight of the primary elements of a row, or `most` if that is greater.

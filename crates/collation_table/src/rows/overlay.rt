@@ -23,6 +23,9 @@ impl Rows {
     pub fn shares_string(&self, other: &Rows) -> bool
         ensures { result ≡ list_any (λ row. is_mapped other.now row.0) self.now.rows }
     {
+        if other.row_count() == 0 {
+            return false;
+        }
         for number in 0..self.row_count() {
             let (string, _) = self.row_at(number);
             if other.maps(string) {
@@ -44,7 +47,7 @@ impl Rows {
         for number in 0..self.row_count() {
             let (string, row) = self.row_at(number);
             if !tailor.maps(string) {
-                kept = kept.insert(alloc, string, row)?;
+                kept.insert(alloc, string, row)?;
             }
         }
         Ok(kept)
@@ -58,7 +61,7 @@ impl Rows {
         let mut rows = self;
         for number in 0..tailor.row_count() {
             let (string, row) = tailor.row_at(number);
-            rows = rows.insert(alloc, string, row)?;
+            rows.insert(alloc, string, row)?;
         }
         Ok(rows)
     }

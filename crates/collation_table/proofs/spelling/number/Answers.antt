@@ -10,10 +10,10 @@ five_digits n i len below here short =
 
 pub overflow_mul-number : goal.overflow_mul-number
 overflow_mul-number c =
-    let below : c.loop-digit.number < 1048576 = five_digits _ _ _ c.loop-digit.invariant.bound (omega arith) c.requires in
+    let below : c.loop-byte.number < 1048576 = five_digits _ _ _ c.loop-byte.invariant.bound (omega arith) c.requires in
     omega arith
 
 pub overflow_add-number : goal.overflow_add-number
 overflow_add-number c =
-    let below : c.loop-digit.number < 1048576 = five_digits _ _ _ c.loop-digit.invariant.bound (omega arith) c.requires in
+    let below : c.loop-byte.number < 1048576 = five_digits _ _ _ c.loop-byte.invariant.bound (omega arith) c.requires in
     omega arith

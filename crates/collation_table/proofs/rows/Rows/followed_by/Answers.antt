@@ -12,6 +12,6 @@ insert-requires-clause-absent c =
 pub loop-number-preserved : goal.loop-number-preserved
 loop-number-preserved c =
     let row : List ℕ × List Element = (c.row_at.result.0.now, c.row_at.result.1.now) in
-    ap (λ (T : TableMap). T.rows) c.in_ok-rows.ensures ∙ ap (λ rows. rows ++ row ∷ []) c.loop-number.invariant
+    ap (λ (T : TableMap). T.rows) c.in_ok-insert.ensures ∙ ap (λ rows. rows ++ row ∷ []) c.loop-number.invariant
     ∙ append_assoc c.args.self.rows (take c.loop-number.number c.args.tailor.now.rows) (row ∷ [])
     ∙ ap (λ rows. c.args.self.rows ++ rows) (sym (take-at c.args.tailor.now.rows c.loop-number.number row c.row_at.ensures.value))

@@ -1,7 +1,10 @@
 use Rattle.collation_table.specs.Table.{is_mapped}
 use Rattle.std.proofs.Common.{◌∙◌, sym}
-use Rattle.collation_table.proofs.OverlayLemmas.{any-after, any-here}
+use Rattle.collation_table.proofs.OverlayLemmas.{any-after, any-here, none_mapped}
 use Rattle.collation_table.proofs.rows.Rows.shares_string.Goals as goal
+
+pub returns-then-row_count-eq0 : goal.returns-then-row_count-eq0
+returns-then-row_count-eq0 c = sym (none_mapped c.args.other.now (sym c.row_count.ensures ∙ c.if-row_count-eq0.true) c.args.self.now.rows)
 
 pub returns-then-maps : goal.returns-then-maps
 returns-then-maps c =

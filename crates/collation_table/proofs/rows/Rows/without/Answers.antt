@@ -4,7 +4,7 @@ use Rattle.collation_table.specs.declared.elements.Element.{Element}
 use Rattle.collation_table.specs.Table.{TableMap, row_with, is_mapped}
 use Rattle.collation_table.proofs.OverlayLemmas.{filter-whole, filter-at, filter-past, absent-kept}
 use Rattle.collation_table.proofs.rows.Rows.without.Goals as goal
-use Rattle.collation_table.proofs.rows.Rows.without.Goals.{then-not-maps+in_ok-kept, else-not-maps}
+use Rattle.collation_table.proofs.rows.Rows.without.Goals.{then-not-maps+in_ok-insert, else-not-maps}
 
 pub returns-then-not-shares_string : goal.returns-then-not-shares_string
 returns-then-not-shares_string c = sym (filter-whole (λ row. is_mapped c.args.tailor.now row.0) c.args.self.rows (sym c.shares_string.ensures ∙ c.if-not-shares_string.true))
@@ -17,9 +17,9 @@ insert-requires-clause-absent c =
 
 pub loop-number-preserved : goal.loop-number-preserved
 loop-number-preserved c = elim c.if-not-maps.branch [
-  | then-not-maps+in_ok-kept w ↦
+  | then-not-maps+in_ok-insert w ↦
       let row : List ℕ × List Element = (c.row_at.result.0.now, c.row_at.result.1.now) in
-      ap (λ (T : TableMap). T.rows) (w.kept-is ∙ w.in_ok-kept.ensures) ∙ ap (λ rows. rows ++ row ∷ []) c.loop-number.invariant
+      ap (λ (T : TableMap). T.rows) (w.kept-is ∙ w.in_ok-insert.ensures) ∙ ap (λ rows. rows ++ row ∷ []) c.loop-number.invariant
       ∙ sym (filter-at (λ r. not (is_mapped c.args.tailor.now r.0)) c.args.self.rows c.loop-number.number row c.row_at.ensures.value (ap not (sym c.maps.ensures ∙ w.if-not-maps.true)))
   | else-not-maps w ↦
       let row : List ℕ × List Element = (c.row_at.result.0.now, c.row_at.result.1.now) in

@@ -1,6 +1,6 @@
 use Rattle.std.proofs.Common.{◌≡◌, ◌∙◌, ◌<◌, ◌≤◌, ◌/◌, ◌%◌, sym, ap, subst, arith, length, Vec, length-set}
 use Rattle.collation_table.proofs.PageLemmas.{get_or_get, get_set, some_same, page_entry-filled}
-use Rattle.collation_table.proofs.pages.Pages.make_room.Goals as goal
+use Rattle.collation_table.proofs.pages.Pages.add_page.Goals as goal
 
 pub returns-in_ok-resize-clause-same : goal.returns-in_ok-resize-clause-same
 returns-in_ok-resize-clause-same c = λ q.
