@@ -3,7 +3,6 @@ pub mod Windows
 pub mod Decided
 pub mod Elements
 pub mod UnitValues
-pub mod UnitElements
 pub mod Keys
 pub mod Items
 pub mod ItemParts

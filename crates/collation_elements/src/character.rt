@@ -9,9 +9,12 @@ ghost use Rattle.collation_elements.specs.Units.{units};
 ghost use Rattle.collation_elements.specs.Items.{items};
 ghost use Rattle.collation_elements.specs.ItemParts.{item_keys};
 ghost use Rattle.collation_elements.specs.CharacterItems.{AreItemsOfPoints, BeginsOnce, character_items};
-ghost use Rattle.collation_elements.specs.Weighing.{weigher, after_units};
+ghost use Rattle.collation_elements.specs.ShortItems.{listed};
+ghost use Rattle.collation_elements.specs.Weighing.{weigher, after_units, value_items, weigher_after};
 
 use crate::keys::{Item, Key};
+use crate::short::ShortItems;
+use crate::unit::Unit;
 use crate::weigher::{MOST_ITEMS, Weigher};
 use crate::window::Window;
 use arrayvec::ArrayVec;
@@ -139,12 +142,71 @@ fn gather<W: Weights>(
         (units (W.table table.now) window.old.points))) }
 {
     let mut gathered = ArrayVec::new();
-    let mut of_unit = ArrayVec::<Item, MOST_ITEMS>::new();
     while let Some(unit) = window.next_unit(table) {
-        weigher.take(&unit, &mut of_unit);
-        if let Err(_full) = gathered.try_extend_from_slice(of_unit.as_slice()) {
+        if !add_unit(&unit, weigher, &mut gathered) {
             return None;
         }
     }
     Some(gathered)
+}
+
+/// Adds the items of the next unit, and says whether there was room for them.
+#[inline(always)]
+fn add_unit(
+    unit: &Unit,
+    weigher: &mut Weigher,
+    gathered: &mut ArrayVec<Item, MOST_CHARACTER_ITEMS>,
+) -> bool
+    ensures items { result ≡ true
+        → gathered.new.items ≡ gathered.old.items ++ value_items weigher.old unit.now }
+    ensures after { weigher.new ≡ weigher_after weigher.old unit.now }
+    ensures full { result ≡ false → MOST_CHARACTER_ITEMS
+        < length (gathered.old.items ++ value_items weigher.old unit.now) }
+{
+    match weigher.take_short(unit) {
+        Some(short) => add_short(short, gathered),
+        None => add_long(unit, weigher, gathered),
+    }
+}
+
+/// Adds the items of a unit that has one key at most, and says whether there was room for them.
+#[inline(always)]
+fn add_short(short: ShortItems, gathered: &mut ArrayVec<Item, MOST_CHARACTER_ITEMS>) -> bool
+    ensures items { result ≡ true
+        → gathered.new.items ≡ gathered.old.items ++ listed short }
+    ensures full { result ≡ false → MOST_CHARACTER_ITEMS
+        < length (gathered.old.items ++ listed short) }
+{
+    if let Some(start) = short.start {
+        if gathered.is_full() {
+            return false;
+        }
+        gathered.push(Item::ClusterStart(start));
+    }
+    if let Some(key) = short.key {
+        if gathered.is_full() {
+            return false;
+        }
+        gathered.push(Item::Element(key));
+    }
+    true
+}
+
+/// Adds the items of the next unit, which may have many keys, and says whether there was room for them. It is kept apart, as few
+/// units are long, and the room for the longest is cleared.
+#[inline(never)]
+fn add_long(
+    unit: &Unit,
+    weigher: &mut Weigher,
+    gathered: &mut ArrayVec<Item, MOST_CHARACTER_ITEMS>,
+) -> bool
+    ensures items { result ≡ true
+        → gathered.new.items ≡ gathered.old.items ++ value_items weigher.old unit.now }
+    ensures after { weigher.new ≡ weigher_after weigher.old unit.now }
+    ensures full { result ≡ false → MOST_CHARACTER_ITEMS
+        < length (gathered.old.items ++ value_items weigher.old unit.now) }
+{
+    let mut of_unit = ArrayVec::<Item, MOST_ITEMS>::new();
+    weigher.take(unit, &mut of_unit);
+    gathered.try_extend_from_slice(of_unit.as_slice()).is_ok()
 }

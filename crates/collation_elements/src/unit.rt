@@ -6,37 +6,40 @@ use collation_table::{Element, MOST_ROW_ELEMENTS, Weights};
 use nfd_points::Point;
 use std::marker::Model;
 
-/// Where the elements of a unit are.
-#[derive(Drop)]
-enum Elements<'t> {
-    /// The row of a table.
-    Row(&'t [Element]),
-    /// The implicit pair of a point that has no row.
-    Implicit([Element; 2]),
-}
+/// What stands in the place of an implicit pair that is not asked for.
+const NO_ELEMENT: Element = Element {
+    is_variable: false,
+    w1: 0,
+    w2: 0,
+    w3: 0,
+};
+
+const NO_PAIR: [Element; 2] = [NO_ELEMENT, NO_ELEMENT];
 
 /// The points that one collation element mapping takes (UTS #10, S2.1), seen as the first of them and the elements.
 #[derive(Drop)]
 pub struct Unit<'t> {
     first_point: Point,
-    elements: Elements<'t>,
+    /// The row of the table, if it has one. It lies beside the pair, and not in one place with it: so neither is put together from parts
+    /// in memory.
+    row: Option<&'t [Element]>,
+    /// The implicit pair of a point that has no row.
+    pair: [Element; 2],
 }
 
 impl<'t> Model for Unit<'t> {
-    ghost use Rattle.std.specs.Prelude.{◌≤◌, length};
+    ghost use Rattle.std.specs.Prelude.{◌≤◌, length, option_copied, unwrap_or};
     ghost use Rattle.collation_table.specs.declared.limits.TheConstants.{MOST_ROW_ELEMENTS};
     ghost use Rattle.collation_elements.specs.UnitValues.{UnitValue};
 
     ghost Value = { UnitValue };
 
-    ghost use Rattle.collation_elements.specs.UnitElements.{elements_held};
-
     ghost view = { λ u. record {
       first_point = u.first_point;
-      elements = elements_held u.elements;
+      elements = unwrap_or (option_copied u.row) u.pair;
     } };
 
-    ghost invariant = { λ u. length (elements_held u.elements) ≤ MOST_ROW_ELEMENTS };
+    ghost invariant = { λ u. length (unwrap_or (option_copied u.row) u.pair) ≤ MOST_ROW_ELEMENTS };
 }
 
 impl<'t> Unit<'t> {
@@ -48,13 +51,15 @@ impl<'t> Unit<'t> {
         ensures elements { let pair = implicit_pair (W.table table.now) first_point.cp in
             result.elements ≡ unwrap_or (row_of (W.table table.now) string.now) pair }
     {
-        let elements = match table.row(string) {
-            Some(row) => Elements::Row(row),
-            None => Elements::Implicit(table.implicit(first_point.cp)),
+        let row = table.row(string);
+        let pair = match row {
+            Some(_) => NO_PAIR,
+            None => table.implicit(first_point.cp),
         };
         Unit {
             first_point,
-            elements,
+            row,
+            pair,
         }
     }
 
@@ -67,13 +72,14 @@ impl<'t> Unit<'t> {
         ensures elements { let pair = implicit_pair (W.table table.now) point.cp in
             result.elements ≡ unwrap_or (row_of (W.table table.now) (point.cp ∷ [])) pair }
     {
-        let elements = match row {
-            Some(row) => Elements::Row(row),
-            None => Elements::Implicit(table.implicit(point.cp)),
+        let pair = match row {
+            Some(_) => NO_PAIR,
+            None => table.implicit(point.cp),
         };
         Unit {
             first_point: point,
-            elements,
+            row,
+            pair,
         }
     }
 
@@ -91,10 +97,10 @@ impl<'t> Unit<'t> {
         ensures element { IfSome result (λ e. self.now.elements ≡ e ∷ []) }
         ensures none { IfNone result (length self.now.elements ≢ 1) }
     {
-        match &self.elements {
-            Elements::Row([e]) => Some(*e),
-            Elements::Row(_) => None,
-            Elements::Implicit(pair) => none_of_two(pair),
+        match self.row {
+            Some([e]) => Some(*e),
+            Some(_) => None,
+            None => none_of_two(&self.pair),
         }
     }
 
@@ -103,9 +109,9 @@ impl<'t> Unit<'t> {
     pub(crate) fn pair(&self) -> Option<[Element; 2]>
         ensures { IfSome result (λ pair. self.now.elements ≡ pair) }
     {
-        match &self.elements {
-            Elements::Row(_) => None,
-            Elements::Implicit(pair) => Some(*pair),
+        match self.row {
+            Some(_) => None,
+            None => Some(self.pair),
         }
     }
 
@@ -116,9 +122,9 @@ impl<'t> Unit<'t> {
         ensures value { result.now ≡ self.now.elements }
         ensures few { length result.now ≤ MOST_ROW_ELEMENTS }
     {
-        match &self.elements {
-            Elements::Row(row) => row,
-            Elements::Implicit(pair) => pair,
+        match self.row {
+            Some(row) => row,
+            None => &self.pair,
         }
     }
 }

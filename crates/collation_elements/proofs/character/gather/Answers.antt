@@ -9,13 +9,13 @@ loop-unit-preserved g c =
     let T = g.W.Weights.table c.args.table.now in
     let inv = c.loop-unit.invariant in
     let w0 = c.loop-unit.weigher in
-    let w1 = c.take.new.self in
+    let w1 = c.add_unit.new.weigher in
     let ps = c.loop-unit.window.points in
     let some : 0 < length ps = omega (arith, c.in-Some.ensures.fewer) in
     let left = ap (λ w. w.points) c.in-Some.ensures.rest in
     let given : List Item = c.loop-unit.gathered.items in
     let more : List Item = value_items w0 c.in-Some.unit in
-    let added : c.try_extend_from_slice.new.self.items ≡ given ++ more = c.in_default-try_extend_from_slice.ensures.ok ∙ ap (λ xs. given ++ xs) (c.as_slice.ensures.value ∙ c.take.ensures.items) in
+    let added : c.add_unit.new.gathered.items ≡ given ++ more = c.add_unit.ensures.items c.if-not-add_unit.false in
     let rest : List Item = items_by T w1 c.next_unit.new.self.points in
     record {
       capacity = ap (λ w. w.capacity) c.in-Some.ensures.rest ∙ inv.capacity;
@@ -23,7 +23,7 @@ loop-unit-preserved g c =
       items =
           ap (λ xs. xs ++ rest) added
           ∙ append_assoc given more rest
-          ∙ ap (λ xs. given ++ xs) (sym (items_by-cut T w0 w1 ps c.next_unit.new.self.points c.in-Some.unit some c.in-Some.ensures.unit left c.take.ensures.after))
+          ∙ ap (λ xs. given ++ xs) (sym (items_by-cut T w0 w1 ps c.next_unit.new.self.points c.in-Some.unit some c.in-Some.ensures.unit left c.add_unit.ensures.after))
           ∙ inv.items;
-      after = sym (after_by-cut T w0 w1 ps c.next_unit.new.self.points c.in-Some.unit some c.in-Some.ensures.unit left c.take.ensures.after) ∙ inv.after;
+      after = sym (after_by-cut T w0 w1 ps c.next_unit.new.self.points c.in-Some.unit some c.in-Some.ensures.unit left c.add_unit.ensures.after) ∙ inv.after;
     }
