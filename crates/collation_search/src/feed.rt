@@ -119,17 +119,33 @@ impl<'a, W: Weights> Search<'a, W> {
             × Feeds self.old piece.now result found self.new }
         ensures callable { F.IsAlwaysCallable sink.new }
     {
+        let mut found = Found::new();
+        self.feed_with(piece, &mut found, sink)
+    }
+
+    /// The same with room for ranges that is given: a new one costs as much as some characters.
+    pub(crate) fn feed_with<F: FnMut(u64, u64)>(
+        &mut self,
+        piece: &[u8],
+        found: &mut Found,
+        sink: &mut F,
+    ) -> Result<(), TextFault>
+        requires { F.IsAlwaysCallable sink.old }
+        ensures fed { (ranges : List (ℕ × ℕ))
+            × FoldsTo (λ f range g. F.step f range.0 range.1 tt g) sink.old ranges sink.new
+            × Feeds self.old piece.now result ranges self.new }
+        ensures callable { F.IsAlwaysCallable sink.new }
+    {
         decided_units_stay();
         laws_of_decompositions();
         laws_of_reordering();
         if let Some(fault) = self.reported() {
             return Err(fault);
         }
-        let mut found = Found::new();
         let reach = self.reach(piece);
-        let mut at = self.take_letters(piece, reach, &mut found, sink);
+        let mut at = self.take_letters(piece, reach, found, sink);
         while at < piece.len() {
-            match self.step_on(piece[at], &mut found) {
+            match self.step_on(piece[at], found) {
                 Ok(()) => hand_out(found.as_slice(), sink),
                 Err(fault) => {
                     hand_out(found.as_slice(), sink);
@@ -137,7 +153,7 @@ impl<'a, W: Weights> Search<'a, W> {
                 }
             }
             at += 1;
-            at += self.take_letters(&piece[at..], reach.saturating_sub(at), &mut found, sink);
+            at += self.take_letters(&piece[at..], reach.saturating_sub(at), found, sink);
         }
         Ok(())
     }

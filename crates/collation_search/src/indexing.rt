@@ -146,11 +146,12 @@ impl<'a, W: Weights> Search<'a, W> {
             (answer_to (sought self.old) p text.now).fault }
         ensures sought { sought self.new ≡ sought self.old }
     {
+        let mut found = Found::new();
         let mut rest = text;
         let mut len = FIRST_PIECE;
         while !rest.is_empty() {
             let (piece, later) = rest.split_at(len.min(rest.len()));
-            match self.feed_first(piece) {
+            match self.feed_first(piece, &mut found) {
                 Ok(None) => {}
                 Ok(Some(range)) => {
                     self.has_handed_out();
@@ -161,24 +162,29 @@ impl<'a, W: Weights> Search<'a, W> {
             rest = later;
             len = (len * 2).min(LONGEST_PIECE);
         }
-        let mut found = Found::new();
         let ended = self.end_text(&mut found);
         range_or_fault(found.as_slice().first().copied(), ended)
     }
 
-    /// Takes a piece of the text: the first range that became known, if one did, though a fault may stand after it.
+    /// Takes a piece of the text: the first range that became known, if one did, though a fault may stand after it. `room` is room
+    /// that it uses.
     ///
     /// # Errors
     ///
     /// The first fault of the text, where none became known before it.
-    fn feed_first(&mut self, piece: &[u8]) -> Result<Option<(u64, u64)>, TextFault>
+    fn feed_first(
+        &mut self,
+        piece: &[u8],
+        room: &mut Found,
+    ) -> Result<Option<(u64, u64)>, TextFault>
         ensures fed { (found : List (ℕ × ℕ)) × (answer : Result (Unit {0}) TextFault)
             × Feeds self.old piece.now answer found self.new
             × (result ≡ first_range found (fault_of answer)) }
     {
         let mut first = None;
-        let fed = self.feed(
+        let fed = self.feed_with(
             piece,
+            room,
             &mut |start, end|
                 ensures kept { (items : List (ℕ × ℕ)) → first.entry ≡ slice_get items 0
                     → first.exit ≡ slice_get (items ++ (start, end) ∷ []) 0 }

@@ -2,7 +2,7 @@ use Rattle.std.specs.Prelude.{Ok}
 use Rattle.std.specs.List.{FoldsTo}
 use Rattle.std.proofs.Common.{ℕ, ◌-◌, ◌≤◌, List, length, take}
 use Rattle.collation_search.specs.Feeding.{Takes}
-use Rattle.collation_search.proofs.search.Search.feed.Given as goal
+use Rattle.collation_search.proofs.search.Search.feed_with.Given as goal
 
 -- the bytes so far were taken, units cut early up to the reach at most, and the sink was called for the ranges so far
 abbrev pub invariant-loop-at : goal.invariant-loop-at

@@ -7,7 +7,7 @@ use Rattle.std.proofs.lemmas.Option.{none-some}
 use Rattle.collation_search.specs.Feeding.{Takes}
 use Rattle.collation_search.proofs.FeedLemmas.{folds-append, takes-append, takes-stop, takes-byte, feeds-of, feeds-reported}
 use Rattle.collation_search.proofs.StateLemmas.{state_laws}
-use Rattle.collation_search.proofs.search.Search.feed.Goals as goal
+use Rattle.collation_search.proofs.search.Search.feed_with.Goals as goal
 
 pub returns-in-Some-clause-fed : goal.returns-in-Some-clause-fed
 returns-in-Some-clause-fed g c =
