@@ -9,7 +9,7 @@ ghost use Rattle.collation_skip.specs.Blocks.{AreClassesRight, IsClean, Passes, 
 ghost use Rattle.collation_skip.specs.Passed.{IsPassed};
 
 use crate::classes::{Classes, in_set};
-use crate::lanes::{is_zero, load, stops, zeros_in_front};
+use crate::lanes::{are_zero, is_zero, load, stops, zeros_in_front};
 use crate::passed::Passed;
 use collation_elements::{units_stay_apart, weighers_go_on};
 use collation_letters::{FOREIGN, Letter, Letters, Role, laws_of_symbols};
@@ -72,6 +72,9 @@ fn passed_len(classes: &Classes, piece: &[u8], limit: usize) -> usize
         return 0;
     }
     let mut len = 1;
+    'twos: while limit - len >= 32 && two_blocks_pass(classes, piece, len) {
+        len += 32;
+    }
     while limit - len >= 16 && block_passes(classes, piece, len) {
         len += 16;
     }
@@ -118,6 +121,20 @@ pub(crate) fn block_passes(classes: &Classes, bytes: &[u8], at: usize) -> bool
         (slice_index bytes.now (at + k)) }
 {
     is_zero(stops(classes, load(bytes, at - 1), load(bytes, at)))
+}
+
+/// Whether the thirty-two bytes from `at` on pass, behind the byte before them.
+#[inline(always)]
+fn two_blocks_pass(classes: &Classes, bytes: &[u8], at: usize) -> bool
+    requires behind { 1 ≤ at }
+    requires within { at + 32 ≤ length bytes.now }
+    ensures { result ≡ true → (k : ℕ) → k < 32
+        → PassesBehind classes.now (slice_index bytes.now (at + k - 1))
+        (slice_index bytes.now (at + k)) }
+{
+    let first = stops(classes, load(bytes, at - 1), load(bytes, at));
+    let second = stops(classes, load(bytes, at + 15), load(bytes, at + 16));
+    are_zero(first, second)
 }
 
 /// How many of the sixteen bytes from `at` on pass, behind the byte before them, up to the first one that does not.

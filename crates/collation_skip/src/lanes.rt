@@ -64,6 +64,14 @@ pub(crate) fn is_zero(v: u8x16) -> bool
     v.simd_ne(u8x16::splat(0)).to_bitmask() == 0
 }
 
+/// Whether all lanes of both are 0.
+#[inline(always)]
+pub(crate) fn are_zero(a: u8x16, b: u8x16) -> bool
+    ensures { result ≡ true → (k : ℕ) → k < 16 → (slice_index a k ≡ 0) × (slice_index b k ≡ 0) }
+{
+    is_zero(either(a, b))
+}
+
 /// How many lanes stand before the first one that is not 0.
 #[inline(always)]
 pub(crate) fn zeros_in_front(v: u8x16) -> usize

@@ -40,3 +40,14 @@ loop-len-preserved c =
       passes = passes-more c.args.classes.now c.args.piece.now c.loop-len.len 16 some (omega (arith, test, c.requires)) i.passes (c.block_passes.ensures c.if-block_passes.true);
       some = omega (arith, some);
     }
+
+pub twos-preserved : goal.twos-preserved
+twos-preserved c =
+    let i = c.twos.invariant in
+    let some = i.some in
+    let test = c.twos-test.true in
+    record {
+      within = omega (arith, test);
+      passes = passes-more c.args.classes.now c.args.piece.now c.twos.len 32 some (omega (arith, test, c.requires)) i.passes (c.two_blocks_pass.ensures c.if-two_blocks_pass.true);
+      some = omega (arith, some);
+    }
