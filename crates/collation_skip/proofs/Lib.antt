@@ -12,3 +12,4 @@ pub mod ClassLemmas
 pub mod LaneLemmas
 pub mod BlockLemmas
 pub mod ForeignLemmas
+pub mod PassLemmas

@@ -98,6 +98,11 @@ pub record AreClassesRight (table : TableMap) (pattern : Compiled) (classes : Cl
 abbrev pub AreBlocksRight : TableMap → Compiled → AsciiBlocks → Type 0
 AreBlocksRight table pattern blocks = ForSome blocks.classes (AreClassesRight table pattern)
 
+-- keys alone decide which bytes pass: each character may be passed, and no unit reaches into one
+pub record KeysDecide (classes : Classes) : Type 0 where
+  pub halt : (byte : ℕ) → byte < 256 → in_set classes.halt byte ≡ 0
+  pub inner : (byte : ℕ) → byte < 256 → in_set classes.inner byte ≡ 0
+
 -- ---- text that passes
 
 -- A byte passes behind another: it is ASCII and does not halt, the two are not a key and a later one, and no unit reaches from one to

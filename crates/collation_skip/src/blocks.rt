@@ -5,11 +5,11 @@ ghost use Rattle.std.specs.Str.{chars, IsUtf8};
 ghost use Rattle.utf8_cut.specs.Sequences.{SpellsCharacter};
 ghost use Rattle.collation_letters.specs.Letters.{IsLetter};
 ghost use Rattle.collation_letters.specs.Store.{AreLetters};
-ghost use Rattle.collation_skip.specs.Blocks.{AreClassesRight, IsClean, Passes, PassesBehind};
+ghost use Rattle.collation_skip.specs.Blocks.{AreClassesRight, IsClean, KeysDecide, Passes, PassesBehind};
 ghost use Rattle.collation_skip.specs.Passed.{IsPassed};
 
 use crate::classes::{Classes, in_set};
-use crate::lanes::{are_zero, is_zero, load, stops, zeros_in_front};
+use crate::lanes::{are_zero, is_zero, key_stops, keys_decide, load, stops, zeros_in_front};
 use crate::passed::Passed;
 use collation_elements::{units_stay_apart, weighers_go_on};
 use collation_letters::{FOREIGN, Letter, Letters, Role, laws_of_symbols};
@@ -71,10 +71,11 @@ fn passed_len(classes: &Classes, piece: &[u8], limit: usize) -> usize
     if limit == 0 || piece[0] >= 128 || in_set(&classes.halt, piece[0]) != 0 {
         return 0;
     }
-    let mut len = 1;
-    'twos: while limit - len >= 32 && two_blocks_pass(classes, piece, len) {
-        len += 32;
-    }
+    let mut len = if keys_decide(classes) {
+        pass_by_keys(classes, piece, limit)
+    } else {
+        pass_by_twos(classes, piece, limit)
+    };
     while limit - len >= 16 && block_passes(classes, piece, len) {
         len += 16;
     }
@@ -82,6 +83,37 @@ fn passed_len(classes: &Classes, piece: &[u8], limit: usize) -> usize
         return pass_bytes(classes, piece, len, limit);
     }
     len + lanes_that_pass(classes, piece, len)
+}
+
+/// How many bytes at the front of a piece pass, by two blocks at a time behind the first byte, which passes.
+#[inline(always)]
+fn pass_by_twos(classes: &Classes, piece: &[u8], limit: usize) -> usize
+    requires limit { (1 ≤ limit) × (limit ≤ length piece.now) }
+    requires passes { Passes classes.now piece.now 1 }
+    ensures passes { Passes classes.now piece.now result }
+    ensures within { (1 ≤ result) × (result ≤ limit) }
+{
+    let mut len = 1;
+    while limit - len >= 32 && two_blocks_pass(classes, piece, len) {
+        len += 32;
+    }
+    len
+}
+
+/// The same where keys alone decide it.
+#[inline(always)]
+fn pass_by_keys(classes: &Classes, piece: &[u8], limit: usize) -> usize
+    requires keys { KeysDecide classes.now }
+    requires limit { (1 ≤ limit) × (limit ≤ length piece.now) }
+    requires passes { Passes classes.now piece.now 1 }
+    ensures passes { Passes classes.now piece.now result }
+    ensures within { (1 ≤ result) × (result ≤ limit) }
+{
+    let mut len = 1;
+    while limit - len >= 32 && two_blocks_pass_by_keys(classes, piece, len) {
+        len += 32;
+    }
+    len
 }
 
 /// How many bytes at the front of a piece pass, up to `limit`, of which the first `from` do.
@@ -134,6 +166,21 @@ fn two_blocks_pass(classes: &Classes, bytes: &[u8], at: usize) -> bool
 {
     let first = stops(classes, load(bytes, at - 1), load(bytes, at));
     let second = stops(classes, load(bytes, at + 15), load(bytes, at + 16));
+    are_zero(first, second)
+}
+
+/// The same where keys alone decide it.
+#[inline(always)]
+fn two_blocks_pass_by_keys(classes: &Classes, bytes: &[u8], at: usize) -> bool
+    requires keys { KeysDecide classes.now }
+    requires behind { 1 ≤ at }
+    requires within { at + 32 ≤ length bytes.now }
+    ensures { result ≡ true → (k : ℕ) → k < 32
+        → PassesBehind classes.now (slice_index bytes.now (at + k - 1))
+        (slice_index bytes.now (at + k)) }
+{
+    let first = key_stops(classes, load(bytes, at - 1), load(bytes, at));
+    let second = key_stops(classes, load(bytes, at + 15), load(bytes, at + 16));
     are_zero(first, second)
 }
 

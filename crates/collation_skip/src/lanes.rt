@@ -1,6 +1,6 @@
 //! Vectors of sixteen bytes, lane by lane.
 ghost use Rattle.std.specs.Prelude.{◌≡◌, ℕ, ◌+◌, ◌%◌, ◌/◌, ◌<◌, ◌≤◌, min, true, length, slice_index, bit_and, bit_or};
-ghost use Rattle.collation_skip.specs.Blocks.{PassesBehind, in_set};
+ghost use Rattle.collation_skip.specs.Blocks.{KeysDecide, PassesBehind, in_set};
 ghost use Rattle.collation_skip.specs.Lanes.{HasLanes};
 
 use crate::classes::{COLUMNS, Classes};
@@ -31,6 +31,28 @@ pub(crate) fn stops(classes: &Classes, before: u8x16, here: u8x16) -> u8x16
     either(
         either(halt, least(key, later)),
         either(least(joins, inner), high_bits(here)),
+    )
+}
+
+/// The same where keys alone decide it: two sets are looked up in place of five.
+#[inline(always)]
+pub(crate) fn key_stops(classes: &Classes, before: u8x16, here: u8x16) -> u8x16
+    ensures { KeysDecide classes.now → (k : ℕ) → k < 16 → slice_index result k ≡ 0
+        → PassesBehind classes.now (slice_index before k) (slice_index here k) }
+{
+    let key = members(&classes.key, before, columns(before));
+    let later = members(&classes.later, here, columns(here));
+    either(least(key, later), high_bits(here))
+}
+
+/// Whether keys alone decide which bytes pass, as in a table without strings of letters of ASCII.
+#[inline(always)]
+pub(crate) fn keys_decide(classes: &Classes) -> bool
+    ensures { result ≡ true → KeysDecide classes.now }
+{
+    are_zero(
+        u8x16::from_array(classes.halt),
+        u8x16::from_array(classes.inner),
     )
 }
 

@@ -11,13 +11,3 @@ invariant-loop-len l = record {
 
 abbrev pub decreases-loop-len : goal.decreases-loop-len
 decreases-loop-len l = l.limit - l.len
-
-abbrev pub invariant-twos : goal.invariant-twos
-invariant-twos l = record {
-  within : l.len ≤ l.limit;
-  passes : Passes l.classes l.piece l.len;
-  some : 1 ≤ l.len;
-}
-
-abbrev pub decreases-twos : goal.decreases-twos
-decreases-twos l = l.limit - l.len

@@ -4,12 +4,8 @@ use Rattle.collation_skip.specs.Lanes.{HasLanes}
 use Rattle.collation_skip.specs.Blocks.{in_set}
 use Rattle.collation_skip.specs.declared.classes.TheConstants.{COLUMNS}
 use Rattle.collation_skip.proofs.LaneLemmas.{or-left, or-right, below-high}
+use Rattle.collation_skip.proofs.PassLemmas.{member}
 use Rattle.collation_skip.proofs.lanes.stops.Goals as goal
-
--- a lane of a look-up in a set
-member : (set v columns members : List ℕ) → HasLanes columns (λ k. get_or COLUMNS (get_or v k 0 / 16) 0) → HasLanes members (λ k. bit_and (get_or set (get_or v k 0 % 16) 0) (get_or columns k 0)) → (k : ℕ) → k < 16 →
-    get_or members k 0 ≡ in_set set (get_or v k 0)
-member set v columns members high looked k less = looked.each k less ∙ ap (bit_and (get_or set (get_or v k 0 % 16) 0)) (high.each k less)
 
 pub returns : goal.returns
 returns c = λ k less none.

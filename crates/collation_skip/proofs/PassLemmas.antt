@@ -1,0 +1,55 @@
+-- What blocks that pass say of the bytes of a piece.
+use Rattle.std.proofs.Common.{◌≡◌, ◌∙◌, ℕ, suc, ◌+◌, ◌-◌, ◌/◌, ◌%◌, ◌≤◌, ◌<◌, List, length, slice_index, get_or, subst, ap, arith, inl, inr, bit_and}
+use Rattle.std.proofs.lemmas.Bool.{cases_lt}
+use Rattle.collation_skip.specs.Lanes.{HasLanes}
+use Rattle.collation_skip.specs.declared.classes.Classes.{Classes}
+use Rattle.collation_skip.specs.declared.classes.TheConstants.{COLUMNS}
+use Rattle.collation_skip.specs.Blocks.{Passes, PassesBehind, in_set}
+
+-- a lane of a look-up in a set
+pub member : (set v columns members : List ℕ) → HasLanes columns (λ k. get_or COLUMNS (get_or v k 0 / 16) 0) → HasLanes members (λ k. bit_and (get_or set (get_or v k 0 % 16) 0) (get_or columns k 0)) → (k : ℕ) → k < 16 →
+    get_or members k 0 ≡ in_set set (get_or v k 0)
+member set v columns members high looked k less = looked.each k less ∙ ap (bit_and (get_or set (get_or v k 0 % 16) 0)) (high.each k less)
+
+pub passes-more : (classes : Classes) (bytes : List ℕ) (len lanes : ℕ) → 1 ≤ len → len + lanes ≤ length bytes → Passes classes bytes len →
+    ((k : ℕ) → k < lanes → PassesBehind classes (get_or bytes (len + k - 1) 0) (get_or bytes (len + k) 0)) → Passes classes bytes (len + lanes)
+passes-more classes bytes len lanes some within p block = record {
+  within = within;
+  ascii = λ _. p.ascii some;
+  going = λ _. p.going some;
+  each = λ i less. at i less;
+}
+  where
+    at : (i : ℕ) → suc i < len + lanes → PassesBehind classes (get_or bytes i 0) (get_or bytes (suc i) 0)
+    at i less = elim (cases_lt (suc i) len) [
+      | inl before ↦ p.each i before
+      | inr behind ↦
+          let k = suc i - len in
+          let there : len + k ≡ suc i = omega (arith, behind) in
+          let last : len + k - 1 ≡ i = omega (arith, behind) in
+          subst (λ j. PassesBehind classes (get_or bytes i 0) (get_or bytes j 0)) there
+          (subst (λ j. PassesBehind classes (get_or bytes j 0) (get_or bytes (len + k) 0)) last (block k (omega (arith, behind, less))))
+    ]
+
+-- the bytes of two blocks, the lanes of which are loaded from around `at`
+pub two_pass : (classes : Classes) (bytes before here later_before later_here : List ℕ) (at : ℕ) → 1 ≤ at
+    → HasLanes before (λ k. slice_index bytes (at - 1 + k)) → HasLanes here (λ k. slice_index bytes (at + k))
+    → HasLanes later_before (λ k. slice_index bytes (at + 15 + k)) → HasLanes later_here (λ k. slice_index bytes (at + 16 + k))
+    → ((k : ℕ) → k < 16 → PassesBehind classes (slice_index before k) (slice_index here k))
+    → ((k : ℕ) → k < 16 → PassesBehind classes (slice_index later_before k) (slice_index later_here k))
+    → (k : ℕ) → k < 32 → PassesBehind classes (slice_index bytes (at + k - 1)) (slice_index bytes (at + k))
+two_pass classes bytes before here later_before later_here at behind has_before has_here has_later has_last first second k less =
+    elim (cases_lt k 16) [
+      | inl low ↦
+          passes_at classes bytes _ _ _ _ (at + k - 1) (at + k) (has_before.each k low) (has_here.each k low) (omega (arith, behind)) (omega arith) (first k low)
+      | inr high ↦
+          let low : k - 16 < 16 = omega (arith, high, less) in
+          passes_at classes bytes _ _ _ _ (at + k - 1) (at + k) (has_later.each (k - 16) low) (has_last.each (k - 16) low) (omega (arith, behind, high)) (omega (arith, high))
+          (second (k - 16) low)
+    ]
+  where
+    passes_at : (classes : Classes) (bytes : List ℕ) (before here i j m n : ℕ) → before ≡ slice_index bytes i → here ≡ slice_index bytes j → i ≡ m → j ≡ n → PassesBehind classes before here
+        → PassesBehind classes (slice_index bytes m) (slice_index bytes n)
+    passes_at classes bytes before here i j m n is_before is_here same_before same_here passes =
+        subst (λ v. PassesBehind classes v (slice_index bytes n)) (is_before ∙ ap (λ t. slice_index bytes t) same_before)
+        (subst (λ v. PassesBehind classes before v) (is_here ∙ ap (λ t. slice_index bytes t) same_here) passes)
