@@ -31,21 +31,21 @@ passes-more classes bytes len lanes some within p block = record {
           (subst (λ j. PassesBehind classes (get_or bytes j 0) (get_or bytes (len + k) 0)) last (block k (omega (arith, behind, less))))
     ]
 
--- the bytes of two blocks, the lanes of which are loaded from around `at`
-pub two_pass : (classes : Classes) (bytes before here later_before later_here : List ℕ) (at : ℕ) → 1 ≤ at
+-- the first n bytes of two blocks, the lanes of which are loaded from around `at`
+pub two_pass : (classes : Classes) (bytes before here later_before later_here : List ℕ) (at n : ℕ) → 1 ≤ at → n ≤ 32
     → HasLanes before (λ k. slice_index bytes (at - 1 + k)) → HasLanes here (λ k. slice_index bytes (at + k))
     → HasLanes later_before (λ k. slice_index bytes (at + 15 + k)) → HasLanes later_here (λ k. slice_index bytes (at + 16 + k))
-    → ((k : ℕ) → k < 16 → PassesBehind classes (slice_index before k) (slice_index here k))
-    → ((k : ℕ) → k < 16 → PassesBehind classes (slice_index later_before k) (slice_index later_here k))
-    → (k : ℕ) → k < 32 → PassesBehind classes (slice_index bytes (at + k - 1)) (slice_index bytes (at + k))
-two_pass classes bytes before here later_before later_here at behind has_before has_here has_later has_last first second k less =
+    → ((k : ℕ) → k < 16 → k < n → PassesBehind classes (slice_index before k) (slice_index here k))
+    → ((k : ℕ) → k < 16 → 16 + k < n → PassesBehind classes (slice_index later_before k) (slice_index later_here k))
+    → (k : ℕ) → k < n → PassesBehind classes (slice_index bytes (at + k - 1)) (slice_index bytes (at + k))
+two_pass classes bytes before here later_before later_here at n behind within has_before has_here has_later has_last first second k less =
     elim (cases_lt k 16) [
       | inl low ↦
-          passes_at classes bytes _ _ _ _ (at + k - 1) (at + k) (has_before.each k low) (has_here.each k low) (omega (arith, behind)) (omega arith) (first k low)
+          passes_at classes bytes _ _ _ _ (at + k - 1) (at + k) (has_before.each k low) (has_here.each k low) (omega (arith, behind)) (omega arith) (first k low less)
       | inr high ↦
-          let low : k - 16 < 16 = omega (arith, high, less) in
+          let low : k - 16 < 16 = omega (arith, high, less, within) in
           passes_at classes bytes _ _ _ _ (at + k - 1) (at + k) (has_later.each (k - 16) low) (has_last.each (k - 16) low) (omega (arith, behind, high)) (omega (arith, high))
-          (second (k - 16) low)
+          (second (k - 16) low (omega (arith, high, less)))
     ]
   where
     passes_at : (classes : Classes) (bytes : List ℕ) (before here i j m n : ℕ) → before ≡ slice_index bytes i → here ≡ slice_index bytes j → i ≡ m → j ≡ n → PassesBehind classes before here

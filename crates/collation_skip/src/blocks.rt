@@ -9,7 +9,9 @@ ghost use Rattle.collation_skip.specs.Blocks.{AreClassesRight, IsClean, KeysDeci
 ghost use Rattle.collation_skip.specs.Passed.{IsPassed};
 
 use crate::classes::{Classes, in_set};
-use crate::lanes::{are_zero, is_zero, key_stops, keys_decide, load, stops, zeros_in_front};
+use crate::lanes::{
+    is_zero, key_stops, keys_decide, load, stops, zeros_in_front, zeros_in_front_of_two,
+};
 use crate::passed::Passed;
 use collation_elements::{units_stay_apart, weighers_go_on};
 use collation_letters::{FOREIGN, Letter, Letters, Role, laws_of_symbols};
@@ -76,6 +78,9 @@ fn passed_len(classes: &Classes, piece: &[u8], limit: usize) -> usize
     } else {
         pass_by_twos(classes, piece, limit)
     };
+    if limit - len >= 32 {
+        return len;
+    }
     while limit - len >= 16 && block_passes(classes, piece, len) {
         len += 16;
     }
@@ -85,7 +90,8 @@ fn passed_len(classes: &Classes, piece: &[u8], limit: usize) -> usize
     len + lanes_that_pass(classes, piece, len)
 }
 
-/// How many bytes at the front of a piece pass, by two blocks at a time behind the first byte, which passes.
+/// How many bytes at the front of a piece pass, two blocks at a time behind the first byte, which passes: to one that does not, or as long
+/// as there are two blocks.
 #[inline(always)]
 fn pass_by_twos(classes: &Classes, piece: &[u8], limit: usize) -> usize
     requires limit { (1 ≤ limit) × (limit ≤ length piece.now) }
@@ -94,8 +100,12 @@ fn pass_by_twos(classes: &Classes, piece: &[u8], limit: usize) -> usize
     ensures within { (1 ≤ result) × (result ≤ limit) }
 {
     let mut len = 1;
-    while limit - len >= 32 && two_blocks_pass(classes, piece, len) {
-        len += 32;
+    while limit - len >= 32 {
+        let lanes = two_blocks_len(classes, piece, len);
+        len += lanes;
+        if lanes < 32 {
+            break;
+        }
     }
     len
 }
@@ -110,8 +120,12 @@ fn pass_by_keys(classes: &Classes, piece: &[u8], limit: usize) -> usize
     ensures within { (1 ≤ result) × (result ≤ limit) }
 {
     let mut len = 1;
-    while limit - len >= 32 && two_blocks_pass_by_keys(classes, piece, len) {
-        len += 32;
+    while limit - len >= 32 {
+        let lanes = two_blocks_len_by_keys(classes, piece, len);
+        len += lanes;
+        if lanes < 32 {
+            break;
+        }
     }
     len
 }
@@ -155,33 +169,35 @@ pub(crate) fn block_passes(classes: &Classes, bytes: &[u8], at: usize) -> bool
     is_zero(stops(classes, load(bytes, at - 1), load(bytes, at)))
 }
 
-/// Whether the thirty-two bytes from `at` on pass, behind the byte before them.
+/// How many of the thirty-two bytes from `at` on pass, behind the byte before them, up to the first one that does not.
 #[inline(always)]
-fn two_blocks_pass(classes: &Classes, bytes: &[u8], at: usize) -> bool
+fn two_blocks_len(classes: &Classes, bytes: &[u8], at: usize) -> usize
     requires behind { 1 ≤ at }
     requires within { at + 32 ≤ length bytes.now }
-    ensures { result ≡ true → (k : ℕ) → k < 32
+    ensures within { result ≤ 32 }
+    ensures passes { (k : ℕ) → k < result
         → PassesBehind classes.now (slice_index bytes.now (at + k - 1))
         (slice_index bytes.now (at + k)) }
 {
     let first = stops(classes, load(bytes, at - 1), load(bytes, at));
     let second = stops(classes, load(bytes, at + 15), load(bytes, at + 16));
-    are_zero(first, second)
+    zeros_in_front_of_two(first, second)
 }
 
 /// The same where keys alone decide it.
 #[inline(always)]
-fn two_blocks_pass_by_keys(classes: &Classes, bytes: &[u8], at: usize) -> bool
+fn two_blocks_len_by_keys(classes: &Classes, bytes: &[u8], at: usize) -> usize
     requires keys { KeysDecide classes.now }
     requires behind { 1 ≤ at }
     requires within { at + 32 ≤ length bytes.now }
-    ensures { result ≡ true → (k : ℕ) → k < 32
+    ensures within { result ≤ 32 }
+    ensures passes { (k : ℕ) → k < result
         → PassesBehind classes.now (slice_index bytes.now (at + k - 1))
         (slice_index bytes.now (at + k)) }
 {
     let first = key_stops(classes, load(bytes, at - 1), load(bytes, at));
     let second = key_stops(classes, load(bytes, at + 15), load(bytes, at + 16));
-    are_zero(first, second)
+    zeros_in_front_of_two(first, second)
 }
 
 /// How many of the sixteen bytes from `at` on pass, behind the byte before them, up to the first one that does not.

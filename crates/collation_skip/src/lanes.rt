@@ -50,10 +50,9 @@ pub(crate) fn key_stops(classes: &Classes, before: u8x16, here: u8x16) -> u8x16
 pub(crate) fn keys_decide(classes: &Classes) -> bool
     ensures { result ≡ true → KeysDecide classes.now }
 {
-    are_zero(
-        u8x16::from_array(classes.halt),
-        u8x16::from_array(classes.inner),
-    )
+    let halt = load(&classes.halt, 0);
+    let inner = load(&classes.inner, 0);
+    are_zero(halt, inner)
 }
 
 #[inline(always)]
@@ -88,10 +87,27 @@ pub(crate) fn is_zero(v: u8x16) -> bool
 
 /// Whether all lanes of both are 0.
 #[inline(always)]
-pub(crate) fn are_zero(a: u8x16, b: u8x16) -> bool
+fn are_zero(a: u8x16, b: u8x16) -> bool
     ensures { result ≡ true → (k : ℕ) → k < 16 → (slice_index a k ≡ 0) × (slice_index b k ≡ 0) }
 {
     is_zero(either(a, b))
+}
+
+/// How many lanes of two vectors, one behind the other, stand before the first one that is not 0.
+#[inline(always)]
+pub(crate) fn zeros_in_front_of_two(a: u8x16, b: u8x16) -> usize
+    ensures within { result ≤ 32 }
+    ensures first { (k : ℕ) → k < 16 → k < result → slice_index a k ≡ 0 }
+    ensures second { (k : ℕ) → k < 16 → 16 + k < result → slice_index b k ≡ 0 }
+{
+    if are_zero(a, b) {
+        return 32;
+    }
+    let zeros = zeros_in_front(a);
+    if zeros < 16 {
+        return zeros;
+    }
+    16 + zeros_in_front(b)
 }
 
 /// How many lanes stand before the first one that is not 0.

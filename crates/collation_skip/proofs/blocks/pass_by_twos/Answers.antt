@@ -6,10 +6,21 @@ pub loop-len-preserved : goal.loop-len-preserved
 loop-len-preserved c =
     let i = c.loop-len.invariant in
     let some = i.some in
+    let inside = i.within in
     let test = c.loop-len-test.true in
     let limit = c.requires.limit in
+    let few = c.two_blocks_len-lanes.ensures.within in
     record {
-      within = omega (arith, test);
-      passes = passes-more c.args.classes.now c.args.piece.now c.loop-len.len 32 some (omega (arith, test, limit)) i.passes (c.two_blocks_pass.ensures c.if-two_blocks_pass.true);
+      within = omega (arith, test, few, inside);
+      passes = passes-more c.args.classes.now c.args.piece.now c.loop-len.len c.two_blocks_len-lanes.result some (omega (arith, test, few, limit, inside)) i.passes c.two_blocks_len-lanes.ensures.passes;
       some = omega (arith, some);
     }
+
+pub returns-then-lanes-lt32-clause-passes : goal.returns-then-lanes-lt32-clause-passes
+returns-then-lanes-lt32-clause-passes c =
+    let i = c.loop-len.invariant in
+    let inside = i.within in
+    let test = c.loop-len-test.true in
+    let limit = c.requires.limit in
+    let few = c.two_blocks_len-lanes.ensures.within in
+    passes-more c.args.classes.now c.args.piece.now c.loop-len.len c.two_blocks_len-lanes.result i.some (omega (arith, test, few, limit, inside)) i.passes c.two_blocks_len-lanes.ensures.passes
