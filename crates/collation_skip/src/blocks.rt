@@ -102,10 +102,10 @@ fn pass_by_twos(classes: &Classes, piece: &[u8], limit: usize) -> usize
     let mut len = 1;
     while limit - len >= 32 {
         let lanes = two_blocks_len(classes, piece, len);
-        len += lanes;
         if lanes < 32 {
-            break;
+            return len + lanes;
         }
+        len += 32;
     }
     len
 }
@@ -122,10 +122,10 @@ fn pass_by_keys(classes: &Classes, piece: &[u8], limit: usize) -> usize
     let mut len = 1;
     while limit - len >= 32 {
         let lanes = two_blocks_len_by_keys(classes, piece, len);
-        len += lanes;
         if lanes < 32 {
-            break;
+            return len + lanes;
         }
+        len += 32;
     }
     len
 }

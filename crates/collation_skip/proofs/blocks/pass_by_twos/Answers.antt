@@ -9,10 +9,10 @@ loop-len-preserved c =
     let inside = i.within in
     let test = c.loop-len-test.true in
     let limit = c.requires.limit in
-    let few = c.two_blocks_len-lanes.ensures.within in
+    let many = c.if-lanes-lt32.false in
     record {
-      within = omega (arith, test, few, inside);
-      passes = passes-more c.args.classes.now c.args.piece.now c.loop-len.len c.two_blocks_len-lanes.result some (omega (arith, test, few, limit, inside)) i.passes c.two_blocks_len-lanes.ensures.passes;
+      within = omega (arith, test, inside);
+      passes = passes-more c.args.classes.now c.args.piece.now c.loop-len.len 32 some (omega (arith, test, limit, inside)) i.passes (λ k less. c.two_blocks_len-lanes.ensures.passes k (omega (arith, less, many)));
       some = omega (arith, some);
     }
 
