@@ -1,5 +1,5 @@
 -- Lemmas on the steps of a trie: what one more node and one more place change, and what the labels of nodes say.
-use Rattle.std.proofs.Common.{◌≡◌, ℕ, zero, suc, ◌+◌, ◌-◌, ◌*◌, ◌^◌, ◌<◌, ◌≤◌, nat_lt, Bool, true, false, cond, get_or, List, [], ◌∷◌, ◌++◌, length, take, drop, Option, Some, None, is_some, refl, sym, ap, ◌∙◌, arith, ◌⊎◌, inl, inr, length-drop, append_assoc, Vec}
+use Rattle.std.proofs.Common.{◌≡◌, ℕ, zero, suc, ◌+◌, ◌-◌, ◌*◌, ◌^◌, ◌<◌, ◌≤◌, nat_lt, Bool, true, false, cond, get_or, set, List, [], ◌∷◌, ◌++◌, length, take, drop, Option, Some, None, is_some, refl, sym, ap, subst, ◌∙◌, arith, ◌⊎◌, inl, inr, length-drop, append_assoc, Vec}
 use Rattle.std.proofs.lemmas.Bool.{cases_lt, cond-true, cond-false, lt-ltb, le-ltb}
 use Rattle.std.proofs.lemmas.List.{take_more}
 use Rattle.collation_table.specs.Table.{TableMap, is_mapped, longest_prefix, longest_prefix_within}
@@ -12,7 +12,9 @@ use Rattle.std.specs.declared.cmp.Ordering.{Ordering}
 use Rattle.std.specs.declared.cmp.Ordering.TheVariants.{Less, Equal, Greater}
 use Rattle.std.specs.Ordering.{is_eq, nat_cmp}
 use Rattle.std.proofs.lemmas.Map.Lookups.{exact_unsigned}
-use Rattle.collation_table.specs.Trie.{no_entry, no_page_entry, page_entry, step_at, step_key, or_no_entry, seek, place_from, Leads, IsTrieOf, IsSet}
+use Rattle.std.proofs.lemmas.List.{get_or-set_same, get_or-set_other}
+use Rattle.collation_table.specs.declared.first_steps.FirstStep.{FirstStep}
+use Rattle.collation_table.specs.Trie.{no_entry, no_page_entry, page_entry, step_at, step_key, or_no_entry, seek, place_from, Leads, IsTrieOf, IsSet, IsFirst, AreFirst, first_of, no_first_step}
 
 -- ---- cases
 
@@ -455,3 +457,35 @@ marked_after pages new steps more n cp here others low rest marked (suc s) d lt 
         ∙ sym (step_at-deep pages steps (suc s) d (λ e. absurd (omega (arith, e))) lower)
         ∙ marked (suc s) d lt (sym (ap (λ (x : PageEntry). x.continues) (others d not)) ∙ off)
     by (inr not) (inr high) = step_at-high new more s d high
+
+-- ---- first steps
+
+first-kept : (E F : ℕ → ℕ → Entry) (n : ℕ) (first : FirstStep) → ((d : ℕ) → F n d ≡ E n d) → IsFirst E n first → IsFirst F n first
+first-kept E F n first same is = record {
+  here = same first.cp ∙ is.here;
+  others = λ no d other. same d ∙ is.others no d other;
+}
+
+-- a step from the root changes none of the others
+pub AreFirst-root : (E F : ℕ → ℕ → Entry) (s c : ℕ) (e : Entry) (firsts : List FirstStep) → IsSet E F s c e → s ≡ 0 → AreFirst E firsts → AreFirst F firsts
+AreFirst-root E F s c e firsts set root are = λ n deep. first-kept E F n (first_of firsts n) (λ d. set.miss n d (λ p q. omega arith)) (are n deep)
+
+-- the first step from one node follows the step that is set there
+pub AreFirst-set : (E F : ℕ → ℕ → Entry) (s c : ℕ) (e : Entry) (firsts room : List FirstStep) (first : FirstStep) → IsSet E F s c e → s < length room
+    → ((n : ℕ) → first_of room n ≡ first_of firsts n) → (IsFirst E s (first_of room s) → IsFirst F s first) → AreFirst E firsts → AreFirst F (set room s first)
+AreFirst-set E F s c e firsts room first is lt same follows are n deep = by (is_or_not n s)
+  where
+    was : IsFirst E n (first_of room n)
+    was = subst (λ (x : FirstStep). IsFirst E n x) (sym (same n)) (are n deep)
+
+    by : (n ≡ s) ⊎ ((n ≡ s) → ⊥) → IsFirst F n (first_of (set room s first) n)
+    by (inl here) =
+        let there : IsFirst F s (first_of (set room s first) s) = subst (λ (x : FirstStep). IsFirst F s x) (sym (get_or-set_same room s first no_first_step lt)) (follows (subst (λ m. IsFirst E m (first_of room m)) here was)) in
+        subst (λ m. IsFirst F m (first_of (set room s first) m)) (sym here) there
+    by (inr other) =
+        subst (λ (x : FirstStep). IsFirst F n x) (sym (get_or-set_other room s n first no_first_step other)) (first-kept E F n (first_of room n) (λ d. is.miss n d (λ p q. other p)) was)
+
+-- where no code point leads anywhere, no first step is set
+pub AreFirst-none : (E : ℕ → ℕ → Entry) (firsts : List FirstStep) → ((n cp : ℕ) → E n cp ≡ no_entry) → ((n : ℕ) → first_of firsts n ≡ no_first_step) → AreFirst E firsts
+AreFirst-none E firsts none empty n deep =
+    subst (λ (x : FirstStep). IsFirst E n x) (sym (empty n)) (record { here = none n 0; others = λ no cp other. none n cp })

@@ -6,6 +6,7 @@ use Rattle.std.specs.BTreeMap.{BTreeMap, get}
 use Rattle.collation_table.specs.declared.pages.Place.{Place}
 use Rattle.collation_table.specs.declared.pages.Entry.{Entry}
 use Rattle.collation_table.specs.declared.pages.PageEntry.{PageEntry}
+use Rattle.collation_table.specs.declared.first_steps.FirstStep.{FirstStep}
 use Rattle.collation_table.specs.declared.trie.Trie.{Trie}
 use Rattle.collation_table.specs.Spelling.{◌>>=◌}
 
@@ -75,9 +76,28 @@ pub record IsTrieOf (E : ℕ → ℕ → Entry) (count : ℕ) : Type 0 where
 abbrev pub IsMarked : Trie → Type 0
 IsMarked t = (s cp : ℕ) → 0 < s → continues t cp ≡ false → at t s cp ≡ no_entry
 
+-- what is known of the steps E from a node by the one that was set first
+pub record IsFirst (E : ℕ → ℕ → Entry) (node : ℕ) (first : FirstStep) : Type 0 where
+  pub here : E node first.cp ≡ first.entry
+  pub others : first.others ≡ false → (cp : ℕ) → ((cp ≡ first.cp) → ⊥) → E node cp ≡ no_entry
+
+abbrev pub no_first_step : FirstStep
+no_first_step = record { entry = no_entry; cp = 0; others = false }
+
+abbrev pub first_of : List FirstStep → ℕ → FirstStep
+first_of firsts node = get_or firsts node no_first_step
+
+-- the first steps agree with the steps E from all nodes but the root
+abbrev pub AreFirst : (ℕ → ℕ → Entry) → List FirstStep → Type 0
+AreFirst E firsts = (node : ℕ) → 0 < node → IsFirst E node (first_of firsts node)
+
+abbrev pub HasFirst : Trie → Type 0
+HasFirst t = AreFirst (at t) t.firsts.steps.items
+
 pub record IsTrie (t : Trie) : Type 0 where
   pub steps : IsTrieOf (at t) t.nodes
   pub marked : IsMarked t
+  pub firsts : HasFirst t
 
 -- F has e at the step with c after s, and all else as E
 pub record IsSet (E F : ℕ → ℕ → Entry) (s c : ℕ) (e : Entry) : Type 0 where

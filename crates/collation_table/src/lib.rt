@@ -13,6 +13,7 @@
 
 mod elements;
 mod faults;
+mod first_steps;
 mod implicit;
 pub mod laws;
 mod limits;

@@ -1,12 +1,15 @@
 //! The index of a table: from a list of code points to the place of the row that has it as its mapped string.
 //!
-//! The first code point is looked up in pages, each further one as a step from a node. A step is found in an ordered map by its
-//! node and its code point, so no mapped string is compared with another as a whole. That no file makes a step take longer than the
-//! logarithm of the number of steps is why the trie has this form; the time of a look-up is measured, and no clause speaks of it.
+//! The first code point is looked up in pages, each further one as a step from a node. All steps stand in an ordered map by their
+//! node and their code point, so no mapped string is compared with another as a whole. The step that was set first from a node
+//! also stands in a record of the node, which says whether there are others. So the map is asked only after a node with two steps or
+//! more, and for another code point than that of the first. That no file makes a step take longer than the logarithm of the number of
+//! steps is why the trie has this form; the time of a look-up is measured, and no clause speaks of it.
 ghost use Rattle.std.specs.Prelude.{◌≡◌, ℕ, ◌<◌, ◌≤◌, List, [], ◌∷◌, ◌++◌, false, length, is_some, None, Some, OnOk, IfOk, OnSome, IfSome};
 ghost use Rattle.collation_table.specs.Table.{TableMap, is_mapped, longest_prefix};
-ghost use Rattle.collation_table.specs.Trie.{at, step_key, place_of, seek, continues, Leads, IsTrie, IsMarked, IsSet};
+ghost use Rattle.collation_table.specs.Trie.{at, step_key, place_of, seek, continues, Leads, IsTrie, IsMarked, HasFirst, IsSet};
 
+use crate::first_steps::FirstSteps;
 use crate::pages::{Entry, NO_ENTRY, PageEntry, Pages, Place};
 use std::alloc::{AllocError, Global};
 use std::collections::BTreeMap;
@@ -16,6 +19,7 @@ use std::collections::BTreeMap;
 pub(crate) struct Trie {
     pages: Pages,
     steps: BTreeMap<u64, Entry>,
+    firsts: FirstSteps,
     nodes: u32,
 }
 
@@ -35,19 +39,34 @@ impl Trie {
         Trie {
             pages: Pages::new(alloc),
             steps: BTreeMap::new(alloc),
+            firsts: FirstSteps::new(alloc),
             nodes: 1,
         }
     }
 
-    /// Where a code point leads after a node. One that continues no mapped string leads nowhere, and is not looked for.
+    /// Where a code point leads after a node.
     fn step(&self, node: u32, cp: u32) -> Entry
-        requires { IsMarked self.now }
+        requires marked { IsMarked self.now }
+        requires firsts { HasFirst self.now }
+        ensures { result ≡ at self.now node cp }
+    {
+        if node == 0 {
+            return self.pages.get(cp).entry;
+        }
+        match self.firsts.find(node, cp) {
+            Some(entry) => entry,
+            None => self.step_in_map(node, cp),
+        }
+    }
+
+    /// Where a code point leads after a node other than the root, by the map. One that continues no mapped string leads nowhere, and
+    /// is not looked for.
+    fn step_in_map(&self, node: u32, cp: u32) -> Entry
+        requires marked { IsMarked self.now }
+        requires deep { 0 < node }
         ensures { result ≡ at self.now node cp }
     {
         let page_entry = self.pages.get(cp);
-        if node == 0 {
-            return page_entry.entry;
-        }
         if !page_entry.continues {
             return NO_ENTRY;
         }
@@ -65,9 +84,11 @@ impl Trie {
         cp: u32,
         entry: Entry,
     ) -> Result<(), AllocError>
-        requires { IsMarked self.old }
+        requires marked { IsMarked self.old }
+        requires firsts { HasFirst self.old }
         ensures set { OnOk result (IsSet (at self.old) (at self.new) node cp entry) }
         ensures marked { OnOk result (IsMarked self.new) }
+        ensures firsts { OnOk result (HasFirst self.new) }
         ensures nodes { OnOk result (self.new.nodes ≡ self.old.nodes) }
     {
         let page_entry = self.pages.get(cp);
@@ -91,6 +112,7 @@ impl Trie {
             },
         )?;
         self.steps.insert(step_key(node, cp), entry)?;
+        self.firsts.set(node, cp, entry)?;
         Ok(())
     }
 
@@ -171,11 +193,13 @@ impl Trie {
         cp: u32,
         place: Place,
     ) -> Result<(), AllocError>
-        requires { IsMarked self.old }
+        requires marked { IsMarked self.old }
+        requires firsts { HasFirst self.old }
         ensures set { OnOk result
             (IsSet (at self.old) (at self.new) node cp
             (record (at self.old node cp) { place = Some place })) }
         ensures marked { OnOk result (IsMarked self.new) }
+        ensures firsts { OnOk result (HasFirst self.new) }
         ensures nodes { OnOk result (self.new.nodes ≡ self.old.nodes) }
     {
         if node == 0 {

@@ -10,6 +10,7 @@ returns-clause-trie c =
     record {
       steps = subst (λ n. IsTrieOf (at c.set_step.new.self) n) one_more (IsTrieOf-add _ (at c.set_step.new.self) c.args.node c.args.cp _ c.args.self.now.nodes c.in_ok-set_step.ensures.set refl c.requires.used c.requires.trie.steps);
       marked = c.in_ok-set_step.ensures.marked;
+      firsts = c.in_ok-set_step.ensures.firsts;
     }
 
 pub returns-clause-same : goal.returns-clause-same

@@ -8,6 +8,7 @@ returns-clause-trie c =
     record {
       steps = subst (λ n. IsTrieOf (at c.set_place.new.self) n) (sym c.in_ok-set_place.ensures.nodes) (IsTrieOf-put (at c.follow_all.new.self) (at c.set_place.new.self) c.in_ok-node.node _ _ c.follow_all.new.self.nodes c.in_ok-set_place.ensures.set refl c.in_ok-node.ensures.used c.in_ok-node.ensures.trie.steps);
       marked = c.in_ok-set_place.ensures.marked;
+      firsts = c.in_ok-set_place.ensures.firsts;
     }
 
 pub returns-clause-here : goal.returns-clause-here

@@ -1,8 +1,8 @@
-use Rattle.std.proofs.Common.{◌≡◌, ℕ, false, Some, subst, ap, ◌∙◌, arith}
+use Rattle.std.proofs.Common.{◌≡◌, ℕ, false, Some, subst, ap, ◌∙◌}
 use Rattle.std.specs.BTreeMap.{get}
 use Rattle.std.specs.Ordering.{is_eq, nat_cmp}
 use Rattle.collation_table.specs.declared.pages.PageEntry.{PageEntry}
-use Rattle.collation_table.proofs.TrieLemmas.{set_at_root, set_after, marked_at_root, marked_after}
+use Rattle.collation_table.proofs.TrieLemmas.{set_at_root, set_after, marked_at_root, marked_after, AreFirst-root}
 use Rattle.collation_table.proofs.trie.Trie.set_step.Goals as goal
 
 pub returns-then-node-eq0-clause-set : goal.returns-then-node-eq0-clause-set
@@ -10,7 +10,7 @@ returns-then-node-eq0-clause-set c = set_at_root _ _ c.args.self.now.steps c.arg
 
 pub returns-then-node-eq0-clause-marked : goal.returns-then-node-eq0-clause-marked
 returns-then-node-eq0-clause-marked c =
-    marked_at_root _ _ c.args.self.now.steps c.args.cp (ap (λ (e : PageEntry). e.continues) (c.in_ok-set.ensures.here) ∙ ap (λ (e : PageEntry). e.continues) c.get-page_entry.ensures) c.in_ok-set.ensures.others c.requires
+    marked_at_root _ _ c.args.self.now.steps c.args.cp (ap (λ (e : PageEntry). e.continues) (c.in_ok-set.ensures.here) ∙ ap (λ (e : PageEntry). e.continues) c.get-page_entry.ensures) c.in_ok-set.ensures.others c.requires.marked
 
 pub returns-clause-set : goal.returns-clause-set
 returns-clause-set c =
@@ -23,4 +23,10 @@ pub returns-clause-marked : goal.returns-clause-marked
 returns-clause-marked c =
     marked_after _ _ c.args.self.now.steps c.insert.new.self c.args.node c.args.cp (ap (λ (e : PageEntry). e.continues) c.in_ok-set-2.ensures.here)
     c.in_ok-set-2.ensures.others c.ranges.cp.fits
-    (subst (λ (k : ℕ). (q : ℕ) → is_eq (nat_cmp k q) ≡ false → get nat_cmp c.insert.new.self q ≡ get nat_cmp c.args.self.now.steps q) c.step_key.ensures c.in_ok-insert.ensures.updates.2) c.requires
+    (subst (λ (k : ℕ). (q : ℕ) → is_eq (nat_cmp k q) ≡ false → get nat_cmp c.insert.new.self q ≡ get nat_cmp c.args.self.now.steps q) c.step_key.ensures c.in_ok-insert.ensures.updates.2) c.requires.marked
+
+pub returns-then-node-eq0-clause-firsts : goal.returns-then-node-eq0-clause-firsts
+returns-then-node-eq0-clause-firsts c = AreFirst-root _ _ c.args.node c.args.cp _ c.args.self.now.firsts.steps.items (returns-then-node-eq0-clause-set c) c.if-node-eq0.true c.requires.firsts
+
+pub returns-clause-firsts : goal.returns-clause-firsts
+returns-clause-firsts c = c.in_ok-set-3.ensures _ _ (returns-clause-set c) c.requires.firsts
