@@ -6,3 +6,4 @@ pub mod KeyLawLemmas
 pub mod CompileLemmas
 pub mod KeyEquality
 pub mod BorderLemmas
+pub mod KeySetLemmas

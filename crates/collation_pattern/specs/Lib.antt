@@ -2,6 +2,7 @@ pub mod SortKey
 pub mod Levels
 pub mod Border
 pub mod Borders
+pub mod KeySets
 pub mod PatternFaults
 pub mod KeyLaw
 pub mod LevelWeights

@@ -8,6 +8,7 @@
 mod borders;
 mod compile;
 mod faults;
+mod key_set;
 pub mod laws;
 mod level_weights;
 mod pattern;

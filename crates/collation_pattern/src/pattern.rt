@@ -6,6 +6,7 @@ ghost use Rattle.collation_pattern.specs.Levels.{levels};
 use crate::borders::{borders_of, state_after};
 use crate::compile::keys_of_pattern;
 use crate::faults::PatternFault;
+use crate::key_set::{PLACES, key_set, place_of};
 use crate::level_weights::same_levels;
 use collation_elements::{Key, Strength, Variable};
 use collation_table::Weights;
@@ -18,6 +19,8 @@ pub struct Pattern {
     keys: Vec<Key>,
     /// The table of borders of the keys.
     borders: Vec<usize>,
+    /// The set of the keys.
+    set: [bool; PLACES],
     strength: Strength,
     variable: Variable,
 }
@@ -26,6 +29,7 @@ impl Model for Pattern {
     ghost use Rattle.std.specs.Prelude.{◌≡◌, ◌≤◌, length};
     ghost use Rattle.collation_pattern.specs.Compiled.{Compiled};
     ghost use Rattle.collation_pattern.specs.Borders.{AreBorders};
+    ghost use Rattle.collation_pattern.specs.KeySets.{HasPlaces};
 
     ghost Value = { Compiled };
 
@@ -37,11 +41,12 @@ impl Model for Pattern {
 
     ghost invariant = { λ p. (1 ≤ length p.keys.items)
         × (length p.borders.items ≡ length p.keys.items)
-        × AreBorders p.keys.items p.borders.items };
+        × AreBorders p.keys.items p.borders.items
+        × HasPlaces p.keys.items p.set };
 }
 
 impl Pattern {
-    ghost use Rattle.std.specs.Prelude.{◌≡◌, ◌≢◌, ◌↔◌, ◌≤◌, List, [], ◌∷◌, ◌++◌, length, IsTrue, None, Some, IfOk, OnOk, IfErr};
+    ghost use Rattle.std.specs.Prelude.{◌≡◌, ◌≢◌, ◌↔◌, ◌≤◌, ℕ, List, [], ◌∷◌, ◌++◌, length, slice_get, IsTrue, false, None, Some, IfOk, OnOk, IfErr};
     ghost use Rattle.collation_elements.specs.declared.keys.Key.{Key};
     ghost use Rattle.collation_pattern.specs.Border.{border};
     ghost use Rattle.collation_pattern.specs.Levels.{levels, text_keys};
@@ -81,9 +86,11 @@ impl Pattern {
                 kind: PatternFault::MEMORY,
             });
         };
+        let set = key_set(&keys);
         Ok(Pattern {
             keys,
             borders,
+            set,
             strength,
             variable,
         })
@@ -116,6 +123,14 @@ impl Pattern {
         ensures { result.now ≡ self.now.keys }
     {
         self.keys.as_slice()
+    }
+
+    /// Whether the pattern may have a key: where it says no, the pattern does not have it. It looks once, however long the
+    /// pattern is.
+    pub fn may_have(&self, key: &Key) -> bool
+        ensures { result ≡ false → (place : ℕ) → slice_get self.now.keys place ≢ Some key.now }
+    {
+        self.set[place_of(key)]
     }
 
     /// How many keys at the beginning of the pattern end the keys of a text with one more key, from how many of them ended
