@@ -14,7 +14,7 @@ ghost use Rattle.collation_letters.specs.Symbols.{AreLastSymbols, listed};
 ghost use Rattle.collation_letters.specs.declared.letter.Role.TheVariants.{Steps as LeftToSteps, Plain};
 
 use crate::letter::{Letter, Role};
-use crate::symbols::{NO_SYMBOLS, Symbols, symbol_of};
+use crate::symbols::{Lengths, NO_SYMBOLS, Symbols, symbol_for};
 use collation_elements::{CharacterItems, Key, Variable, Weigher, Window, units_stay_apart};
 use collation_pattern::Pattern;
 use collation_table::Weights;
@@ -29,6 +29,23 @@ pub fn letter_of<W: Weights>(table: &W, pattern: &Pattern, window: &mut Window, 
     ensures window { window.new ≡ window.old }
     ensures letter { IsLetter (W.table table.now) pattern.now (c ∷ []) result }
 {
+    find_letter(table, pattern, Lengths::Short, window, c)
+}
+
+/// The letter of a character, where patterns of these lengths have symbols.
+pub(crate) fn find_letter<W: Weights>(
+    table: &W,
+    pattern: &Pattern,
+    lengths: Lengths,
+    window: &mut Window,
+    c: char,
+) -> Letter
+    requires empty { window.old.points ≡ [] }
+    requires open { window.old.has_ended ≡ false }
+    requires room { MOST_DECOMPOSITION ≤ window.old.capacity }
+    ensures window { window.new ≡ window.old }
+    ensures letter { IsLetter (W.table table.now) pattern.now (c ∷ []) result }
+{
     units_stay_apart();
     laws_of_decompositions();
     laws_of_points();
@@ -36,7 +53,9 @@ pub fn letter_of<W: Weights>(table: &W, pattern: &Pattern, window: &mut Window, 
     let points = points.as_slice();
     let is_closed = are_closed(table, points);
     let (role, symbols) = match items_of(table, pattern, window, points) {
-        Some((plain, after)) => role_and_symbols(pattern, points, is_closed, &plain, &after),
+        Some((plain, after)) => {
+            role_and_symbols(pattern, lengths, points, is_closed, &plain, &after)
+        }
         None => (Role::Steps, NO_SYMBOLS),
     };
     let letter = Letter {
@@ -127,6 +146,7 @@ pub(crate) fn items_of<W: Weights>(
 /// What a search does with points that have these items, and the symbols of their keys.
 pub(crate) fn role_and_symbols(
     pattern: &Pattern,
+    lengths: Lengths,
     points: &[Point],
     is_closed: bool,
     plain: &CharacterItems,
@@ -145,7 +165,7 @@ pub(crate) fn role_and_symbols(
     } else {
         Role::Steps
     };
-    match symbols_of(pattern, plain) {
+    match symbols_of(pattern, lengths, plain) {
         Some(symbols) => (role, symbols),
         None => (Role::Steps, NO_SYMBOLS),
     }
@@ -242,23 +262,28 @@ fn says_nothing(items: &CharacterItems, flag: bool) -> bool
 }
 
 /// The symbols of the keys among these items; `None` where one of them has none.
-fn symbols_of(pattern: &Pattern, items: &CharacterItems) -> Option<Symbols>
+fn symbols_of(pattern: &Pattern, lengths: Lengths, items: &CharacterItems) -> Option<Symbols>
     ensures { IfSome result (λ symbols.
         AreLastSymbols pattern.now.keys (character_keys items.now) (listed symbols)) }
 {
-    let symbols = with_key(pattern, NO_SYMBOLS, items.first)?;
-    let symbols = with_key(pattern, symbols, items.second)?;
-    with_key(pattern, symbols, items.third)
+    let symbols = with_key(pattern, lengths, NO_SYMBOLS, items.first)?;
+    let symbols = with_key(pattern, lengths, symbols, items.second)?;
+    with_key(pattern, lengths, symbols, items.third)
 }
 
 /// These symbols and that of a key, if there is one; `None` where it has none.
-fn with_key(pattern: &Pattern, symbols: Symbols, key: Option<Key>) -> Option<Symbols>
+fn with_key(
+    pattern: &Pattern,
+    lengths: Lengths,
+    symbols: Symbols,
+    key: Option<Key>,
+) -> Option<Symbols>
     ensures { IfSome result (λ all. (keys : List KeyValue)
         → AreLastSymbols pattern.now.keys keys (listed symbols)
         → AreLastSymbols pattern.now.keys (keys ++ option_to_list key) (listed all)) }
 {
     match key {
         None => Some(symbols),
-        Some(key) => symbols.with(symbol_of(pattern, &key)?),
+        Some(key) => symbols.with(symbol_for(pattern, lengths, &key)?),
     }
 }

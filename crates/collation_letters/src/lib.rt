@@ -26,4 +26,4 @@ pub use crate::laws::laws_of_symbols;
 pub use crate::letter::{Letter, Role, UNKNOWN};
 pub use crate::pairs::letter_of_pair;
 pub use crate::store::Letters;
-pub use crate::symbols::{FIRST, FOREIGN, NO_SYMBOL, Symbols, advance, symbol_of};
+pub use crate::symbols::{FIRST, FOREIGN, NO_SYMBOL, Symbols, advance, symbol_in, symbol_of};

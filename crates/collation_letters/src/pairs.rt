@@ -8,7 +8,7 @@ ghost use Rattle.collation_letters.specs.Letters.{IsLetter};
 
 use crate::finding::{are_apart, items_of, role_and_symbols};
 use crate::letter::{Letter, Role, UNKNOWN};
-use crate::symbols::NO_SYMBOLS;
+use crate::symbols::{Lengths, NO_SYMBOLS};
 use collation_elements::{Window, units_stay_apart};
 use collation_pattern::Pattern;
 use collation_table::Weights;
@@ -29,13 +29,31 @@ pub fn letter_of_pair<W: Weights>(
     ensures window { window.new ≡ window.old }
     ensures letter { IsLetter (W.table table.now) pattern.now (first ∷ second ∷ []) result }
 {
+    find_letter_of_pair(table, pattern, Lengths::Short, window, first, second)
+}
+
+/// The letter of two characters, where patterns of these lengths have symbols.
+pub(crate) fn find_letter_of_pair<W: Weights>(
+    table: &W,
+    pattern: &Pattern,
+    lengths: Lengths,
+    window: &mut Window,
+    first: char,
+    second: char,
+) -> Letter
+    requires empty { window.old.points ≡ [] }
+    requires open { window.old.has_ended ≡ false }
+    requires room { MOST_DECOMPOSITION ≤ window.old.capacity }
+    ensures window { window.new ≡ window.old }
+    ensures letter { IsLetter (W.table table.now) pattern.now (first ∷ second ∷ []) result }
+{
     units_stay_apart();
     let Some((one, other)) = points_of_pair(table, first, second) else {
         return UNKNOWN;
     };
     let points = [one, other];
     let (role, symbols) = match items_of(table, pattern, window, &points) {
-        Some((plain, after)) => role_and_symbols(pattern, &points, true, &plain, &after),
+        Some((plain, after)) => role_and_symbols(pattern, lengths, &points, true, &plain, &after),
         None => (Role::Steps, NO_SYMBOLS),
     };
     let letter = Letter {

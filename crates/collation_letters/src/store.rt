@@ -2,11 +2,12 @@
 ghost use Rattle.std.specs.Prelude.{◌≡◌, ◌≤◌, [], false};
 ghost use Rattle.nfd_points.specs.declared.limits.TheConstants.{MOST_DECOMPOSITION};
 
-use crate::finding::letter_of;
+use crate::finding::find_letter;
 use crate::letter::Letter;
 use crate::pair_places::PairPlaces;
-use crate::pairs::letter_of_pair;
+use crate::pairs::find_letter_of_pair;
 use crate::places::Places;
+use crate::symbols::Lengths;
 use collation_elements::Window;
 use collation_pattern::Pattern;
 use collation_table::Weights;
@@ -33,6 +34,8 @@ pub struct Letters {
     pairs: PairPlaces,
     /// How many letters were found, up to `MANY`.
     found: usize,
+    /// Of which lengths the patterns are whose keys have symbols.
+    lengths: Lengths,
     /// Room for the points of a character.
     window: Window,
     alloc: Global,
@@ -58,10 +61,36 @@ impl Letters {
         ensures { IfOk result (λ letters. (table : TableMap) (pattern : Compiled)
             → AreLetters table pattern letters) }
     {
+        Letters::with_lengths(alloc, table, Lengths::Short)
+    }
+
+    /// None is known yet. Letters are found for patterns of any length: those of [`Letters::new`] are left to the steps where the
+    /// pattern has more than 1,024 keys.
+    ///
+    /// # Errors
+    ///
+    /// Where memory was refused. That it is for no other reason no clause says.
+    pub fn for_long_patterns<W: Weights>(alloc: Global, table: &W) -> Result<Letters, AllocError>
+        ensures { IfOk result (λ letters. (table : TableMap) (pattern : Compiled)
+            → AreLetters table pattern letters) }
+    {
+        Letters::with_lengths(alloc, table, Lengths::Any)
+    }
+
+    /// None is known yet, where patterns of these lengths have symbols.
+    fn with_lengths<W: Weights>(
+        alloc: Global,
+        table: &W,
+        lengths: Lengths,
+    ) -> Result<Letters, AllocError>
+        ensures { IfOk result (λ letters. (table : TableMap) (pattern : Compiled)
+            → AreLetters table pattern letters) }
+    {
         Ok(Letters {
             places: Places::new(alloc, LAST_OF_FEW)?,
             pairs: PairPlaces::new(alloc),
             found: 0,
+            lengths,
             window: Window::with_capacity(alloc, table.longest_key())?,
             alloc,
         })
@@ -101,7 +130,7 @@ impl Letters {
         ensures letter { IsLetter (W.table table.now) pattern.now (c ∷ []) result }
     {
         self.count();
-        let letter = letter_of(table, pattern, &mut self.window, c);
+        let letter = find_letter(table, pattern, self.lengths, &mut self.window, c);
         self.places.keep(c, letter);
         letter
     }
@@ -138,7 +167,8 @@ impl Letters {
         ensures right { AreLetters (W.table table.now) pattern.now self.new }
         ensures letter { IsLetter (W.table table.now) pattern.now (first ∷ second ∷ []) result }
     {
-        let letter = letter_of_pair(table, pattern, &mut self.window, first, second);
+        let lengths = self.lengths;
+        let letter = find_letter_of_pair(table, pattern, lengths, &mut self.window, first, second);
         self.pairs.keep(self.alloc, first, second, letter);
         letter
     }

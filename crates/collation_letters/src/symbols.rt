@@ -21,8 +21,17 @@ pub const NO_SYMBOL: u8 = 255;
 /// How many keys at the beginning of a pattern have symbols.
 const MOST_SYMBOLS: usize = 254;
 
-/// How many keys a pattern may have, all of which are compared where a letter is found.
+/// How many keys of a pattern are compared at most where a letter is found.
 const MOST_KEYS: usize = 1_024;
+
+/// Of which lengths the patterns are whose keys have symbols.
+#[derive(Clone, Copy)]
+pub(crate) enum Lengths {
+    /// Up to `MOST_KEYS` keys.
+    Short,
+    /// Any number of keys.
+    Any,
+}
 
 /// Up to three symbols.
 #[derive(Clone, Copy, Debug, PartialEq, Eq)]
@@ -115,6 +124,42 @@ pub fn symbol_of(pattern: &Pattern, key: &Key) -> Option<u8>
         }
     }
     Some(FOREIGN)
+}
+
+/// The symbol of a key of a pattern of any length; `None` where the pattern has it first behind the keys that have symbols, or may have
+/// it behind those that are compared. Of most keys that the pattern does not have, one look says so.
+pub fn symbol_in(pattern: &Pattern, key: &Key) -> Option<u8>
+    ensures symbol { IfSome result (λ symbol. IsSymbol pattern.now.keys key.now symbol) }
+    ensures below { IfSome result (λ symbol. symbol < 255) }
+{
+    if !pattern.may_have(key) {
+        return Some(FOREIGN);
+    }
+    let keys = pattern.keys();
+    let compared = keys.len().min(MOST_KEYS);
+    for place in 0..compared {
+        if keys[place] == *key {
+            if place >= MOST_SYMBOLS {
+                return None;
+            }
+            return Some(place as u8 + 1);
+        }
+    }
+    if compared < keys.len() {
+        return None;
+    }
+    Some(FOREIGN)
+}
+
+/// The symbol of a key, where patterns of these lengths have symbols.
+pub(crate) fn symbol_for(pattern: &Pattern, lengths: Lengths, key: &Key) -> Option<u8>
+    ensures symbol { IfSome result (λ symbol. IsSymbol pattern.now.keys key.now symbol) }
+    ensures below { IfSome result (λ symbol. symbol < 255) }
+{
+    match lengths {
+        Lengths::Short => symbol_of(pattern, key),
+        Lengths::Any => symbol_in(pattern, key),
+    }
 }
 
 /// How many keys of the pattern have matched after a key with this symbol, where so many had before it.

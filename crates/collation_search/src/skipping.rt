@@ -57,7 +57,7 @@ impl Cache {
             → AreRight table pattern cache) }
     {
         Ok(Cache {
-            letters: Letters::new(alloc, table)?,
+            letters: Letters::for_long_patterns(alloc, table)?,
             skip: Skip::new(alloc),
             hold: FEWEST_HELD,
             alloc,

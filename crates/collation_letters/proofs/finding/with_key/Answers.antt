@@ -5,9 +5,9 @@ use Rattle.collation_letters.specs.Symbols.{AreLastSymbols, listed}
 use Rattle.collation_letters.proofs.SymbolLemmas.{last-one, some-map}
 use Rattle.collation_letters.proofs.finding.with_key.Goals as goal
 
-pub returns-in_ok-symbol_of-in-Some : goal.returns-in_ok-symbol_of-in-Some
-returns-in_ok-symbol_of-in-Some c =
+pub returns-in_ok-symbol_for-in-Some : goal.returns-in_ok-symbol_for-in-Some
+returns-in_ok-symbol_for-in-Some c =
     let pattern = c.args.pattern.now.keys in
     some-map c.with.result c.with.ensures (λ all h keys k.
     subst (λ (o : List Key). AreLastSymbols pattern (keys ++ o) (listed all)) (sym (ap option_to_list c.in-Some.is))
-    (h pattern keys (c.in-Some.key ∷ []) k (last-one pattern c.in-Some.key _ c.in_ok-symbol_of-in-Some.ensures.symbol)))
+    (h pattern keys (c.in-Some.key ∷ []) k (last-one pattern c.in-Some.key _ c.in_ok-symbol_for-in-Some.ensures.symbol)))

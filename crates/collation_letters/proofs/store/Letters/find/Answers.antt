@@ -4,4 +4,4 @@ pub returns-clause-right : goal.returns-clause-right
 returns-clause-right g c =
     let table = g.W.Weights.table c.args.table.now in
     let counted = c.count.ensures table c.args.pattern.now c.requires in
-    (c.keep.ensures table c.args.pattern.now counted.0 c.letter_of-letter.ensures.letter, counted.1)
+    (c.keep.ensures table c.args.pattern.now counted.0 c.find_letter-letter.ensures.letter, counted.1)

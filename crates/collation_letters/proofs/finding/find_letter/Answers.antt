@@ -7,8 +7,8 @@ use Rattle.collation_letters.specs.declared.letter.Role.TheVariants.{Steps, Plai
 use Rattle.collation_letters.specs.Finding.{HasRole}
 use Rattle.collation_letters.specs.Symbols.{AreLastSymbols, listed}
 use Rattle.collation_letters.proofs.LetterLemmas.{closed-alone, from-one, known-at, letter-at, few-points, some-points}
-use Rattle.collation_letters.proofs.finding.letter_of.Goals.{in-Some, in-None}
-use Rattle.collation_letters.proofs.finding.letter_of.Goals as goal
+use Rattle.collation_letters.proofs.finding.find_letter.Goals.{in-Some, in-None}
+use Rattle.collation_letters.proofs.finding.find_letter.Goals as goal
 
 steps_or_plain : ◌≡◌ {A = Role} Steps Plain → ⊥
 steps_or_plain h = cc

@@ -7,8 +7,8 @@ use Rattle.collation_letters.specs.Finding.{HasRole}
 use Rattle.collation_letters.specs.Symbols.{AreLastSymbols, listed}
 use Rattle.collation_letters.proofs.LetterLemmas.{known-at, letter-at}
 use Rattle.collation_letters.proofs.PairLemmas.{class-pair, closed-pair, in_order-pair}
-use Rattle.collation_letters.proofs.pairs.letter_of_pair.Goals.{in-Some-items_of, in-None}
-use Rattle.collation_letters.proofs.pairs.letter_of_pair.Goals as goal
+use Rattle.collation_letters.proofs.pairs.find_letter_of_pair.Goals.{in-Some-items_of, in-None}
+use Rattle.collation_letters.proofs.pairs.find_letter_of_pair.Goals as goal
 
 steps_or_plain : ◌≡◌ {A = Role} Steps Plain → ⊥
 steps_or_plain h = cc
