@@ -4,7 +4,7 @@ use crate::calls::{
     KEPT, ONE, SHIFTED, Settings, TABLE, TWO, compile, put, repeated, table_of, text_is,
 };
 use collation_elements::{Key, Strength};
-use collation_letters::{Letter, Letters, symbol_of};
+use collation_letters::{Letter, Letters, symbol_in, symbol_of};
 use collation_pattern::Pattern;
 use collation_table::Table;
 use std::alloc::{AllocError, Global};
@@ -164,6 +164,58 @@ fn symbols_of_keys(rt: HostRuntime) {
     letter_is(&rt, rt.alloc(), unknown, "Steps");
     let three = letter(&rt, rt.alloc(), ("ab", ONE, KEPT), 'x');
     letter_is(&rt, rt.alloc(), three, "Base 0 1 2;");
+}
+
+/// A key that has the place of `A` in the set of a pattern's keys.
+const LIKE_A: Key = Key::Primary(0x2000, 0, 0);
+
+/// So many letters `a`, a key, whether the pattern may have it, and its symbol in a pattern of any length.
+const LONG: [(usize, Key, bool, Option<u8>); 6] = [
+    (1_024, A, true, Some(1)),
+    (1_024, B, false, Some(0)),
+    (1_024, LIKE_A, true, Some(0)),
+    (1_025, A, true, Some(1)),
+    (1_025, B, false, Some(0)),
+    (1_025, LIKE_A, true, None),
+];
+
+/// The letters of three characters to a pattern of any length, unless memory is refused.
+fn try_long(alloc: Global, table: &Table, pattern: &Pattern) -> Result<[Letter; 3], AllocError> {
+    let mut letters = Letters::for_long_patterns(alloc, table)?;
+    let first = letters.letter(table, pattern, 'a');
+    let foreign = letters.letter(table, pattern, 'b');
+    let together = letters.pair(table, pattern, 'c', 'h');
+    Ok([first, foreign, together])
+}
+
+#[test]
+fn symbols_of_long_patterns(rt: HostRuntime) {
+    let table = table_with_more(&rt, rt.alloc());
+    for (count, key, may_have, want) in &LONG {
+        let text = repeated(&rt, rt.alloc(), "a", *count);
+        let pattern = compile(&rt, rt.alloc(), &table, (text.as_str(), ONE, KEPT));
+        assert_eq!(rt; pattern.may_have(key), *may_have, "{key:?} of {count}");
+        assert_eq!(rt; symbol_in(&pattern, key), *want, "{key:?} of {count}");
+    }
+    let text = repeated(&rt, rt.alloc(), "a", 1_025);
+    let pattern = compile(&rt, rt.alloc(), &table, (text.as_str(), ONE, KEPT));
+    let [first, foreign, together] = try_long(rt.alloc(), &table, &pattern).expect(
+        &rt,
+        "the letters",
+    );
+    letter_is(&rt, rt.alloc(), first, "Plain 255 255 1; 1/0; closed apart");
+    letter_is(
+        &rt,
+        rt.alloc(),
+        foreign,
+        "Plain 255 255 0; 1/0; closed apart",
+    );
+    letter_is(
+        &rt,
+        rt.alloc(),
+        together,
+        "Plain 255 255 0; 2/0; closed apart",
+    );
 }
 
 /// A character with marks behind it, and its letter to a pattern with the keys of `e` and of U+0301; none where one of them does not
