@@ -158,7 +158,7 @@ impl<'a, W: Weights> Search<'a, W> {
         Ok(())
     }
 
-    /// How far letters of a piece are taken, in bytes.
+    /// How far letters of a piece are taken, in bytes: nowhere where none are found.
     fn reach(&mut self, piece: &[u8]) -> usize
         requires none { self.old.fault ≡ None }
         ensures taken { Takes self.old 0 [] (Ok tt) [] self.new }
@@ -166,6 +166,9 @@ impl<'a, W: Weights> Search<'a, W> {
             → max 2 (longest_mapped (sought self.old).table) ≤ starters_from (length u + result)
             (chars (whole (u ++ piece.now))) }
     {
+        if !self.cache.finds_letters {
+            return 0;
+        }
         reach(&self.query, &mut self.cache.letters, piece)
     }
 

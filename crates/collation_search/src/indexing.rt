@@ -20,6 +20,9 @@ const FIRST_PIECE: usize = 64;
 
 const LONGEST_PIECE: usize = 4_096;
 
+/// The most bytes of a text that goes by steps alone where the search is made for it, and no letter serves another text.
+const SHORT_TEXT: usize = 128;
+
 /// The first range of the answer to a text, if there is one, though a fault may stand after it: its start and its end, in
 /// bytes from the beginning of the text, the end not included. The pattern was compiled with this table.
 ///
@@ -45,6 +48,7 @@ pub fn index<W: Weights>(
             offset: 0,
         });
     };
+    search.cache.finds_letters = text.len() > SHORT_TEXT;
     search.first_in(text)
 }
 
@@ -79,6 +83,7 @@ pub fn index_from<W: Weights>(
             offset: 0,
         });
     };
+    search.cache.finds_letters = text.len().saturating_sub(from) > SHORT_TEXT;
     search.first_from(text, from)
 }
 

@@ -26,6 +26,8 @@ pub(crate) struct Cache {
     pub(crate) skip: Skip,
     /// How many bytes are walked over before text is passed by: few where that was worth it, more where it was not.
     pub(crate) hold: usize,
+    /// Whether letters are found at all: for one short text they cost more than the steps that they save.
+    pub(crate) finds_letters: bool,
     /// The allocator of the search.
     pub(crate) alloc: Global,
 }
@@ -60,6 +62,7 @@ impl Cache {
             letters: Letters::for_long_patterns(alloc, table)?,
             skip: Skip::new(alloc),
             hold: FEWEST_HELD,
+            finds_letters: true,
             alloc,
         })
     }
