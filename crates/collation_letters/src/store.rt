@@ -1,4 +1,4 @@
-//! The letters that were found: a cache. It begins small, so that a new one costs little, and grows where many were found.
+//! The letters that were found: a cache. It begins with one place, so that a new one costs little, and grows where letters are found.
 ghost use Rattle.std.specs.Prelude.{◌≡◌, ◌≤◌, [], false};
 ghost use Rattle.nfd_points.specs.declared.limits.TheConstants.{MOST_DECOMPOSITION};
 
@@ -13,7 +13,9 @@ use collation_pattern::Pattern;
 use collation_table::Weights;
 use std::alloc::{AllocError, Global};
 
-/// The greatest number of a place, at first, where some letters were found, and where many were.
+/// The greatest number of a place, at first, where a letter was found, where some were, and where many were.
+const LAST_OF_NONE: usize = 0;
+
 const LAST_OF_FEW: usize = 255;
 
 const LAST_OF_SOME: usize = 4_095;
@@ -87,7 +89,7 @@ impl Letters {
             → AreLetters table pattern letters) }
     {
         Ok(Letters {
-            places: Places::new(alloc, LAST_OF_FEW)?,
+            places: Places::new(alloc, LAST_OF_NONE)?,
             pairs: PairPlaces::new(alloc),
             found: 0,
             lengths,
@@ -173,7 +175,7 @@ impl Letters {
         letter
     }
 
-    /// Counts a letter that is found. Where these are many, it goes on with more places, if there is memory.
+    /// Counts a letter that is found. Where it is the first, or these are many, it goes on with more places, if there is memory.
     fn count(&mut self)
         ensures { (table : TableMap) (pattern : Compiled) → AreLetters table pattern self.old
             → AreLetters table pattern self.new }
@@ -183,6 +185,7 @@ impl Letters {
         }
         self.found += 1;
         let last = match self.found {
+            1 => LAST_OF_FEW,
             SOME => LAST_OF_SOME,
             MANY => LAST_OF_MANY,
             _ => return,
