@@ -1,5 +1,5 @@
 -- What blocks that pass say of the bytes of a piece.
-use Rattle.std.proofs.Common.{◌≡◌, ◌∙◌, ℕ, suc, ◌+◌, ◌-◌, ◌/◌, ◌%◌, ◌≤◌, ◌<◌, List, length, slice_index, get_or, subst, ap, arith, inl, inr, bit_and}
+use Rattle.std.proofs.Common.{◌≡◌, ◌∙◌, ℕ, suc, ◌+◌, ◌-◌, ◌/◌, ◌%◌, ◌≤◌, ◌<◌, max, List, length, slice_index, get_or, subst, ap, arith, inl, inr, bit_and}
 use Rattle.std.proofs.lemmas.Bool.{cases_lt}
 use Rattle.collation_skip.specs.Lanes.{HasLanes}
 use Rattle.collation_skip.specs.declared.classes.Classes.{Classes}
@@ -29,6 +29,29 @@ passes-more classes bytes len lanes some within p block = record {
           let last : len + k - 1 ≡ i = omega (arith, behind) in
           subst (λ j. PassesBehind classes (get_or bytes i 0) (get_or bytes j 0)) there
           (subst (λ j. PassesBehind classes (get_or bytes j 0) (get_or bytes (len + k) 0)) last (block k (omega (arith, behind, less))))
+    ]
+
+-- a block that begins amid the bytes that pass
+pub passes-over : (classes : Classes) (bytes : List ℕ) (len at lanes n : ℕ) → 1 ≤ at → at ≤ len → at + lanes ≤ length bytes → len ≤ n → n ≤ max len (at + lanes) → Passes classes bytes len →
+    ((k : ℕ) → k < lanes → PassesBehind classes (get_or bytes (at + k - 1) 0) (get_or bytes (at + k) 0)) → Passes classes bytes n
+passes-over classes bytes len at lanes n some amid within more most p block =
+    let long = p.within in
+    record {
+      within = omega (arith, long, within, most);
+      ascii = λ _. p.ascii (omega (arith, some, amid));
+      going = λ _. p.going (omega (arith, some, amid));
+      each = λ i less. here i less;
+    }
+  where
+    here : (i : ℕ) → suc i < n → PassesBehind classes (get_or bytes i 0) (get_or bytes (suc i) 0)
+    here i less = elim (cases_lt (suc i) len) [
+      | inl before ↦ p.each i before
+      | inr behind ↦
+          let k = suc i - at in
+          let there : at + k ≡ suc i = omega (arith, behind, amid) in
+          let last : at + k - 1 ≡ i = omega (arith, behind, amid) in
+          subst (λ j. PassesBehind classes (get_or bytes i 0) (get_or bytes j 0)) there
+          (subst (λ j. PassesBehind classes (get_or bytes j 0) (get_or bytes (at + k) 0)) last (block k (omega (arith, behind, less, most, amid))))
     ]
 
 -- the first n bytes of two blocks, the lanes of which are loaded from around `at`

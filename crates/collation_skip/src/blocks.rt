@@ -63,7 +63,8 @@ pub(crate) fn pass_blocks<W: Weights>(
     })
 }
 
-/// How many bytes at the front of a piece pass, up to `limit`: the first one, blocks of sixteen behind it, and the last few one by one.
+/// How many bytes at the front of a piece pass, up to `limit`: the first one, and blocks of sixteen behind it, the last of which may begin
+/// amid the one before.
 #[inline(never)]
 fn passed_len(classes: &Classes, piece: &[u8], limit: usize) -> usize
     requires { limit ≤ length piece.now }
@@ -85,7 +86,7 @@ fn passed_len(classes: &Classes, piece: &[u8], limit: usize) -> usize
         len += 16;
     }
     if limit - len < 16 {
-        return pass_bytes(classes, piece, len, limit);
+        return pass_end(classes, piece, len, limit);
     }
     len + lanes_that_pass(classes, piece, len)
 }
@@ -128,6 +129,24 @@ fn pass_by_keys(classes: &Classes, piece: &[u8], limit: usize) -> usize
         len += 32;
     }
     len
+}
+
+/// How many bytes at the front of a piece pass, up to `limit`, of which the first `from` do, and fewer than sixteen are left: by the last
+/// block, which begins amid those that pass, and one by one where the piece is too short for it.
+#[inline(always)]
+fn pass_end(classes: &Classes, piece: &[u8], from: usize, limit: usize) -> usize
+    requires limit { limit ≤ length piece.now }
+    requires from { (1 ≤ from) × (from ≤ limit) }
+    requires few { limit < from + 16 }
+    requires passes { Passes classes.now piece.now from }
+    ensures passes { Passes classes.now piece.now result }
+    ensures within { result ≤ limit }
+{
+    if limit < 17 {
+        return pass_bytes(classes, piece, from, limit);
+    }
+    let at = limit - 16;
+    from.max(at + lanes_that_pass(classes, piece, at))
 }
 
 /// How many bytes at the front of a piece pass, up to `limit`, of which the first `from` do.

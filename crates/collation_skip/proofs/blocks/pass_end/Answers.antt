@@ -1,0 +1,12 @@
+use Rattle.std.proofs.Common.{◌+◌, ◌-◌, max, arith}
+use Rattle.collation_skip.proofs.PassLemmas.{passes-over}
+use Rattle.collation_skip.proofs.blocks.pass_end.Goals as goal
+
+pub returns-clause-passes : goal.returns-clause-passes
+returns-clause-passes c =
+    let limit = c.requires.limit in
+    let few = c.requires.few in
+    let long = c.if-limit-lt17.false in
+    let lanes = c.lanes_that_pass.ensures.within in
+    passes-over c.args.classes.now c.args.piece.now c.args.from (c.args.limit - 16) c.lanes_that_pass.result _ (omega (arith, long)) (omega (arith, few, long)) (omega (arith, lanes, long, limit))
+    (omega arith) (omega arith) c.requires.passes c.lanes_that_pass.ensures.passes
