@@ -1,5 +1,6 @@
 -- What blocks that pass say of the bytes of a piece.
-use Rattle.std.proofs.Common.{◌≡◌, ◌∙◌, ℕ, suc, ◌+◌, ◌-◌, ◌/◌, ◌%◌, ◌≤◌, ◌<◌, max, List, length, slice_index, get_or, subst, ap, arith, inl, inr, bit_and}
+use Rattle.std.proofs.Common.{◌≡◌, ◌∙◌, ℕ, zero, suc, ◌+◌, ◌-◌, ◌/◌, ◌%◌, ◌≤◌, ◌<◌, max, List, ◌∷◌, ◌++◌, length, slice_index, get_or, subst, sym, ap, arith, inl, inr, bit_and}
+use Rattle.std.proofs.lemmas.List.{get_or_append_left, get_or-append-add}
 use Rattle.std.proofs.lemmas.Bool.{cases_lt}
 use Rattle.collation_skip.specs.Lanes.{HasLanes}
 use Rattle.collation_skip.specs.declared.classes.Classes.{Classes}
@@ -56,18 +57,18 @@ passes-over classes bytes len at lanes n some amid within more most p block =
 
 -- the first n bytes of two blocks, the lanes of which are loaded from around `at`
 pub two_pass : (classes : Classes) (bytes before here later_before later_here : List ℕ) (at n : ℕ) → 1 ≤ at → n ≤ 32
-    → HasLanes before (λ k. slice_index bytes (at - 1 + k)) → HasLanes here (λ k. slice_index bytes (at + k))
-    → HasLanes later_before (λ k. slice_index bytes (at + 15 + k)) → HasLanes later_here (λ k. slice_index bytes (at + 16 + k))
+    → ((k : ℕ) → k < 16 → slice_index before k ≡ slice_index bytes (at - 1 + k)) → ((k : ℕ) → k < 16 → slice_index here k ≡ slice_index bytes (at + k))
+    → ((k : ℕ) → k < 16 → slice_index later_before k ≡ slice_index bytes (at + 15 + k)) → ((k : ℕ) → k < 16 → slice_index later_here k ≡ slice_index bytes (at + 16 + k))
     → ((k : ℕ) → k < 16 → k < n → PassesBehind classes (slice_index before k) (slice_index here k))
     → ((k : ℕ) → k < 16 → 16 + k < n → PassesBehind classes (slice_index later_before k) (slice_index later_here k))
     → (k : ℕ) → k < n → PassesBehind classes (slice_index bytes (at + k - 1)) (slice_index bytes (at + k))
 two_pass classes bytes before here later_before later_here at n behind within has_before has_here has_later has_last first second k less =
     elim (cases_lt k 16) [
       | inl low ↦
-          passes_at classes bytes _ _ _ _ (at + k - 1) (at + k) (has_before.each k low) (has_here.each k low) (omega (arith, behind)) (omega arith) (first k low less)
+          passes_at classes bytes _ _ _ _ (at + k - 1) (at + k) (has_before k low) (has_here k low) (omega (arith, behind)) (omega arith) (first k low less)
       | inr high ↦
           let low : k - 16 < 16 = omega (arith, high, less, within) in
-          passes_at classes bytes _ _ _ _ (at + k - 1) (at + k) (has_later.each (k - 16) low) (has_last.each (k - 16) low) (omega (arith, behind, high)) (omega (arith, high))
+          passes_at classes bytes _ _ _ _ (at + k - 1) (at + k) (has_later (k - 16) low) (has_last (k - 16) low) (omega (arith, behind, high)) (omega (arith, high))
           (second (k - 16) low (omega (arith, high, less)))
     ]
   where
@@ -76,3 +77,16 @@ two_pass classes bytes before here later_before later_here at n behind within ha
     passes_at classes bytes before here i j m n is_before is_here same_before same_here passes =
         subst (λ v. PassesBehind classes v (slice_index bytes n)) (is_before ∙ ap (λ t. slice_index bytes t) same_before)
         (subst (λ v. PassesBehind classes before v) (is_here ∙ ap (λ t. slice_index bytes t) same_here) passes)
+
+-- a byte and the lanes that are loaded from behind it
+pub behind-one : (bytes here : List ℕ) (at : ℕ) → 1 ≤ at → ((k : ℕ) → k < 16 → slice_index here k ≡ slice_index bytes (at + k)) → (k : ℕ) → k < 16 →
+    slice_index (slice_index bytes (at - 1) ∷ here) k ≡ slice_index bytes (at - 1 + k)
+behind-one bytes here at some has zero less = ap (λ (j : ℕ). slice_index bytes j) (omega (arith))
+behind-one bytes here at some has (suc k) less = has k (omega (arith, less)) ∙ ap (λ (j : ℕ). slice_index bytes j) (omega (arith, some))
+
+-- the keys of the byte before and of those behind it, all but the last
+pub keys-one-back : (set : List ℕ) (before keys here : List ℕ) (byte : ℕ) → length before ≡ 16 → HasLanes keys (λ k. in_set set (slice_index here k)) → in_set set byte ≡ slice_index before 15 → (k : ℕ) → k < 16 →
+    slice_index (before ++ keys) (15 + k) ≡ in_set set (slice_index (byte ∷ here) k)
+keys-one-back set before keys here byte long has last zero less = get_or_append_left before keys 0 15 (omega (arith, long)) ∙ sym last
+keys-one-back set before keys here byte long has last (suc k) less =
+    ap (λ (j : ℕ). slice_index (before ++ keys) j) (omega (arith, long)) ∙ get_or-append-add before keys k 0 ∙ has.each k (omega (arith, less))

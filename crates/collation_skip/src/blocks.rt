@@ -5,12 +5,13 @@ ghost use Rattle.std.specs.Str.{chars, IsUtf8};
 ghost use Rattle.utf8_cut.specs.Sequences.{SpellsCharacter};
 ghost use Rattle.collation_letters.specs.Letters.{IsLetter};
 ghost use Rattle.collation_letters.specs.Store.{AreLetters};
-ghost use Rattle.collation_skip.specs.Blocks.{AreClassesRight, IsClean, KeysDecide, Passes, PassesBehind};
+ghost use Rattle.collation_skip.specs.Blocks.{AreClassesRight, IsClean, KeysDecide, Passes, PassesBehind, in_set as in_set_of};
 ghost use Rattle.collation_skip.specs.Passed.{IsPassed};
 
 use crate::classes::{Classes, in_set};
 use crate::lanes::{
-    is_zero, key_stops, keys_decide, load, stops, zeros_in_front, zeros_in_front_of_two,
+    is_zero, key_stops, keys_behind, keys_decide, keys_of, load, stops, zeros_in_front,
+    zeros_in_front_of_two,
 };
 use crate::passed::Passed;
 use collation_elements::{units_stay_apart, weighers_go_on};
@@ -18,6 +19,7 @@ use collation_letters::{FOREIGN, Letter, Letters, Role, laws_of_symbols};
 use collation_pattern::Pattern;
 use collation_table::Weights;
 use nfd_points::laws::{laws_of_decompositions, laws_of_faults, laws_of_ordering, laws_of_points};
+use std::simd::prelude::*;
 
 /// Passes by text of ASCII at the front of a piece, where no key waits, by right classes: at most `reach` bytes, and to the end of a
 /// character with a key that the pattern does not have. `None` where it finds no such character behind which it may stop.
@@ -111,7 +113,7 @@ fn pass_by_twos(classes: &Classes, piece: &[u8], limit: usize) -> usize
     len
 }
 
-/// The same where keys alone decide it.
+/// The same where keys alone decide it: then each byte is looked up once.
 #[inline(always)]
 fn pass_by_keys(classes: &Classes, piece: &[u8], limit: usize) -> usize
     requires keys { KeysDecide classes.now }
@@ -121,12 +123,14 @@ fn pass_by_keys(classes: &Classes, piece: &[u8], limit: usize) -> usize
     ensures within { (1 ≤ result) × (result ≤ limit) }
 {
     let mut len = 1;
+    let mut before = keys_behind(classes, piece[0]);
     while limit - len >= 32 {
-        let lanes = two_blocks_len_by_keys(classes, piece, len);
+        let (lanes, keys) = two_blocks_len_by_keys(classes, piece, len, before);
         if lanes < 32 {
             return len + lanes;
         }
         len += 32;
+        before = keys;
     }
     len
 }
@@ -203,20 +207,31 @@ fn two_blocks_len(classes: &Classes, bytes: &[u8], at: usize) -> usize
     zeros_in_front_of_two(first, second)
 }
 
-/// The same where keys alone decide it.
+/// The same where keys alone decide it, and the keys of the sixteen bytes before are known; and those of the last sixteen.
 #[inline(always)]
-fn two_blocks_len_by_keys(classes: &Classes, bytes: &[u8], at: usize) -> usize
+fn two_blocks_len_by_keys(
+    classes: &Classes,
+    bytes: &[u8],
+    at: usize,
+    before: u8x16,
+) -> (usize, u8x16)
     requires keys { KeysDecide classes.now }
     requires behind { 1 ≤ at }
     requires within { at + 32 ≤ length bytes.now }
-    ensures within { result ≤ 32 }
-    ensures passes { (k : ℕ) → k < result
+    requires before { in_set_of classes.now.key (slice_index bytes.now (at - 1)) ≡ slice_index before 15 }
+    ensures within { result.0 ≤ 32 }
+    ensures passes { (k : ℕ) → k < result.0
         → PassesBehind classes.now (slice_index bytes.now (at + k - 1))
         (slice_index bytes.now (at + k)) }
+    ensures last { in_set_of classes.now.key (slice_index bytes.now (at + 31)) ≡ slice_index result.1 15 }
 {
-    let first = key_stops(classes, load(bytes, at - 1), load(bytes, at));
-    let second = key_stops(classes, load(bytes, at + 15), load(bytes, at + 16));
-    zeros_in_front_of_two(first, second)
+    let first = load(bytes, at);
+    let second = load(bytes, at + 16);
+    let middle = keys_of(classes, first);
+    let last = keys_of(classes, second);
+    let stops_first = key_stops(classes, before, middle, first);
+    let stops_second = key_stops(classes, middle, last, second);
+    (zeros_in_front_of_two(stops_first, stops_second), last)
 }
 
 /// How many of the sixteen bytes from `at` on pass, behind the byte before them, up to the first one that does not.

@@ -1,9 +1,9 @@
 //! Vectors of sixteen bytes, lane by lane.
-ghost use Rattle.std.specs.Prelude.{◌≡◌, ℕ, ◌+◌, ◌%◌, ◌/◌, ◌<◌, ◌≤◌, min, true, length, slice_index, bit_and, bit_or};
+ghost use Rattle.std.specs.Prelude.{◌≡◌, ℕ, ◌+◌, ◌%◌, ◌/◌, ◌<◌, ◌≤◌, ◌∷◌, ◌++◌, min, true, length, slice_index, bit_and, bit_or};
 ghost use Rattle.collation_skip.specs.Blocks.{KeysDecide, PassesBehind, in_set};
 ghost use Rattle.collation_skip.specs.Lanes.{HasLanes};
 
-use crate::classes::{COLUMNS, Classes};
+use crate::classes::{COLUMNS, Classes, in_set};
 use std::simd::prelude::*;
 
 /// Sixteen bytes from `at` on.
@@ -34,15 +34,47 @@ pub(crate) fn stops(classes: &Classes, before: u8x16, here: u8x16) -> u8x16
     )
 }
 
-/// The same where keys alone decide it: two sets are looked up in place of five.
+/// Where keys alone decide it, not 0 in the lanes where a byte does not pass behind another. `keys` are those of the bytes, and `before`
+/// those of the sixteen bytes before them.
 #[inline(always)]
-pub(crate) fn key_stops(classes: &Classes, before: u8x16, here: u8x16) -> u8x16
-    ensures { KeysDecide classes.now → (k : ℕ) → k < 16 → slice_index result k ≡ 0
-        → PassesBehind classes.now (slice_index before k) (slice_index here k) }
+pub(crate) fn key_stops(classes: &Classes, before: u8x16, keys: u8x16, here: u8x16) -> u8x16
+    requires { HasLanes keys (λ k. in_set classes.now.key (slice_index here k)) }
+    ensures { KeysDecide classes.now → (byte : ℕ)
+        → in_set classes.now.key byte ≡ slice_index before 15
+        → (k : ℕ) → k < 16 → slice_index result k ≡ 0
+        → PassesBehind classes.now (slice_index (byte ∷ here) k) (slice_index here k) }
 {
-    let key = members(&classes.key, before, columns(before));
     let later = members(&classes.later, here, columns(here));
-    either(least(key, later), high_bits(here))
+    either(least(one_back(before, keys), later), high_bits(here))
+}
+
+/// Not 0 in the lanes of bytes that may have the pattern's key.
+#[inline(always)]
+pub(crate) fn keys_of(classes: &Classes, here: u8x16) -> u8x16
+    ensures { HasLanes result (λ k. in_set classes.now.key (slice_index here k)) }
+{
+    members(&classes.key, here, columns(here))
+}
+
+/// The keys of sixteen bytes, of which the last one is given.
+#[inline(always)]
+pub(crate) fn keys_behind(classes: &Classes, byte: u8) -> u8x16
+    ensures { in_set classes.now.key byte ≡ slice_index result 15 }
+{
+    u8x16::splat(in_set(&classes.key, byte))
+}
+
+/// The last lane of a vector, and all but the last one of another behind it.
+#[inline(always)]
+fn one_back(before: u8x16, here: u8x16) -> u8x16
+    ensures { HasLanes result (λ k. slice_index (before ++ here) (15 + k)) }
+{
+    before.shuffle(
+        here,
+        [
+            15, 16, 17, 18, 19, 20, 21, 22, 23, 24, 25, 26, 27, 28, 29, 30,
+        ],
+    )
 }
 
 /// Whether keys alone decide which bytes pass, as in a table without strings of letters of ASCII.

@@ -1,4 +1,5 @@
-use Rattle.std.proofs.Common.{arith}
+use Rattle.std.proofs.Common.{◌∙◌, ℕ, ap, slice_index, arith}
+use Rattle.collation_skip.specs.Blocks.{in_set}
 use Rattle.collation_skip.proofs.PassLemmas.{passes-more}
 use Rattle.collation_skip.proofs.blocks.pass_by_keys.Goals as goal
 
@@ -10,10 +11,12 @@ loop-len-preserved c =
     let test = c.loop-len-test.true in
     let limit = c.requires.limit in
     let many = c.if-lanes-lt32.false in
+    let two = c.two_blocks_len_by_keys-lanes.ensures in
     record {
       within = omega (arith, test, inside);
-      passes = passes-more c.args.classes.now c.args.piece.now c.loop-len.len 32 some (omega (arith, test, limit, inside)) i.passes (λ k less. c.two_blocks_len_by_keys-lanes.ensures.passes k (omega (arith, less, many)));
+      passes = passes-more c.args.classes.now c.args.piece.now c.loop-len.len 32 some (omega (arith, test, limit, inside)) i.passes (λ k less. two.passes k (omega (arith, less, many)));
       some = omega (arith, some);
+      keys = ap (λ (j : ℕ). in_set c.args.classes.now.key (slice_index c.args.piece.now j)) (omega (arith, some)) ∙ two.last;
     }
 
 pub returns-then-lanes-lt32-clause-passes : goal.returns-then-lanes-lt32-clause-passes
@@ -22,5 +25,6 @@ returns-then-lanes-lt32-clause-passes c =
     let inside = i.within in
     let test = c.loop-len-test.true in
     let limit = c.requires.limit in
-    let few = c.two_blocks_len_by_keys-lanes.ensures.within in
-    passes-more c.args.classes.now c.args.piece.now c.loop-len.len c.two_blocks_len_by_keys-lanes.result i.some (omega (arith, test, few, limit, inside)) i.passes c.two_blocks_len_by_keys-lanes.ensures.passes
+    let two = c.two_blocks_len_by_keys-lanes.ensures in
+    let few = two.within in
+    passes-more c.args.classes.now c.args.piece.now c.loop-len.len _ i.some (omega (arith, test, few, limit, inside)) i.passes two.passes

@@ -1,5 +1,5 @@
-use Rattle.std.specs.Prelude.{◌≤◌, ◌-◌}
-use Rattle.collation_skip.specs.Blocks.{Passes}
+use Rattle.std.specs.Prelude.{◌≡◌, ◌≤◌, ◌-◌, slice_index}
+use Rattle.collation_skip.specs.Blocks.{Passes, in_set}
 use Rattle.collation_skip.proofs.blocks.pass_by_keys.Given as goal
 
 abbrev pub invariant-loop-len : goal.invariant-loop-len
@@ -7,6 +7,7 @@ invariant-loop-len l = record {
   within : l.len ≤ l.limit;
   passes : Passes l.classes l.piece l.len;
   some : 1 ≤ l.len;
+  keys : in_set l.classes.key (slice_index l.piece (l.len - 1)) ≡ slice_index l.before 15;
 }
 
 abbrev pub decreases-loop-len : goal.decreases-loop-len
