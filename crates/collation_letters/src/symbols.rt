@@ -136,7 +136,12 @@ pub fn symbol_in(pattern: &Pattern, key: &Key) -> Option<u8>
         return Some(FOREIGN);
     }
     let keys = pattern.keys();
-    let compared = keys.len().min(MOST_KEYS);
+    // of a long pattern those that have symbols are enough: whatever stands behind them, the answer is `None`
+    let compared = if keys.len() > MOST_KEYS {
+        MOST_SYMBOLS
+    } else {
+        keys.len()
+    };
     for place in 0..compared {
         if keys[place] == *key {
             if place >= MOST_SYMBOLS {
