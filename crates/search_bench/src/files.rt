@@ -11,7 +11,7 @@ use collation_search::Search;
 use collation_table::{Table, Weights};
 
 /// How many files are searched.
-const FILES: usize = 60;
+const FILES: usize = 200;
 
 /// Reads a table and searches a text for a word, for each of some files.
 pub fn files(inputs: &mut Inputs<'_>, digest: &mut Digest) -> Result<()> {

@@ -110,8 +110,9 @@ fn text_of(inputs: &mut Inputs<'_>, name: &str, joined: usize) -> Result<Text> {
     Text::of_words(inputs.alloc, &listed, joined, size, &mut inputs.random)
 }
 
-/// Reads the table with some rows after its own.
-fn tailored(inputs: &Inputs<'_>, tailor: &str) -> Result<Table> {
+/// Reads another table of the shape, with some rows after its own.
+fn tailored(inputs: &mut Inputs<'_>, tailor: &str) -> Result<Table> {
+    inputs.table.vary(&mut inputs.random);
     Ok(Table::read_tailored(inputs.alloc, &inputs.table.bytes, tailor.as_bytes())?)
 }
 
@@ -154,7 +155,7 @@ pub fn plain(inputs: &mut Inputs<'_>, digest: &mut Digest) -> Result<()> {
             sought,
             strength,
             variable,
-            bytes: 600 * MEGABYTE,
+            bytes: 800 * MEGABYTE,
         };
         search_list(inputs, name, 0, &query, digest)?;
     }
@@ -168,7 +169,7 @@ pub fn scripts(inputs: &mut Inputs<'_>, digest: &mut Digest) -> Result<()> {
         "0063 0068 ; [.F100.0020.0002]\n",
         "czech",
         "jazyk",
-        30 * MEGABYTE,
+        60 * MEGABYTE,
         digest,
     )?;
     let table = tailored(inputs, "")?;
@@ -185,7 +186,7 @@ pub fn scripts(inputs: &mut Inputs<'_>, digest: &mut Digest) -> Result<()> {
         ("lao", 0, "ພາສາ"),
         ("japanese", 4, "検索"),
     ] {
-        let query = Query::plain(&table, sought, 30 * MEGABYTE);
+        let query = Query::plain(&table, sought, 60 * MEGABYTE);
         search_list(inputs, name, joined, &query, digest)?;
     }
     for (first, count) in [
@@ -217,11 +218,11 @@ fn search_characters(
 pub fn matches(inputs: &mut Inputs<'_>, digest: &mut Digest) -> Result<()> {
     let table = tailored(inputs, "")?;
     for (name, joined, sought, bytes) in [
-        ("english", 0, "e", 80 * MEGABYTE),
-        ("english", 0, "the", 80 * MEGABYTE),
-        ("english", 0, "tho", 80 * MEGABYTE),
-        ("letters", 2, "ab", 20 * MEGABYTE),
-        ("letters", 2, "aaaaaaaaaaaaaaab", 20 * MEGABYTE),
+        ("english", 0, "e", 160 * MEGABYTE),
+        ("english", 0, "the", 160 * MEGABYTE),
+        ("english", 0, "tho", 160 * MEGABYTE),
+        ("letters", 2, "ab", 40 * MEGABYTE),
+        ("letters", 2, "aaaaaaaaaaaaaaab", 40 * MEGABYTE),
     ] {
         let query = Query::plain(&table, sought, bytes);
         search_list(inputs, name, joined, &query, digest)?;

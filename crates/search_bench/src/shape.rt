@@ -102,10 +102,9 @@ impl TableText {
 
     /// Makes another table of it: each third weight that may vary gets another last digit.
     pub fn vary(&mut self, random: &mut Random) {
-        let turn = random.below(8);
-        for (number, place) in self.digits.iter().enumerate() {
+        for place in &self.digits {
             if let Some(digit) = self.bytes.get_mut(*place) {
-                *digit = b"23456789"[(turn ^ number) % 8];
+                *digit = b"23456789"[random.below(8)];
             }
         }
     }

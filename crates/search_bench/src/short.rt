@@ -139,7 +139,7 @@ fn save_and_resume(
             feed(&mut search, piece, SHORT_PIECE, digest)?;
             save(&mut search, &mut words)?;
         }
-        take_up(inputs, table, pattern, &words, digest)?;
+        take_up(inputs, table, pattern, &mut words, digest)?;
     }
     Ok(())
 }
@@ -152,18 +152,20 @@ fn save(search: &mut Search<'_, Table>, words: &mut Vec<u64>) -> Result<()> {
     Ok(())
 }
 
-/// Takes up a saved search many times, each time to feed it another word.
+/// Takes up a saved search many times, each time to feed it another word and to save it.
 fn take_up(
     inputs: &mut Inputs<'_>,
     table: &Table,
     pattern: &Pattern,
-    words: &[u64],
+    words: &mut Vec<u64>,
     digest: &mut Digest,
 ) -> Result<()> {
     for number in 0..200u64 {
         let mut search = Search::resume(inputs.alloc, table, pattern, words)?;
         let piece = [b'a'.wrapping_add((number % 26) as u8), b' '];
         feed(&mut search, &piece, SHORT_PIECE, digest)?;
+        words.clear();
+        search.save(words)?;
         digest.add(number);
     }
     Ok(())
