@@ -45,6 +45,11 @@ impl Places {
         })
     }
 
+    /// Whether there is one place for all characters.
+    pub(crate) fn are_one(&self) -> bool {
+        self.last == 0
+    }
+
     /// What is kept at the place of a character.
     #[inline(always)]
     pub(crate) fn at(&self, c: char) -> Kept

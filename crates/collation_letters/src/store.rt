@@ -22,6 +22,9 @@ const LAST_OF_SOME: usize = 4_095;
 
 const LAST_OF_MANY: usize = 65_535;
 
+/// How often 256 places are asked for where memory for them was refused: at each so manyth letter that is found.
+const OFTEN: usize = 32;
+
 /// How many letters are found before there are more places.
 const SOME: usize = 192;
 
@@ -175,7 +178,7 @@ impl Letters {
         letter
     }
 
-    /// Counts a letter that is found. Where it is the first, or these are many, it goes on with more places, if there is memory.
+    /// Counts a letter that is found. Where there is one place, or these are many, it goes on with more places, if there is memory.
     fn count(&mut self)
         ensures { (table : TableMap) (pattern : Compiled) → AreLetters table pattern self.old
             → AreLetters table pattern self.new }
@@ -185,10 +188,14 @@ impl Letters {
         }
         self.found += 1;
         let last = match self.found {
-            1 => LAST_OF_FEW,
             SOME => LAST_OF_SOME,
             MANY => LAST_OF_MANY,
-            _ => return,
+            found => {
+                if found % OFTEN != 1 || !self.places.are_one() {
+                    return;
+                }
+                LAST_OF_FEW
+            }
         };
         if let Ok(mut places) = Places::new(self.alloc, last) {
             places.keep_all(&self.places);

@@ -119,6 +119,9 @@ impl<'a, W: Weights> Search<'a, W> {
             × Feeds self.old piece.now result found self.new }
         ensures callable { F.IsAlwaysCallable sink.new }
     {
+        if let Some(fault) = self.reported() {
+            return Err(fault);
+        }
         let mut found = Found::new();
         self.feed_with(piece, &mut found, sink)
     }
