@@ -21,7 +21,7 @@ const FIRST_PIECE: usize = 64;
 const LONGEST_PIECE: usize = 4_096;
 
 /// The most bytes of a text that goes by steps alone where the search is made for it, and no letter serves another text.
-const SHORT_TEXT: usize = 128;
+const SHORT_TEXT: usize = 64;
 
 /// The first range of the answer to a text, if there is one, though a fault may stand after it: its start and its end, in
 /// bytes from the beginning of the text, the end not included. The pattern was compiled with this table.
