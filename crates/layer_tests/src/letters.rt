@@ -169,14 +169,21 @@ fn symbols_of_keys(rt: HostRuntime) {
 /// A key that has the place of `A` in the set of a pattern's keys.
 const LIKE_A: Key = Key::Primary(0x2000, 0, 0);
 
-/// So many letters `a`, a key, whether the pattern may have it, and its symbol in a pattern of any length.
-const LONG: [(usize, Key, bool, Option<u8>); 6] = [
-    (1_024, A, true, Some(1)),
-    (1_024, B, false, Some(0)),
-    (1_024, LIKE_A, true, Some(0)),
-    (1_025, A, true, Some(1)),
-    (1_025, B, false, Some(0)),
-    (1_025, LIKE_A, true, None),
+/// So many letters `a`, so many `b`, a key, whether the pattern may have it, and its symbol in a pattern of any length.
+const LONG: [(usize, usize, Key, bool, Option<u8>); 13] = [
+    (253, 1, B, true, Some(254)),
+    (254, 1, B, true, None),
+    (253, 771, B, true, Some(254)),
+    (254, 770, B, true, None),
+    (1_024, 0, A, true, Some(1)),
+    (1_024, 0, B, false, Some(0)),
+    (1_024, 0, LIKE_A, true, Some(0)),
+    (1_025, 0, A, true, Some(1)),
+    (1_025, 0, B, false, Some(0)),
+    (1_025, 0, LIKE_A, true, None),
+    (253, 772, B, true, Some(254)),
+    (254, 771, B, true, None),
+    (1_024, 1, B, true, None),
 ];
 
 /// The letters of three characters to a pattern of any length, unless memory is refused.
@@ -191,11 +198,15 @@ fn try_long(alloc: Global, table: &Table, pattern: &Pattern) -> Result<[Letter; 
 #[test]
 fn symbols_of_long_patterns(rt: HostRuntime) {
     let table = table_with_more(&rt, rt.alloc());
-    for (count, key, may_have, want) in &LONG {
-        let text = repeated(&rt, rt.alloc(), "a", *count);
+    for (count, more, key, may_have, want) in &LONG {
+        let mut text = repeated(&rt, rt.alloc(), "a", *count);
+        put(&rt, &mut text, &repeated(&rt, rt.alloc(), "b", *more));
         let pattern = compile(&rt, rt.alloc(), &table, (text.as_str(), ONE, KEPT));
         assert_eq!(rt; pattern.may_have(key), *may_have, "{key:?} of {count}");
         assert_eq!(rt; symbol_in(&pattern, key), *want, "{key:?} of {count}");
+        if pattern.len() <= 1_024 {
+            assert_eq!(rt; symbol_of(&pattern, key), *want, "{key:?} of {count}");
+        }
     }
     let text = repeated(&rt, rt.alloc(), "a", 1_025);
     let pattern = compile(&rt, rt.alloc(), &table, (text.as_str(), ONE, KEPT));
