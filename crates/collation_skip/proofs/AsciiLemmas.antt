@@ -34,6 +34,7 @@ use Rattle.collation_letters.proofs.LetterApart.{BeforeLaw}
 use Rattle.collation_skip.specs.declared.classes.Classes.{Classes}
 use Rattle.collation_skip.specs.Blocks.{in_set, items_at, StartsInFront, most, AreClassesRight, Passes}
 use Rattle.collation_skip.specs.Passed.{IsQuiet}
+use Rattle.collation_skip.proofs.LaneLemmas.{min-zero}
 
 abbrev pub GoesOnLaw : Type 0
 GoesOnLaw =
@@ -138,11 +139,6 @@ bytes-len (b ∷ bs) (suc n) within ascii =
     let rest = bytes-len bs n (omega (arith, within)) (λ i less. ascii (suc i) (omega (arith, less))) in
     omega (arith, one, rest)
 
-min-zero : (a b : ℕ) → min a b ≡ 0 → (a ≡ 0) ⊎ (b ≡ 0)
-min-zero zero b h = inl refl
-min-zero (suc a) zero h = inr refl
-min-zero (suc a) (suc b) h = absurd (omega (arith, h))
-
 -- no unit reaches from one character to the next
 pub ends-one : RunLaws → (table : TableMap) (at end c d : ℕ) → d < 128 → (AreClosed table (points_from 0 (c ∷ [])) ⊎ AreApart table (points_from 0 (d ∷ []))) → EndsBefore table (points_of at c) end d
 ends-one laws table at end c d less (inl closed) = λ x is more.
@@ -209,7 +205,21 @@ low-or-not-later table pattern classes start bytes total (suc n) p less h =
       | inr none ↦ inr none
     ]
 
--- the items of one character more
+-- the items of one character more, to which no unit reaches
+pub items-next : RunLaws → (table : TableMap) (pattern : Compiled) (start : ℕ) (cs : List ℕ) (c : ℕ) → EndsBefore table (points_from start cs) (start + byte_len cs) c →
+    let us = units table (points_from start cs) in
+    let flag = after_units table pattern.variable false us in
+    let at = start + byte_len cs in
+    (items_of table pattern.strength pattern.variable false (units table (points_from start (cs ++ c ∷ []))) ≡ items_of table pattern.strength pattern.variable false us ++ items_at table pattern flag at c)
+    × (after_units table pattern.variable false (units table (points_from start (cs ++ c ∷ []))) ≡ after_units table pattern.variable flag (units table (points_from at (c ∷ []))))
+items-next laws table pattern start cs c ends =
+    let us = units table (points_from start cs) in
+    let vs = units table (points_from (start + byte_len cs) (c ∷ [])) in
+    let all : units table (points_from start (cs ++ c ∷ [])) ≡ us ++ vs = units-next laws.points table start c cs [] (c ∷ []) refl ends in
+    let both = items-more laws.goes_on table pattern.strength pattern.variable us vs in
+    (ap (items_of table pattern.strength pattern.variable false) all ∙ both.0, ap (after_units table pattern.variable false) all ∙ both.1)
+
+-- the same of a byte of ASCII
 pub run-items-more : RunLaws → (table : TableMap) (pattern : Compiled) (start : ℕ) (bytes : List ℕ) (n : ℕ) → n < length bytes → EndsBefore table (points_from start (take n bytes)) (start + byte_len (take n bytes)) (get_or bytes n 0) →
     let us = units table (points_from start (take n bytes)) in
     let flag = after_units table pattern.variable false us in
@@ -217,14 +227,11 @@ pub run-items-more : RunLaws → (table : TableMap) (pattern : Compiled) (start 
     (run_items table pattern start bytes (suc n) ≡ run_items table pattern start bytes n ++ items_at table pattern flag at (get_or bytes n 0))
     × (after_units table pattern.variable false (units table (points_from start (take (suc n) bytes))) ≡ after_units table pattern.variable flag (units table (points_from at (get_or bytes n 0 ∷ []))))
 run-items-more laws table pattern start bytes n less ends =
-    let cs = take n bytes in
-    let c = get_or bytes n 0 in
-    let us = units table (points_from start cs) in
-    let vs = units table (points_from (start + byte_len cs) (c ∷ [])) in
-    let all : units table (points_from start (take (suc n) bytes)) ≡ us ++ vs =
-    ap (λ (t : List ℕ). units table (points_from start t)) (take-suc bytes n 0 less) ∙ units-next laws.points table start c cs [] (c ∷ []) refl ends in
-    let both = items-more laws.goes_on table pattern.strength pattern.variable us vs in
-    (ap (items_of table pattern.strength pattern.variable false) all ∙ both.0, ap (after_units table pattern.variable false) all ∙ both.1)
+    let more = take-suc bytes n 0 less in
+    let next = items-next laws table pattern start (take n bytes) (get_or bytes n 0) ends in (
+      ap (λ (t : List ℕ). items_of table pattern.strength pattern.variable false (units table (points_from start t))) more ∙ next.0,
+      ap (λ (t : List ℕ). after_units table pattern.variable false (units table (points_from start t))) more ∙ next.1,
+    )
 
 run-more : RunLaws → (table : TableMap) (pattern : Compiled) (classes : Classes) → AreClassesRight table pattern classes → (start : ℕ) (bytes : List ℕ) (total n : ℕ) → Passes classes bytes total → suc n < total → HasRun table pattern classes start bytes n →
     HasRun table pattern classes start bytes (suc n)

@@ -1,8 +1,10 @@
 -- What was passed of a text of ASCII, up to behind a character with a key that the pattern does not have.
-use Rattle.std.specs.Char.{len_utf8}
+use Rattle.std.specs.Char.{IsScalar, len_utf8}
 use Rattle.std.specs.Str.{IsAscii}
-use Rattle.std.proofs.Common.{◌≡◌, ◌∙◌, ℕ, suc, ◌+◌, ◌≤◌, ◌<◌, true, false, List, [], ◌∷◌, ◌++◌, length, take, get_or, inl, inr, refl, sym, ap, subst, arith}
-use Rattle.std.proofs.lemmas.Bool.{cases_lt}
+use Rattle.std.proofs.Common.{◌≡◌, ◌∙◌, ℕ, zero, suc, ◌+◌, ◌≤◌, ◌<◌, nat_lt, true, false, List, [], ◌∷◌, ◌++◌, length, take, drop, get_or, inl, inr, refl, sym, ap, subst, arith}
+use Rattle.std.proofs.lemmas.Bool.{cases_lt, cond-true, lt-ltb}
+use Rattle.std.proofs.lemmas.Str.{encode_ascii, len_utf8_ascii}
+use Rattle.utf8_cut.specs.Sequences.{SpellsCharacter}
 use Rattle.std.proofs.lemmas.List.{get_or-take, get_or_past, length-take-le}
 use Rattle.std.proofs.Math.Seq.{take-suc}
 use Rattle.nfd_points.specs.declared.points.Point.{Point}
@@ -34,6 +36,19 @@ ascii-take bytes n within ascii i = elim (cases_lt i n) [
   | inl less ↦ subst (λ b. b < 128) (sym (get_or-take n bytes i 0 less)) (ascii i less)
   | inr past ↦ (let long = length-take-le n bytes within in let e = get_or_past (take n bytes) i 0 (omega (arith, long, past)) in omega (arith, e))
 ]
+
+-- the byte at a place by itself
+one-byte : (bytes : List ℕ) (i : ℕ) → i < length bytes → take 1 (drop i bytes) ≡ get_or bytes i 0 ∷ []
+one-byte [] i less = absurd (omega (arith, less))
+one-byte (b ∷ bytes) zero less = refl
+one-byte (b ∷ bytes) (suc i) less = one-byte bytes i (omega (arith, less))
+
+ascii_scalar : (c : ℕ) → c < 128 → IsScalar c
+ascii_scalar c less = cond-true (nat_lt c 0xD800) true _ (lt-ltb c 0xD800 (omega (arith, less)))
+
+pub spells-ascii : (bytes : List ℕ) (i : ℕ) → i < length bytes → get_or bytes i 0 < 128 → SpellsCharacter (take (len_utf8 (get_or bytes i 0)) (drop i bytes)) (get_or bytes i 0)
+spells-ascii bytes i less ascii =
+    let c = get_or bytes i 0 in (ascii_scalar c ascii, ap (λ n. take n (drop i bytes)) (len_utf8_ascii c ascii) ∙ one-byte bytes i less ∙ sym (encode_ascii c ascii))
 
 begins-first : AsciiIsItself → (start : ℕ) (bytes : List ℕ) (n : ℕ) → 0 < length bytes → get_or bytes 0 0 < 128 → begins_with_starter (points_from start (take (suc n) bytes)) ≡ true
 begins-first law start [] n some less = absurd (omega (arith, some))

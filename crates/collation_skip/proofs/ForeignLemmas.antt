@@ -47,12 +47,15 @@ pub record AreQuiet (table : TableMap) (pattern : Compiled) (start : ℕ) (cs : 
   pub later : (at : ℕ) → Contains (items_from table pattern start cs) (ClusterStart at) → start ≤ at
 
 -- no characters
-pub quiet-none : (table : TableMap) (pattern : Compiled) (start c : ℕ) (l : Letter) → 0 < length pattern.keys → IsLetter table pattern (c ∷ []) l → IsClean l → AreQuiet table pattern start [] c
-quiet-none table pattern start c l some h clean =
+pub no-keys : (table : TableMap) (pattern : Compiled) (start : ℕ) → border pattern.keys (item_keys (items_from table pattern start [])) ≡ 0
+no-keys table pattern start =
+    ap (λ ps. border pattern.keys (item_keys (items_of table pattern.strength pattern.variable false (units table ps)))) (from_none start) ∙ none-ends pattern.keys
+
+pub quiet-begin : (table : TableMap) (pattern : Compiled) (start c : ℕ) → 0 < length pattern.keys → begins_with_starter (points_from 0 (c ∷ [])) ≡ true → AreQuiet table pattern start [] c
+quiet-begin table pattern start c some starter =
     let none : points_from start [] ≡ [] = from_none start in
     let nothing : items_from table pattern start [] ≡ [] = ap (λ ps. items_of table pattern.strength pattern.variable false (units table ps)) none in
-    let starter : begins_with_starter (points_from 0 (c ∷ [])) ≡ true = (h.known (plain-known l.role clean.0)).starter ∙ ap not_mark clean.0 in
-    let zero : border pattern.keys (item_keys (items_from table pattern start [])) ≡ 0 = ap (λ (l : List Item). border pattern.keys (item_keys l)) nothing ∙ none-ends pattern.keys in
+    let zero = no-keys table pattern start in
     record {
       begins = ap begins_with_starter none;
       is_next = next-none table start c starter;
@@ -60,6 +63,9 @@ quiet-none table pattern start c l some h clean =
       below = omega (arith, zero, some);
       later = λ at held. let contained = subst (λ (l : List Item). Contains l (ClusterStart at)) nothing held in let less = contained.1 in absurd (omega (arith, less));
     }
+
+quiet-none : (table : TableMap) (pattern : Compiled) (start c : ℕ) (l : Letter) → 0 < length pattern.keys → IsLetter table pattern (c ∷ []) l → IsClean l → AreQuiet table pattern start [] c
+quiet-none table pattern start c l some h clean = quiet-begin table pattern start c some ((h.known (plain-known l.role clean.0)).starter ∙ ap not_mark clean.0)
 
 -- where some were passed by
 pub quiet-passed : ForeignLaws → (table : TableMap) (pattern : Compiled) (start last : ℕ) (cs : List ℕ) (c : ℕ) → 0 < length pattern.keys → IsPassed table pattern start last cs c → AreQuiet table pattern start cs c
@@ -118,6 +124,10 @@ pub quiet-so_far : ForeignLaws → (table : TableMap) (pattern : Compiled) (piec
 quiet-so_far laws table pattern piece zero last c at l some h clean passed = subst (λ (cs : List ℕ). AreQuiet table pattern at cs c) (sym chars-nil) (quiet-none table pattern at c l some h clean)
 quiet-so_far laws table pattern piece (suc end) last c at l some h clean passed = quiet-passed laws table pattern at last (chars (take (suc end) piece)) c some (passed (omega arith))
 
+pub chars-on : (piece : List ℕ) (end len c : ℕ) → len ≡ len_utf8 c → IsUtf8 (take end piece) → SpellsCharacter (take (len_utf8 c) (drop end piece)) c → chars (take (end + len) piece) ≡ chars (take end piece) ++ c ∷ []
+chars-on piece end len c same text spelled =
+    chars-more piece end len text ∙ ap (λ (l : List ℕ). chars (take end piece) ++ l) (ap (λ n. chars (take n (drop end piece))) same ∙ (one_char (take (len_utf8 c) (drop end piece)) c spelled).1)
+
 -- one character more of a piece, wherever this stands
 pub passed-on : ForeignLaws → (table : TableMap) (pattern : Compiled) (piece : List ℕ) (end len c next at : ℕ) (l : Letter) → end + len ≤ length piece → len ≡ len_utf8 c → IsUtf8 (take end piece) →
     SpellsCharacter (take (len_utf8 c) (drop end piece)) c → AreQuiet table pattern at (chars (take end piece)) c → IsLetter table pattern (c ∷ []) l → IsClean l →
@@ -125,7 +135,7 @@ pub passed-on : ForeignLaws → (table : TableMap) (pattern : Compiled) (piece :
 passed-on laws table pattern piece end len c next at l within same text spelled quiet h clean apart =
     let cs = chars (take end piece) in
     let bytes = bytes-of piece end (omega (arith, within)) text in
-    let more : chars (take (end + len) piece) ≡ cs ++ c ∷ [] = chars-more piece end len text ∙ ap (λ (l : List ℕ). cs ++ l) (ap (λ n. chars (take n (drop end piece))) same ∙ (one_char (take (len_utf8 c) (drop end piece)) c spelled).1) in
+    let more : chars (take (end + len) piece) ≡ cs ++ c ∷ [] = chars-on piece end len c same text spelled in
     subst (λ (codes : List ℕ). IsPassed table pattern at (at + end) codes next) (sym more)
     (subst (λ n. IsPassed table pattern at (at + n) (cs ++ c ∷ []) next) bytes
     (passed-one laws table pattern at cs c next l quiet h clean (subst (λ n. IsNext table (at + n) (c ∷ []) next) (sym bytes) apart)))

@@ -1,5 +1,5 @@
 -- What the operations on vectors of sixteen bytes hold at each lane.
-use Rattle.std.proofs.Common.{◌≡◌, ◌∙◌, ℕ, ◌*◌, ◌/◌, ◌%◌, ◌^◌, ◌<◌, ◌≤◌, min, List, Bool, false, true, not, cond, eqb, ltb, length, get_or, map, replicate, refl, sym, ap, subst, arith, w8, w64, bit_and, bit_or, Fits, inl, inr}
+use Rattle.std.proofs.Common.{◌≡◌, ◌∙◌, ◌⊎◌, ℕ, zero, suc, ◌*◌, ◌/◌, ◌%◌, ◌^◌, ◌<◌, ◌≤◌, min, List, Bool, false, true, not, cond, eqb, ltb, length, get_or, map, replicate, refl, sym, ap, subst, arith, w8, w64, bit_and, bit_or, Fits, inl, inr}
 use Rattle.std.specs.Int.{bit_at, trailing_zeros}
 use Rattle.std.specs.Simd.Lanes.{zip2, sel_l, mask_l, Each1}
 use Rattle.std.proofs.lemmas.Simd.{length-zip2, get_or-zip2, get_or-replicate, length-sel_l, get_or-sel_l, length-swz_l, get_or-swz_l_below, swz_l, SwzOk, SwzOk-from_below, Each1-from_get_or, Each1-get_or, mask_l-lt, bit_mask_l}
@@ -72,6 +72,11 @@ least-lanes a b p q =
           ∙ ap (λ t. cond t (get_or a k 0) (get_or b k 0)) (get_or-zip2 ltb a b k 0 0 false (omega (arith, p, l)) (omega (arith, q, l)))
           ∙ least-is (get_or a k 0) (get_or b k 0);
     }
+
+pub min-zero : (a b : ℕ) → min a b ≡ 0 → (a ≡ 0) ⊎ (b ≡ 0)
+min-zero zero b h = inl refl
+min-zero (suc a) zero h = inr refl
+min-zero (suc a) (suc b) h = absurd (omega (arith, h))
 
 -- ---- the first lane that is not 0
 

@@ -13,3 +13,4 @@ pub mod LaneLemmas
 pub mod BlockLemmas
 pub mod ForeignLemmas
 pub mod PassLemmas
+pub mod TwoByteLemmas

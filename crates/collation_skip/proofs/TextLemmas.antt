@@ -2,15 +2,12 @@
 use Rattle.std.specs.Char.{len_utf8, encode_utf8}
 use Rattle.std.specs.Str.{all_scalars, chars, IsUtf8}
 use Rattle.std.specs.Prelude.{encode_utf8_all}
-use Rattle.std.proofs.Common.{◌≡◌, ◌∙◌, ℕ, ◌+◌, ◌≤◌, Bool, true, false, cond, eqb, ◌&&◌, ◌<◌, List, [], ◌∷◌, ◌++◌, length, take, drop, get_or, inl, inr, refl, sym, ap, ap₂, arith, append_assoc, length-append}
-use Rattle.std.proofs.lemmas.Bool.{and_parts, cases_Bool, cases_lt, cond-false, cond-true, eqb-true}
+use Rattle.std.proofs.Common.{◌≡◌, ◌∙◌, ℕ, ◌+◌, ◌≤◌, Bool, true, ◌&&◌, List, [], ◌∷◌, ◌++◌, length, take, drop, inl, inr, refl, sym, ap, ap₂, arith, append_assoc, length-append}
+use Rattle.std.proofs.lemmas.Bool.{and_parts, cases_lt}
 use Rattle.std.proofs.Math.Seq.{take-add}
 use Rattle.std.proofs.lemmas.List.{append-nil, length-take-le, take_at, take-take, drop_at, take-append-drop}
 use Rattle.std.proofs.lemmas.Str.{length-encode, encodes-chars, scalars-chars, chars_from_encodes, cons_from_encodes}
-use Rattle.std.specs.Int.{is_in_range}
-use Rattle.std.specs.Str.Lossy.{second_byte_min, second_byte_max}
 use Rattle.utf8_cut.specs.Sequences.{SpellsCharacter}
-use Rattle.utf8_cut.proofs.TableLemmas.{is_in}
 use Rattle.nfd_points.specs.Points.{byte_len}
 use Rattle.nfd_points.proofs.ByteLenLemmas.{byte_len_encoded}
 

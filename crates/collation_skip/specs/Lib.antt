@@ -5,4 +5,5 @@ pub mod Rows
 pub mod Runs
 pub mod Blocks
 pub mod Lanes
+pub mod TwoBytes
 pub mod Skips

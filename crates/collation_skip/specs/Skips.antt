@@ -4,7 +4,8 @@ use Rattle.collation_pattern.specs.Compiled.{Compiled}
 use Rattle.collation_skip.specs.declared.skip.Skip.{Skip}
 use Rattle.collation_skip.specs.Blocks.{AreBlocksRight}
 use Rattle.collation_skip.specs.Rows.{AreRight}
+use Rattle.collation_skip.specs.TwoBytes.{AreTwoByteBlocksRight}
 
--- the moves of the automaton and the classes of ASCII are right
+-- the moves of the automaton, the classes of ASCII and the sets of bytes are right
 abbrev pub IsSkipRight : TableMap → Compiled → Skip → Type 0
-IsSkipRight table pattern skip = AreRight table pattern skip.automaton × AreBlocksRight table pattern skip.blocks
+IsSkipRight table pattern skip = AreRight table pattern skip.automaton × AreBlocksRight table pattern skip.blocks × AreTwoByteBlocksRight table pattern skip.two_bytes

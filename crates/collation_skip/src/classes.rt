@@ -45,7 +45,7 @@ pub(crate) fn in_set(set: &[u8; 16], byte: u8) -> u8
 }
 
 /// Puts a byte into a set.
-fn put(set: &mut [u8; 16], byte: u8) {
+pub(crate) fn put(set: &mut [u8; 16], byte: u8) {
     set[(byte % 16) as usize] |= COLUMNS[(byte / 16) as usize];
 }
 

@@ -1,9 +1,11 @@
 //! Vectors of sixteen bytes, lane by lane.
 ghost use Rattle.std.specs.Prelude.{◌≡◌, ℕ, ◌+◌, ◌%◌, ◌/◌, ◌<◌, ◌≤◌, ◌∷◌, ◌++◌, min, true, length, slice_index, bit_and, bit_or};
 ghost use Rattle.collation_skip.specs.Blocks.{KeysDecide, PassesBehind, in_set};
+ghost use Rattle.collation_skip.specs.TwoBytes.{GoesOn, is_in, leads, trails};
 ghost use Rattle.collation_skip.specs.Lanes.{HasLanes};
 
 use crate::classes::{COLUMNS, Classes, in_set};
+use crate::two_byte_sets::{ByteSet, HIGH_COLUMNS, LEADS, TRAILS, TwoByteSets};
 use std::simd::prelude::*;
 
 /// Sixteen bytes from `at` on.
@@ -87,6 +89,40 @@ pub(crate) fn keys_decide(classes: &Classes) -> bool
     are_zero(halt, inner)
 }
 
+/// Not 0 in the lanes where a byte does not go on behind two others.
+#[inline(always)]
+pub(crate) fn stops_of_two(sets: &TwoByteSets, earlier: u8x16, before: u8x16, here: u8x16) -> u8x16
+    ensures { (k : ℕ) → k < 16 → slice_index result k ≡ 0
+        → GoesOn sets.now (slice_index earlier k) (slice_index before k) (slice_index here k) }
+{
+    let lead = high_halves(&LEADS, before);
+    let trail = high_halves(&TRAILS, here);
+    let halt = members_of_both(&sets.halt, here);
+    let later = members_of_both(&sets.later, here);
+    let near = members_of_both(&sets.key, before);
+    let far = members_of_both(&sets.key, earlier);
+    let waiting = either(near, least(lead, far));
+    either(either(halt, unlike(trail, lead)), least(waiting, later))
+}
+
+/// Not 0 in the lanes whose bytes are in a set of bytes of all kinds.
+#[inline(always)]
+fn members_of_both(set: &ByteSet, v: u8x16) -> u8x16
+    ensures { HasLanes result (λ k. is_in set.now (slice_index v k)) }
+{
+    let ascii = members(&set.ascii, v, columns(v));
+    let high = members(&set.high, v, high_halves(&HIGH_COLUMNS, v));
+    either(ascii, high)
+}
+
+/// Not 0 in the lanes in which two vectors differ.
+#[inline(always)]
+fn unlike(a: u8x16, b: u8x16) -> u8x16
+    ensures { (k : ℕ) → k < 16 → slice_index result k ≡ 0 → slice_index a k ≡ slice_index b k }
+{
+    a ^ b
+}
+
 #[inline(always)]
 fn either(a: u8x16, b: u8x16) -> u8x16
     ensures { HasLanes result (λ k. bit_or (slice_index a k) (slice_index b k)) }
@@ -157,7 +193,15 @@ pub(crate) fn zeros_in_front(v: u8x16) -> usize
 fn columns(v: u8x16) -> u8x16
     ensures { HasLanes result (λ k. slice_index COLUMNS (slice_index v k / 16)) }
 {
-    u8x16::from_array(COLUMNS).swizzle_dyn_within::<16>(v >> u8x16::splat(4))
+    high_halves(&COLUMNS, v)
+}
+
+/// What each lane's high half has in a table.
+#[inline(always)]
+fn high_halves(table: &[u8; 16], v: u8x16) -> u8x16
+    ensures { HasLanes result (λ k. slice_index table.now (slice_index v k / 16)) }
+{
+    u8x16::from_array(*table).swizzle_dyn_within::<16>(v >> u8x16::splat(4))
 }
 
 /// Not 0 in the lanes whose bytes are in a set.

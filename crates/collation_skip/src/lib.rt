@@ -26,6 +26,9 @@ mod passed;
 mod rows;
 mod skip;
 mod state;
+mod two_byte_blocks;
+mod two_byte_sets;
+mod two_bytes;
 
 pub use crate::ascii::AsciiBlocks;
 pub use crate::automaton::Automaton;

@@ -3,6 +3,7 @@ use crate::ascii::AsciiBlocks;
 use crate::automaton::Automaton;
 use crate::foreign::pass_foreign;
 use crate::passed::Passed;
+use crate::two_bytes::{Turn, TwoByteBlocks};
 use collation_letters::Letters;
 use collation_pattern::Pattern;
 use collation_table::Weights;
@@ -30,6 +31,7 @@ const LONGEST_REST: u32 = 255;
 pub struct Skip {
     pub(crate) automaton: Automaton,
     pub(crate) blocks: AsciiBlocks,
+    pub(crate) two_bytes: TwoByteBlocks,
     /// Whether the last text of ASCII passed in blocks.
     pays: bool,
     /// Whether the automaton came to the end of what it was asked last, and that was much: then few stops are expected.
@@ -58,6 +60,7 @@ impl Skip {
         Skip {
             automaton: Automaton::new(alloc),
             blocks: AsciiBlocks::new(),
+            two_bytes: TwoByteBlocks::new(),
             pays: false,
             is_calm: false,
             rest: 0,
@@ -91,6 +94,12 @@ impl Skip {
         ensures right { IsSkipRight (W.table table.now) pattern.now self.new }
         ensures letters { AreLetters (W.table table.now) pattern.now letters.new }
     {
+        let by_two = self
+            .two_bytes
+            .pass(table, pattern, letters, piece, reach, Turn::First);
+        if by_two.is_some() {
+            return by_two;
+        }
         let by_blocks = self.blocks.pass(table, pattern, letters, piece, reach);
         if is_worth(&by_blocks, WORTH_BLOCKS) {
             self.pays = true;
@@ -103,6 +112,12 @@ impl Skip {
             }
             return pass_foreign(pattern, letters, piece, reach);
         }
+        let by_two = self
+            .two_bytes
+            .pass(table, pattern, letters, piece, reach, Turn::Later);
+        if by_two.is_some() {
+            return by_two;
+        }
         let reach = if self.pays { reach.min(SHORT) } else { reach };
         self.pays = false;
         let by_automaton = self
@@ -113,6 +128,9 @@ impl Skip {
             self.is_calm = is_worth(&by_automaton, asked - LITTLE);
         }
         self.pace(is_worth(&by_automaton, WORTH_MOVES));
+        let passed = len_of(&by_automaton);
+        self.two_bytes
+            .choose(table, pattern, letters, piece, passed);
         if by_automaton.is_some() {
             return by_automaton;
         }
@@ -123,6 +141,7 @@ impl Skip {
     fn pace(&mut self, paid: bool)
         ensures automaton { self.new.automaton ≡ self.old.automaton }
         ensures blocks { self.new.blocks ≡ self.old.blocks }
+        ensures two_bytes { self.new.two_bytes ≡ self.old.two_bytes }
     {
         self.last_rest = if paid { 0 } else { next_rest(self.last_rest) };
         self.rest = self.last_rest;
@@ -139,5 +158,13 @@ fn is_worth(passed: &Option<Passed>, len: usize) -> bool {
     match passed {
         Some(passed) => passed.end >= len,
         None => false,
+    }
+}
+
+/// How many bytes were passed by.
+fn len_of(passed: &Option<Passed>) -> usize {
+    match passed {
+        Some(passed) => passed.end,
+        None => 0,
     }
 }

@@ -1,28 +1,15 @@
-use Rattle.std.specs.Char.{IsScalar, len_utf8}
-use Rattle.std.proofs.Common.{◌≡◌, ◌∙◌, ℕ, zero, suc, ◌+◌, ◌<◌, ◌≤◌, nat_lt, true, List, [], ◌∷◌, length, take, drop, get_or, inl, inr, refl, sym, ap, subst, arith}
-use Rattle.std.proofs.lemmas.Bool.{cases_lt, cond-true, lt-ltb}
-use Rattle.std.proofs.lemmas.Str.{encode_ascii, len_utf8_ascii, IsUtf8-from_ascii, chars-IsAscii}
+use Rattle.std.specs.Char.{len_utf8}
+use Rattle.std.proofs.Common.{◌≡◌, ℕ, suc, ◌+◌, ◌<◌, ◌≤◌, List, length, take, drop, get_or, inl, inr, sym, subst, arith}
+use Rattle.std.proofs.lemmas.Bool.{cases_lt}
+use Rattle.std.proofs.lemmas.Str.{len_utf8_ascii, IsUtf8-from_ascii, chars-IsAscii}
 use Rattle.utf8_cut.specs.Sequences.{SpellsCharacter}
 use Rattle.collation_letters.proofs.ApartLaws.{Laws}
 use Rattle.collation_skip.specs.declared.classes.Classes.{Classes}
 use Rattle.collation_skip.specs.Blocks.{Passes}
 use Rattle.collation_skip.specs.Passed.{IsPassed}
-use Rattle.collation_skip.proofs.BlockLemmas.{ascii-take, passed-of}
+use Rattle.collation_skip.proofs.BlockLemmas.{ascii-take, passed-of, spells-ascii}
 use Rattle.collation_skip.proofs.AsciiLemmas.{RunLaws, ascii-at}
 use Rattle.collation_skip.proofs.blocks.pass_blocks.Goals as goal
-
--- the byte at a place by itself
-one-byte : (bytes : List ℕ) (i : ℕ) → i < length bytes → take 1 (drop i bytes) ≡ get_or bytes i 0 ∷ []
-one-byte [] i less = absurd (omega (arith, less))
-one-byte (b ∷ bytes) zero less = refl
-one-byte (b ∷ bytes) (suc i) less = one-byte bytes i (omega (arith, less))
-
-ascii_scalar : (c : ℕ) → c < 128 → IsScalar c
-ascii_scalar c less = cond-true (nat_lt c 0xD800) true _ (lt-ltb c 0xD800 (omega (arith, less)))
-
-spells-ascii : (bytes : List ℕ) (i : ℕ) → i < length bytes → get_or bytes i 0 < 128 → SpellsCharacter (take (len_utf8 (get_or bytes i 0)) (drop i bytes)) (get_or bytes i 0)
-spells-ascii bytes i less ascii =
-    let c = get_or bytes i 0 in (ascii_scalar c ascii, ap (λ n. take n (drop i bytes)) (len_utf8_ascii c ascii) ∙ one-byte bytes i less ∙ sym (encode_ascii c ascii))
 
 -- the byte behind one that passes
 followed : (classes : Classes) (bytes : List ℕ) (total most start : ℕ) → Passes classes bytes total → most ≤ total → (0 < most → total ≤ most → (total < length bytes) × (get_or bytes total 0 < 128)) → start < most →

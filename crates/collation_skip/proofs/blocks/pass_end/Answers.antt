@@ -1,4 +1,4 @@
-use Rattle.std.proofs.Common.{◌+◌, ◌-◌, max, arith}
+use Rattle.std.proofs.Common.{◌-◌, arith}
 use Rattle.collation_skip.proofs.PassLemmas.{passes-over}
 use Rattle.collation_skip.proofs.blocks.pass_end.Goals as goal
 

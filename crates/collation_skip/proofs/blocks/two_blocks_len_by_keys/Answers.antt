@@ -1,4 +1,4 @@
-use Rattle.std.proofs.Common.{◌≡◌, ◌∙◌, ℕ, ◌+◌, ◌-◌, ◌<◌, ◌∷◌, slice_index, sym, ap, arith}
+use Rattle.std.proofs.Common.{◌≡◌, ◌∙◌, ℕ, ◌+◌, ◌-◌, ◌∷◌, slice_index, sym, ap, arith}
 use Rattle.collation_skip.specs.Blocks.{in_set}
 use Rattle.collation_skip.proofs.PassLemmas.{two_pass, behind-one}
 use Rattle.collation_skip.proofs.blocks.two_blocks_len_by_keys.Goals as goal

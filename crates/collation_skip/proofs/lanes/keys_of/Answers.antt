@@ -1,4 +1,3 @@
-use Rattle.std.proofs.Common.{arith}
 use Rattle.collation_skip.proofs.PassLemmas.{member}
 use Rattle.collation_skip.proofs.lanes.keys_of.Goals as goal
 

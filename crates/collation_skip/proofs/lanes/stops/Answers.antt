@@ -1,8 +1,5 @@
-use Rattle.std.proofs.Common.{◌≡◌, ◌∙◌, ℕ, ◌/◌, ◌%◌, ◌<◌, min, List, get_or, sym, ap, ap₂, arith, bit_and, bit_or, Fits, w8}
+use Rattle.std.proofs.Common.{◌≡◌, ◌∙◌, ℕ, ◌<◌, min, get_or, sym, ap₂, arith, bit_or, Fits, w8}
 use Rattle.std.proofs.lemmas.Simd.{Each1-get_or}
-use Rattle.collation_skip.specs.Lanes.{HasLanes}
-use Rattle.collation_skip.specs.Blocks.{in_set}
-use Rattle.collation_skip.specs.declared.classes.TheConstants.{COLUMNS}
 use Rattle.collation_skip.proofs.LaneLemmas.{or-left, or-right, below-high}
 use Rattle.collation_skip.proofs.PassLemmas.{member}
 use Rattle.collation_skip.proofs.lanes.stops.Goals as goal

@@ -1,0 +1,41 @@
+use Rattle.std.proofs.Common.{◌-◌, arith}
+use Rattle.collation_skip.proofs.TwoByteLemmas.{pass-begins, pass-more, pass-over}
+use Rattle.collation_skip.proofs.two_byte_blocks.going_len.Goals as goal
+
+pub loop-len-init : goal.loop-len-init
+loop-len-init c =
+    let many = c.if-limit-lt-FEWEST.false in
+    let within = c.requires in
+    record {
+      within = omega (arith, many);
+      passes = pass-begins c.args.sets.now c.args.piece.now (omega (arith, many, within)) (c.begins.ensures.going c.if-not-begins.false) (c.begins.ensures.begins c.if-not-begins.false) (c.goes_on.ensures c.if-not-goes_on.false);
+      some = omega arith;
+    }
+
+pub loop-len-preserved : goal.loop-len-preserved
+loop-len-preserved c =
+    let i = c.loop-len.invariant in
+    let some = i.some in
+    let test = c.loop-len-test.true in
+    record {
+      within = omega (arith, test);
+      passes = pass-more c.args.sets.now c.args.piece.now c.loop-len.len 16 some (omega (arith, test, c.requires)) i.passes (c.block_goes_on.ensures c.if-block_goes_on.true);
+      some = omega (arith, some);
+    }
+
+pub returns-then-limit-len-ge16-clause-passes : goal.returns-then-limit-len-ge16-clause-passes
+returns-then-limit-len-ge16-clause-passes c =
+    let i = c.loop-len.invariant in
+    let lanes = c.lanes_that_go_on.ensures.within in
+    pass-more c.args.sets.now c.args.piece.now c.loop-len.len c.lanes_that_go_on.result i.some (omega (arith, lanes, c.if-limit-len-ge16.true, c.requires, i.within)) i.passes c.lanes_that_go_on.ensures.passes
+
+pub returns-clause-passes : goal.returns-clause-passes
+returns-clause-passes c =
+    let i = c.loop-len.invariant in
+    let some = i.some in
+    let few = c.if-limit-len-ge16.false in
+    let many = c.if-limit-lt-FEWEST.false in
+    let lanes = c.lanes_that_go_on-2.ensures.within in
+    let within = i.within in
+    pass-over c.args.sets.now c.args.piece.now c.loop-len.len (c.args.limit - 16) c.lanes_that_go_on-2.result c.max.result (omega (arith, many)) (omega (arith, few, within)) (omega (arith, lanes, many, c.requires))
+    (omega (arith, c.max.ensures)) (omega (arith, c.max.ensures)) i.passes c.lanes_that_go_on-2.ensures.passes

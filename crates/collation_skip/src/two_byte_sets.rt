@@ -1,0 +1,325 @@
+//! Sets of bytes, for text of characters of one and of two bytes: what a search has to know of them to pass them in blocks. A leading
+//! byte is in no set but the one of those that halt: what is known of a character is known by its last byte, whatever its first one is.
+ghost use Rattle.std.specs.Prelude.{◌≡◌, ◌<◌, ◌≤◌, ◌∷◌, [], ℕ, length, false, true, IfSome};
+ghost use Rattle.collation_table.specs.Table.{TableMap};
+ghost use Rattle.collation_letters.specs.Letters.{IsLetter};
+ghost use Rattle.collation_letters.specs.Store.{AreLetters};
+ghost use Rattle.collation_skip.specs.TwoBytes.{AreRightOf, AreSetsRight, IsSetRight, is_in};
+
+use crate::classes::{in_set, put};
+use crate::kinds::{Kind, kind_of};
+use crate::two_byte_blocks::block_goes_on;
+use collation_letters::{Letter, Letters};
+use collation_pattern::Pattern;
+use collation_table::Weights;
+use utf8_cut::sized_character;
+
+/// The bit that each high half of a byte from 128 on has in a set.
+pub(crate) const HIGH_COLUMNS: [u8; 16] = [0, 0, 0, 0, 0, 0, 0, 0, 1, 2, 4, 8, 16, 32, 64, 128];
+
+/// Not 0 at the high halves of leading bytes.
+pub(crate) const LEADS: [u8; 16] = [0, 0, 0, 0, 0, 0, 0, 0, 0, 0, 0, 0, 255, 255, 255, 255];
+
+/// Not 0 at the high halves of trailing bytes.
+pub(crate) const TRAILS: [u8; 16] = [0, 0, 0, 0, 0, 0, 0, 0, 255, 255, 255, 255, 0, 0, 0, 0];
+
+/// How many places of a pattern are tried.
+const MOST_PLACES: usize = 8;
+
+/// How many bytes of a text a place is tried on.
+pub(crate) const SAMPLE: usize = 1_024;
+
+/// How many characters of a sample have to have a leading byte, so that this one is passed.
+const FEW: usize = 4;
+
+/// How many blocks of a sample may halt, so that blocks pay.
+const MOST_HALTS: usize = 16;
+
+/// A set of bytes: number l of the first half has bit h where the byte 16 h + l is in it, of the other half where 128 + 16 h + l is.
+#[derive(Clone, Copy, Debug)]
+pub(crate) struct ByteSet {
+    pub(crate) ascii: [u8; 16],
+    pub(crate) high: [u8; 16],
+}
+
+const NO_BYTES: ByteSet = ByteSet {
+    ascii: [0; 16],
+    high: [0; 16],
+};
+
+/// Sets of bytes, for a place of a pattern.
+#[derive(Clone, Copy, Debug)]
+pub(crate) struct TwoByteSets {
+    pub(crate) place: usize,
+    /// Of those that can't be passed.
+    pub(crate) halt: ByteSet,
+    /// Of those that end a character whose last key may be the pattern's at the place.
+    pub(crate) key: ByteSet,
+    /// Of those that end a character without a key, or whose last one may be the pattern's behind the place.
+    pub(crate) later: ByteSet,
+}
+
+impl ByteSet {
+    ghost use Rattle.std.specs.Prelude.{◌≡◌};
+    ghost use Rattle.collation_skip.specs.TwoBytes.{is_in};
+
+    /// Not 0 where a byte is in it.
+    #[inline(always)]
+    pub(crate) fn has(&self, byte: u8) -> u8
+        ensures { result ≡ is_in self.now byte }
+    {
+        let high = self.high[(byte % 16) as usize] & HIGH_COLUMNS[(byte / 16) as usize];
+        in_set(&self.ascii, byte) | high
+    }
+
+    /// Puts a byte into it.
+    fn put(&mut self, byte: u8) {
+        put(&mut self.ascii, byte);
+        self.high[(byte % 16) as usize] |= HIGH_COLUMNS[(byte / 16) as usize];
+    }
+}
+
+/// The sets for the place of the pattern at which the fewest blocks of a text halt; `None` where blocks do not pay, or the sets are not
+/// known to be right.
+pub(crate) fn sets_for<W: Weights>(
+    table: &W,
+    pattern: &Pattern,
+    letters: &mut Letters,
+    text: &[u8],
+) -> Option<TwoByteSets>
+    requires { AreLetters (W.table table.now) pattern.now letters.old }
+    ensures right { AreLetters (W.table table.now) pattern.now letters.new }
+    ensures sets { IfSome result (AreSetsRight (W.table table.now) pattern.now) }
+{
+    let count = pattern.keys().len();
+    let leads = leads_of(text)?;
+    if count == 0 {
+        return None;
+    }
+    let places = (count - 1).min(MOST_PLACES);
+    let mut best = sets_at(table, pattern, letters, &leads, 0);
+    let mut fewest = halts(&best, text);
+    for place in 1..places {
+        let sets = sets_at(table, pattern, letters, &leads, place);
+        let blocks = halts(&sets, text);
+        if blocks < fewest {
+            best = sets;
+            fewest = blocks;
+        }
+    }
+    if fewest <= MOST_HALTS && are_right(table, pattern, letters, &best) {
+        return Some(best);
+    }
+    None
+}
+
+/// The leading bytes of two that stand near the front of a text, but for seldom ones; `None` where there are none.
+fn leads_of(text: &[u8]) -> Option<ByteSet> {
+    let mut counts = [0; 32];
+    let mut leads = NO_BYTES;
+    let mut some = false;
+    for byte in text.iter().take(SAMPLE) {
+        if *byte >= 0xC0 && *byte < 0xE0 {
+            let count = &mut counts[(*byte % 32) as usize];
+            if *count == FEW {
+                leads.put(*byte);
+                some = true;
+            }
+            *count = count.saturating_add(1);
+        }
+    }
+    if some { Some(leads) } else { None }
+}
+
+/// The sets for a place of the pattern, where these leading bytes are passed.
+fn sets_at<W: Weights>(
+    table: &W,
+    pattern: &Pattern,
+    letters: &mut Letters,
+    leads: &ByteSet,
+    place: usize,
+) -> TwoByteSets
+    requires right { AreLetters (W.table table.now) pattern.now letters.old }
+    requires place { place < length pattern.now.keys }
+    ensures right { AreLetters (W.table table.now) pattern.now letters.new }
+    ensures place { result.place ≡ place }
+{
+    let mut sets = TwoByteSets {
+        place,
+        halt: NO_BYTES,
+        key: NO_BYTES,
+        later: NO_BYTES,
+    };
+    for byte in 0..128u8 {
+        let letter = letters.letter(table, pattern, byte as char);
+        add(&mut sets, byte, kind_of(pattern, &letter, place));
+    }
+    for lead in 192..255u8 {
+        if leads.has(lead) == 0 {
+            sets.halt.put(lead);
+        } else {
+            add_lead(table, pattern, letters, &mut sets, lead);
+        }
+    }
+    sets.halt.put(255);
+    sets
+}
+
+/// Adds the characters with a leading byte.
+fn add_lead<W: Weights>(
+    table: &W,
+    pattern: &Pattern,
+    letters: &mut Letters,
+    sets: &mut TwoByteSets,
+    lead: u8,
+)
+    requires right { AreLetters (W.table table.now) pattern.now letters.old }
+    requires place { sets.old.place < length pattern.now.keys }
+    ensures right { AreLetters (W.table table.now) pattern.now letters.new }
+    ensures place { sets.new.place ≡ sets.old.place }
+{
+    let place = sets.place;
+    for trail in 128..192u8 {
+        if let Some((c, _len)) = sized_character(&[lead, trail]) {
+            let letter = letters.letter(table, pattern, c);
+            add(sets, trail, kind_of(pattern, &letter, place));
+        }
+    }
+}
+
+/// Adds the last byte of a character of some kind.
+fn add(sets: &mut TwoByteSets, last: u8, kind: Kind)
+    ensures { sets.new.place ≡ sets.old.place }
+{
+    if kind.halt || kind.inner {
+        sets.halt.put(last);
+    }
+    if kind.key {
+        sets.key.put(last);
+    }
+    if kind.later {
+        sets.later.put(last);
+    }
+}
+
+/// How many blocks near the front of a text halt.
+fn halts(sets: &TwoByteSets, text: &[u8]) -> usize
+    ensures { result ≤ 1024 }
+{
+    let mut count = 0;
+    for block in 0..SAMPLE / 16 {
+        let at = 16 * block + 2;
+        if at + 16 <= text.len() && !block_goes_on(sets, text, at) {
+            count += 1;
+        }
+    }
+    count
+}
+
+/// Whether the sets are right.
+fn are_right<W: Weights>(
+    table: &W,
+    pattern: &Pattern,
+    letters: &mut Letters,
+    sets: &TwoByteSets,
+) -> bool
+    requires right { AreLetters (W.table table.now) pattern.now letters.old }
+    requires place { sets.now.place < length pattern.now.keys }
+    ensures right { AreLetters (W.table table.now) pattern.now letters.new }
+    ensures sets { result ≡ true → AreSetsRight (W.table table.now) pattern.now sets.now }
+{
+    if !are_right_of_one(table, pattern, letters, sets) {
+        return false;
+    }
+    for lead in 192..255u8 {
+        if !are_right_of_lead(table, pattern, letters, sets, lead) {
+            return false;
+        }
+    }
+    are_right_of_lead(table, pattern, letters, sets, 255)
+}
+
+/// Whether the sets are right for the characters of one byte.
+fn are_right_of_one<W: Weights>(
+    table: &W,
+    pattern: &Pattern,
+    letters: &mut Letters,
+    sets: &TwoByteSets,
+) -> bool
+    requires right { AreLetters (W.table table.now) pattern.now letters.old }
+    requires place { sets.now.place < length pattern.now.keys }
+    ensures right { AreLetters (W.table table.now) pattern.now letters.new }
+    ensures sets { result ≡ true → (c : ℕ) → c < 128 → is_in sets.now.halt c ≡ 0
+        → IsSetRight (W.table table.now) pattern.now sets.now c c }
+{
+    for byte in 0..128u8 {
+        if sets.halt.has(byte) != 0 {
+            continue;
+        }
+        let letter = letters.letter(table, pattern, byte as char);
+        if !is_right(pattern, sets, byte, &letter) {
+            return false;
+        }
+    }
+    true
+}
+
+/// Whether the sets are right for the characters of two bytes that have this leading byte, if it does not halt.
+fn are_right_of_lead<W: Weights>(
+    table: &W,
+    pattern: &Pattern,
+    letters: &mut Letters,
+    sets: &TwoByteSets,
+    lead: u8,
+) -> bool
+    requires right { AreLetters (W.table table.now) pattern.now letters.old }
+    requires place { sets.now.place < length pattern.now.keys }
+    ensures right { AreLetters (W.table table.now) pattern.now letters.new }
+    ensures sets { result ≡ true → is_in sets.now.halt lead ≡ 0
+        → (trail : ℕ) → 128 ≤ trail → trail < 192 → is_in sets.now.halt trail ≡ 0
+        → AreRightOf (W.table table.now) pattern.now sets.now lead trail }
+{
+    if sets.halt.has(lead) != 0 {
+        return true;
+    }
+    if lead < 194 || lead >= 224 {
+        return false;
+    }
+    for trail in 128..192u8 {
+        if sets.halt.has(trail) != 0 {
+            continue;
+        }
+        let Some((c, _len)) = sized_character(&[lead, trail]) else {
+            return false;
+        };
+        let letter = letters.letter(table, pattern, c);
+        if !is_right(pattern, sets, trail, &letter) {
+            return false;
+        }
+    }
+    true
+}
+
+/// Whether the sets are right for a character with this letter and this last byte, which does not halt.
+fn is_right(pattern: &Pattern, sets: &TwoByteSets, last: u8, letter: &Letter) -> bool
+    requires { sets.now.place < length pattern.now.keys }
+    ensures { result ≡ true → (table : TableMap) (c : ℕ)
+        → IsLetter table pattern.now (c ∷ []) letter.now
+        → IsSetRight table pattern.now sets.now last c }
+{
+    let kind = kind_of(pattern, letter, sets.place);
+    if kind.halt || kind.inner {
+        return false;
+    }
+    if !holds(&sets.key, last, kind.key) {
+        return false;
+    }
+    holds(&sets.later, last, kind.later)
+}
+
+/// Whether a byte is in a set if it must be.
+fn holds(set: &ByteSet, byte: u8, must: bool) -> bool
+    ensures { result ≡ true → is_in set.now byte ≡ 0 → must ≡ false }
+{
+    !must || set.has(byte) != 0
+}

@@ -1,0 +1,130 @@
+//! The blocks of characters of one and of two bytes of a search: leading bytes and a place of the pattern are chosen for them by a
+//! text that comes, where much of it was passed by the automaton.
+use crate::passed::Passed;
+use crate::two_byte_blocks::pass_two_bytes;
+use crate::two_byte_sets::{SAMPLE, TwoByteSets, sets_for};
+use collation_letters::Letters;
+use collation_pattern::Pattern;
+use collation_table::Weights;
+
+/// How many bytes the automaton passes by before sets are chosen: choosing them costs as much as so many.
+const FIRST_WAIT: usize = 131_072;
+
+/// The fewest bytes that are worth the passing.
+const WORTH: usize = 32;
+
+/// In how many bytes a character of two bytes is looked for, which tells that the next one will be met soon.
+const NEAR: usize = 256;
+
+/// Whether blocks of characters of two bytes are asked before those of ASCII, or after them.
+#[derive(Clone, Copy, Debug, PartialEq, Eq)]
+pub(crate) enum Turn {
+    First,
+    Later,
+}
+
+/// What passes text of characters of one and of two bytes in blocks, for one table and one pattern. Takes no memory.
+#[derive(Clone, Copy, Debug)]
+pub(crate) struct TwoByteBlocks {
+    pub(crate) sets: Option<TwoByteSets>,
+    /// How many bytes the automaton has still to pass by before sets are chosen again, and how many it had the last time.
+    left: usize,
+    wait: usize,
+    /// When they are asked: first where the last text that was passed had characters of two bytes.
+    turn: Turn,
+}
+
+impl TwoByteBlocks {
+    ghost use Rattle.std.specs.Prelude.{ℕ, ◌+◌, ◌≤◌, ◌∷◌, [], length, take, drop, IfSome};
+    ghost use Rattle.std.specs.Char.{len_utf8};
+    ghost use Rattle.std.specs.Str.{chars, IsUtf8};
+    ghost use Rattle.utf8_cut.specs.Sequences.{SpellsCharacter};
+    ghost use Rattle.collation_table.specs.Table.{TableMap};
+    ghost use Rattle.collation_pattern.specs.Compiled.{Compiled};
+    ghost use Rattle.collation_letters.specs.Letters.{IsLetter};
+    ghost use Rattle.collation_letters.specs.Store.{AreLetters};
+    ghost use Rattle.collation_skip.specs.Passed.{IsPassed};
+    ghost use Rattle.collation_skip.specs.TwoBytes.{AreTwoByteBlocksRight};
+
+    /// No sets are chosen yet.
+    pub(crate) fn new() -> TwoByteBlocks
+        ensures { (table : TableMap) (pattern : Compiled)
+            → AreTwoByteBlocksRight table pattern result }
+    {
+        TwoByteBlocks {
+            sets: None,
+            left: FIRST_WAIT,
+            wait: FIRST_WAIT,
+            turn: Turn::Later,
+        }
+    }
+
+    /// Passes by text at the front of a piece, where no key waits: at most `reach` bytes, and to the end of a character with a key that
+    /// the pattern does not have. `None` where no sets are chosen, where it is not their turn, or where that is not worth while.
+    #[inline(always)]
+    pub(crate) fn pass<W: Weights>(
+        &mut self,
+        table: &W,
+        pattern: &Pattern,
+        letters: &mut Letters,
+        piece: &[u8],
+        reach: usize,
+        turn: Turn,
+    ) -> Option<Passed>
+        requires right { AreLetters (W.table table.now) pattern.now letters.old }
+        requires blocks { AreTwoByteBlocksRight (W.table table.now) pattern.now self.old }
+        ensures right { AreLetters (W.table table.now) pattern.now letters.new }
+        ensures blocks { AreTwoByteBlocksRight (W.table table.now) pattern.now self.new }
+        ensures within { IfSome result (λ r. r.end + len_utf8 r.next ≤ length piece.now) }
+        ensures order { IfSome result (λ r. r.start ≤ r.end) }
+        ensures reach { IfSome result (λ r. r.end ≤ reach) }
+        ensures next { IfSome result (λ r.
+            SpellsCharacter (take (len_utf8 r.next) (drop r.end piece.now)) r.next) }
+        ensures letter { IfSome result
+            (λ r. IsLetter (W.table table.now) pattern.now (r.next ∷ []) r.letter) }
+        ensures text { IfSome result (λ r. IsUtf8 (take r.end piece.now)) }
+        ensures passed { IfSome result (λ r. (at : ℕ)
+            → IsPassed (W.table table.now) pattern.now at (at + r.start)
+            (chars (take r.end piece.now)) r.next) }
+    {
+        if turn != self.turn {
+            return None;
+        }
+        let Some(sets) = &self.sets else {
+            return None;
+        };
+        let passed = pass_two_bytes(table, pattern, letters, sets, piece, reach)?;
+        if passed.end < WORTH {
+            return None;
+        }
+        self.turn = if piece[..passed.end.min(NEAR)].is_ascii() {
+            Turn::Later
+        } else {
+            Turn::First
+        };
+        Some(passed)
+    }
+
+    /// Chooses sets by a piece of which so much was passed by, where it is due. Where none are found it waits twice as long.
+    pub(crate) fn choose<W: Weights>(
+        &mut self,
+        table: &W,
+        pattern: &Pattern,
+        letters: &mut Letters,
+        piece: &[u8],
+        passed: usize,
+    )
+        requires right { AreLetters (W.table table.now) pattern.now letters.old }
+        requires blocks { AreTwoByteBlocksRight (W.table table.now) pattern.now self.old }
+        ensures right { AreLetters (W.table table.now) pattern.now letters.new }
+        ensures blocks { AreTwoByteBlocksRight (W.table table.now) pattern.now self.new }
+    {
+        self.left = self.left.saturating_sub(passed);
+        if self.left > 0 || piece.len() < SAMPLE {
+            return;
+        }
+        self.wait = self.wait.saturating_mul(2);
+        self.left = self.wait;
+        self.sets = sets_for(table, pattern, letters, piece);
+    }
+}

@@ -1,0 +1,178 @@
+//! How much of a text `collation_skip` passes by in blocks, which no clause says: of ASCII, beside the way before blocks were joined in
+//! twos and looked up once, on made texts of each length about the sizes of blocks; and that characters of two bytes pass in blocks too.
+
+use crate::calls::{KEPT, ONE, TABLE, compile, put, repeated, table_of};
+use collation_letters::Letters;
+use collation_pattern::Pattern;
+use collation_skip::{AsciiBlocks, Passed, Skip};
+use collation_table::Table;
+use std::alloc::{AllocError, Global};
+use std::process::Abort;
+
+/// A table without strings of letters of ASCII: there keys alone decide which bytes pass.
+const PLAIN: &str = "@version 0.0.0
+0020 ; [*0201.0020.0002]
+0061 ; [.1C00.0020.0002]
+0062 ; [.1C10.0020.0002]
+006D ; [.1C60.0020.0002]
+";
+
+/// The bytes of made texts: the pattern's two, others, two that are a string of one of the tables, and one that is not ASCII.
+const BYTES: [u8; 16] = *b"abababmmm chmm \xC3";
+
+/// The longest made text, in bytes.
+const LONGEST: usize = 100;
+
+/// The byte at a place, 0 behind the last.
+fn byte_at(text: &[u8], at: usize) -> u8 {
+    text.get(at).copied().unwrap_or(0)
+}
+
+/// Whether a byte passes behind the one before it, in a table with the string `ch` or without.
+fn passes(text: &[u8], at: usize, has_string: bool) -> bool {
+    let before = byte_at(text, at.wrapping_sub(1));
+    let here = byte_at(text, at);
+    here < 128
+        && !(before == b'a' && here == b'b')
+        && !(has_string && before == b'c' && here == b'h')
+}
+
+/// How many of sixteen bytes pass, up to the first one that does not.
+fn lanes_that_pass(text: &[u8], at: usize, has_string: bool) -> usize {
+    let mut lanes = 0;
+    for lane in 0..16usize {
+        if lanes == lane && passes(text, at.saturating_add(lane), has_string) {
+            lanes = lane + 1;
+        }
+    }
+    lanes
+}
+
+/// How many bytes at the front of a text passed before: the first one, blocks of sixteen behind it, and the last few one by one.
+fn passed_len(text: &[u8], limit: usize, has_string: bool) -> usize {
+    if limit == 0 || byte_at(text, 0) >= 128 {
+        return 0;
+    }
+    let mut len = 1usize;
+    for _ in 0..LONGEST {
+        if limit.saturating_sub(len) >= 16 && lanes_that_pass(text, len, has_string) == 16 {
+            len = len.saturating_add(16);
+        }
+    }
+    if limit.saturating_sub(len) >= 16 {
+        return len.saturating_add(lanes_that_pass(text, len, has_string));
+    }
+    for _ in 0..16 {
+        if len < limit && passes(text, len, has_string) {
+            len = len.saturating_add(1);
+        }
+    }
+    len
+}
+
+/// Where the text was left then: at the last character that has a key which the pattern lacks and out of which no unit reaches, before
+/// another one of ASCII.
+fn left_at(text: &[u8], limit: usize, has_string: bool) -> Option<(usize, usize)> {
+    let len = passed_len(text, limit, has_string);
+    let mut most = len;
+    if len >= text.len() || byte_at(text, len) >= 128 {
+        most = len.saturating_sub(1);
+    }
+    let mut left = None;
+    for at in 0..most {
+        let byte = byte_at(text, at);
+        if byte != b'a' && byte != b'b' && !(has_string && byte == b'c') {
+            left = Some((at, at + 1));
+        }
+    }
+    left
+}
+
+/// Where a piece is left.
+fn place_of(passed: Option<Passed>) -> Option<(usize, usize)> {
+    let it = passed?;
+    Some((it.start, it.end))
+}
+
+/// Compares made texts of each length, up to their ends and to places before them.
+fn compare_lengths(
+    rt: &impl Abort,
+    table: &Table,
+    pattern: &Pattern,
+    letters: &mut Letters,
+    blocks: &mut AsciiBlocks,
+    has_string: bool,
+) {
+    let mut number = 7u64;
+    for len in 0..LONGEST {
+        for turn in 0..12usize {
+            let mut text = [b'm'; LONGEST];
+            for byte in &mut text {
+                number = number.wrapping_mul(6_364_136_223_846_793_005).wrapping_add(1);
+                // most texts have few bytes that stop
+                if (number >> 60) as usize >= turn {
+                    *byte = byte_at(&BYTES, (number >> 33) as usize % 16);
+                }
+            }
+            let piece = text.get(..len).unwrap_or(b"");
+            let limit = len.saturating_sub((number >> 40) as usize % 4);
+            let passed = blocks.pass(table, pattern, letters, piece, limit);
+            let want = left_at(piece, limit, has_string);
+            assert_eq!(rt; place_of(passed), want, "{len} {turn} {limit}");
+        }
+    }
+}
+
+/// Compares texts in a table, after a long text by which the place is chosen.
+fn compare_in(rt: &impl Abort, alloc: Global, file: &str, has_string: bool) {
+    let table = table_of(rt, alloc, file, None);
+    let pattern = compile(rt, alloc, &table, ("ab", ONE, KEPT));
+    let mut letters = Letters::new(alloc, &table).expect(rt, "the letters");
+    let mut blocks = AsciiBlocks::new();
+    let _long = blocks.pass(&table, &pattern, &mut letters, &[b'm'; 1_024], 1_000);
+    compare_lengths(rt, &table, &pattern, &mut letters, &mut blocks, has_string);
+}
+
+#[test]
+fn blocks_pass_as_much_as_before(rt: HostRuntime) {
+    compare_in(&rt, rt.alloc(), PLAIN, false);
+    compare_in(&rt, rt.alloc(), TABLE, true);
+}
+
+/// How much is passed by of a text that comes again and again: the first time, and the last.
+fn try_again_and_again(
+    alloc: Global,
+    table: &Table,
+    pattern: &Pattern,
+    text: &[u8],
+) -> Result<[usize; 2], AllocError> {
+    let mut letters = Letters::new(alloc, table)?;
+    let mut skip = Skip::new(alloc);
+    let mut passed = [0; 2];
+    for turn in 0..60 {
+        let len = match skip.pass(table, pattern, &mut letters, text, text.len()) {
+            Some(it) => it.end,
+            None => 0,
+        };
+        if turn == 0 {
+            passed[0] = len;
+        }
+        passed[1] = len;
+    }
+    Ok(passed)
+}
+
+/// By moves of the automaton two keys of three are passed by, which stop the blocks: so they are told apart. Once the automaton has
+/// passed by much, characters of two bytes go in blocks, up to a place where two keys follow one another.
+#[test]
+fn characters_of_two_bytes_pass_in_blocks(rt: HostRuntime) {
+    let table = table_of(&rt, rt.alloc(), TABLE, None);
+    let pattern = compile(&rt, rt.alloc(), &table, ("бвг", ONE, KEPT));
+    let mut text = repeated(&rt, rt.alloc(), "аде жз ", 40);
+    put(&rt, &mut text, "бва авг ");
+    let text = repeated(&rt, rt.alloc(), &text, 10);
+    let [first, last] = try_again_and_again(rt.alloc(), &table, &pattern, text.as_bytes())
+        .expect(&rt, "memory");
+    assert!(rt; first > text.len() - 8, "{first}");
+    assert!(rt; (479..500).contains(&last), "{last}");
+}
