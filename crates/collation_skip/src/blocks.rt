@@ -218,12 +218,14 @@ fn two_blocks_len_by_keys(
     requires keys { KeysDecide classes.now }
     requires behind { 1 ≤ at }
     requires within { at + 32 ≤ length bytes.now }
-    requires before { in_set_of classes.now.key (slice_index bytes.now (at - 1)) ≡ slice_index before 15 }
+    requires before { in_set_of classes.now.key (slice_index bytes.now (at - 1))
+        ≡ slice_index before 15 }
     ensures within { result.0 ≤ 32 }
     ensures passes { (k : ℕ) → k < result.0
         → PassesBehind classes.now (slice_index bytes.now (at + k - 1))
         (slice_index bytes.now (at + k)) }
-    ensures last { in_set_of classes.now.key (slice_index bytes.now (at + 31)) ≡ slice_index result.1 15 }
+    ensures last { in_set_of classes.now.key (slice_index bytes.now (at + 31))
+        ≡ slice_index result.1 15 }
 {
     let first = load(bytes, at);
     let second = load(bytes, at + 16);

@@ -32,6 +32,9 @@ pub(crate) const SAMPLE: usize = 1_024;
 /// How many characters of a sample have to have a leading byte, so that this one is passed.
 const FEW: usize = 4;
 
+/// The most leading bytes that sets are made for: the letters of 64 characters are found for each.
+const MOST_LEADS: usize = 8;
+
 /// How many blocks of a sample may halt, so that blocks pay.
 const MOST_HALTS: usize = 16;
 
@@ -113,22 +116,25 @@ pub(crate) fn sets_for<W: Weights>(
     None
 }
 
-/// The leading bytes of two that stand near the front of a text, but for seldom ones; `None` where there are none.
+/// The leading bytes of two that stand near the front of a text, but for seldom ones; `None` where there are none, or many.
 fn leads_of(text: &[u8]) -> Option<ByteSet> {
     let mut counts = [0; 32];
     let mut leads = NO_BYTES;
-    let mut some = false;
+    let mut found = 0usize;
     for byte in text.iter().take(SAMPLE) {
         if *byte >= 0xC0 && *byte < 0xE0 {
             let count = &mut counts[(*byte % 32) as usize];
             if *count == FEW {
                 leads.put(*byte);
-                some = true;
+                found = found.saturating_add(1);
             }
             *count = count.saturating_add(1);
         }
     }
-    if some { Some(leads) } else { None }
+    if found == 0 || found > MOST_LEADS {
+        return None;
+    }
+    Some(leads)
 }
 
 /// The sets for a place of the pattern, where these leading bytes are passed.
@@ -191,7 +197,7 @@ fn add_lead<W: Weights>(
 fn add(sets: &mut TwoByteSets, last: u8, kind: Kind)
     ensures { sets.new.place ≡ sets.old.place }
 {
-    if kind.halt || kind.inner {
+    if kind.inner || kind.halt {
         sets.halt.put(last);
     }
     if kind.key {

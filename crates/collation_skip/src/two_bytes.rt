@@ -7,8 +7,8 @@ use collation_letters::Letters;
 use collation_pattern::Pattern;
 use collation_table::Weights;
 
-/// How many bytes the automaton passes by before sets are chosen: choosing them costs as much as so many.
-const FIRST_WAIT: usize = 131_072;
+/// How many bytes the automaton passes by before sets are chosen: some times as many as it would pass by meanwhile.
+const FIRST_WAIT: usize = 524_288;
 
 /// The fewest bytes that are worth the passing.
 const WORTH: usize = 32;

@@ -149,7 +149,7 @@ fn try_again_and_again(
     let mut letters = Letters::new(alloc, table)?;
     let mut skip = Skip::new(alloc);
     let mut passed = [0; 2];
-    for turn in 0..60 {
+    for turn in 0..130 {
         let len = match skip.pass(table, pattern, &mut letters, text, text.len()) {
             Some(it) => it.end,
             None => 0,
