@@ -97,7 +97,8 @@ fn next_apart<W: Weights>(
 }
 
 /// Whether it is worth while to begin with a character of this letter at the front of a piece: no unit reaches to it, the next one does
-/// not begin after `reach`, and no unit is seen to reach from it or from the next one to what follows.
+/// not begin after `reach`, and no unit is seen to reach from it to what follows, nor from the next one, unless it is one letter with
+/// the character behind it.
 fn can_begin<W: Weights>(
     query: &Query<'_, W>,
     letters: &mut Letters,
@@ -122,6 +123,34 @@ fn can_begin<W: Weights>(
     };
     let piece = &piece[second.len..];
     next_apart(query, letters, piece, second.next, second.letter).is_some()
+        || joins_next(query, letters, piece, second.next, second.letter)
+}
+
+/// Whether a character at the front of a piece, out of which a unit may reach, is one letter with the one that follows it.
+fn joins_next<W: Weights>(
+    query: &Query<'_, W>,
+    letters: &mut Letters,
+    piece: &[u8],
+    first: char,
+    letter: Letter,
+) -> bool
+    requires first { (len_utf8 first ≤ length piece.now)
+        × SpellsCharacter (take (len_utf8 first) piece.now) first }
+    requires right { AreLetters (W.table query.now.table.now) query.now.pattern.now letters.old }
+    ensures right { AreLetters (W.table query.now.table.now) query.now.pattern.now letters.new }
+{
+    if letter.is_closed {
+        return false;
+    }
+    let Some(next) = first_character(&piece[first.len_utf8()..]) else {
+        return false;
+    };
+    let following = letters.letter(query.table, query.pattern, next);
+    if following.is_apart || following.role.is_mark() {
+        return false;
+    }
+    let both = letters.pair(query.table, query.pattern, first, next);
+    !both.role.is_steps()
 }
 
 impl Finder {
