@@ -1,11 +1,15 @@
 //! How much of a text `collation_skip` passes by in blocks, which no clause says: of ASCII, beside the way before blocks were joined in
 //! twos and looked up once, on made texts of each length about the sizes of blocks; and that characters of two bytes pass in blocks too.
 
+ghost use Rattle.collation_letters.specs.Store.{AreLetters};
+ghost use Rattle.collation_skip.specs.Blocks.{AreBlocksRight};
+ghost use Rattle.collation_skip.specs.Skips.{IsSkipRight};
+
 use crate::calls::{KEPT, ONE, TABLE, compile, put, repeated, table_of};
 use collation_letters::Letters;
 use collation_pattern::Pattern;
 use collation_skip::{AsciiBlocks, Passed, Skip};
-use collation_table::Table;
+use collation_table::{Table, Weights};
 use std::alloc::{AllocError, Global};
 use std::process::Abort;
 
@@ -94,45 +98,65 @@ fn place_of(passed: Option<Passed>) -> Option<(usize, usize)> {
     Some((it.start, it.end))
 }
 
+/// The next text by a number, of which more bytes stop where `turn` is smaller.
+fn made_text(number: &mut u64, turn: usize) -> [u8; LONGEST] {
+    let mut text = [b'm'; LONGEST];
+    for byte in &mut text {
+        *number = number
+            .wrapping_mul(6_364_136_223_846_793_005)
+            .wrapping_add(1);
+        if (*number >> 60) as usize >= turn {
+            *byte = byte_at(&BYTES, (*number >> 33) as usize % 16);
+        }
+    }
+    text
+}
+
 /// Compares made texts of each length, up to their ends and to places before them.
-fn compare_lengths(
+fn compare_lengths<W: Weights>(
     rt: &impl Abort,
-    table: &Table,
+    table: &W,
     pattern: &Pattern,
     letters: &mut Letters,
     blocks: &mut AsciiBlocks,
     has_string: bool,
-) {
+)
+    requires right { AreLetters (W.table table.now) pattern.now letters.old }
+    requires blocks { AreBlocksRight (W.table table.now) pattern.now blocks.old }
+{
     let mut number = 7u64;
-    for len in 0..LONGEST {
-        for turn in 0..12usize {
-            let mut text = [b'm'; LONGEST];
-            for byte in &mut text {
-                number = number
-                    .wrapping_mul(6_364_136_223_846_793_005)
-                    .wrapping_add(1);
-                // most texts have few bytes that stop
-                if (number >> 60) as usize >= turn {
-                    *byte = byte_at(&BYTES, (number >> 33) as usize % 16);
-                }
-            }
-            let piece = text.get(..len).unwrap_or(b"");
-            let limit = len.saturating_sub((number >> 40) as usize % 4);
-            let passed = blocks.pass(table, pattern, letters, piece, limit);
-            let want = left_at(piece, limit, has_string);
-            assert_eq!(rt; place_of(passed), want, "{len} {turn} {limit}");
-        }
+    for round in 0..12 * LONGEST {
+        let (len, turn) = (round / 12, round % 12);
+        let text = made_text(&mut number, turn);
+        let piece = text.get(..len).unwrap_or(b"");
+        let limit = len.saturating_sub((number >> 40) as usize % 4);
+        let passed = blocks.pass(table, pattern, letters, piece, limit);
+        let want = left_at(piece, limit, has_string);
+        assert_eq!(rt; place_of(passed), want, "{len} {turn} {limit}");
     }
 }
 
-/// Compares texts in a table, after a long text by which the place is chosen.
+/// Compares texts after a long one by which the place is chosen, unless memory is refused.
+fn try_lengths(
+    rt: &impl Abort,
+    alloc: Global,
+    table: &Table,
+    pattern: &Pattern,
+    has_string: bool,
+) -> Result<(), AllocError> {
+    let mut letters = Letters::new(alloc, table)?;
+    let mut blocks = AsciiBlocks::new();
+    let _long = blocks.pass(table, pattern, &mut letters, &[b'm'; 1_024], 1_000);
+    compare_lengths(rt, table, pattern, &mut letters, &mut blocks, has_string);
+    Ok(())
+}
+
+/// Compares texts in the table of a file.
 fn compare_in(rt: &impl Abort, alloc: Global, file: &str, has_string: bool) {
     let table = table_of(rt, alloc, file, None);
     let pattern = compile(rt, alloc, &table, ("ab", ONE, KEPT));
-    let mut letters = Letters::new(alloc, &table).expect(rt, "the letters");
-    let mut blocks = AsciiBlocks::new();
-    let _long = blocks.pass(&table, &pattern, &mut letters, &[b'm'; 1_024], 1_000);
-    compare_lengths(rt, &table, &pattern, &mut letters, &mut blocks, has_string);
+    let compared = try_lengths(rt, alloc, &table, &pattern, has_string);
+    compared.expect(rt, "memory");
 }
 
 #[test]
@@ -141,27 +165,44 @@ fn blocks_pass_as_much_as_before(rt: HostRuntime) {
     compare_in(&rt, rt.alloc(), TABLE, true);
 }
 
-/// How much is passed by of a text that comes again and again: the first time, and the last.
+/// How much is passed by of a text.
+fn len_of(passed: Option<Passed>) -> usize {
+    match passed {
+        Some(it) => it.end,
+        None => 0,
+    }
+}
+
+/// How much is passed by of a text that comes again and again: the last time.
+fn pass_again_and_again<W: Weights>(
+    table: &W,
+    pattern: &Pattern,
+    letters: &mut Letters,
+    skip: &mut Skip,
+    text: &[u8],
+) -> usize
+    requires right { IsSkipRight (W.table table.now) pattern.now skip.old }
+    requires letters { AreLetters (W.table table.now) pattern.now letters.old }
+{
+    let mut len = 0;
+    for _ in 0..130 {
+        len = len_of(skip.pass(table, pattern, letters, text, text.len()));
+    }
+    len
+}
+
+/// How much is passed by of a text, and how much where it came again and again.
 fn try_again_and_again(
     alloc: Global,
     table: &Table,
     pattern: &Pattern,
     text: &[u8],
-) -> Result<[usize; 2], AllocError> {
+) -> Result<(usize, usize), AllocError> {
     let mut letters = Letters::new(alloc, table)?;
     let mut skip = Skip::new(alloc);
-    let mut passed = [0; 2];
-    for turn in 0..130 {
-        let len = match skip.pass(table, pattern, &mut letters, text, text.len()) {
-            Some(it) => it.end,
-            None => 0,
-        };
-        if turn == 0 {
-            passed[0] = len;
-        }
-        passed[1] = len;
-    }
-    Ok(passed)
+    let first = len_of(skip.pass(table, pattern, &mut letters, text, text.len()));
+    let last = pass_again_and_again(table, pattern, &mut letters, &mut skip, text);
+    Ok((first, last))
 }
 
 /// By moves of the automaton two keys of three are passed by, which stop the blocks: so they are told apart. Once the automaton has
@@ -174,7 +215,7 @@ fn characters_of_two_bytes_pass_in_blocks(rt: HostRuntime) {
     put(&rt, &mut text, "бва авг ");
     let text = repeated(&rt, rt.alloc(), &text, 10);
     let passed = try_again_and_again(rt.alloc(), &table, &pattern, text.as_bytes());
-    let [first, last] = passed.expect(&rt, "memory");
-    assert!(rt; first > text.len() - 8, "{first}");
+    let (first, last) = passed.expect(&rt, "memory");
+    assert!(rt; first > text.len().saturating_sub(8), "{first}");
     assert!(rt; (479..500).contains(&last), "{last}");
 }

@@ -1,0 +1,5 @@
+use Rattle.layer_tests.proofs.blocks.try_lengths.Goals as goal
+
+-- nothing is chosen at first
+pub pass-long-requires-clause-blocks : goal.pass-long-requires-clause-blocks
+pass-long-requires-clause-blocks g c = c.new-blocks.ensures c.args.table.now.rows c.args.pattern.now
