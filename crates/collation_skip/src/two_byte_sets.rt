@@ -36,7 +36,7 @@ const FEW: usize = 4;
 const MOST_LEADS: usize = 8;
 
 /// How many blocks of a sample may halt, so that blocks pay.
-const MOST_HALTS: usize = 16;
+const MOST_HALTS: usize = 4;
 
 /// A set of bytes: number l of the first half has bit h where the byte 16 h + l is in it, of the other half where 128 + 16 h + l is.
 #[derive(Clone, Copy, Debug)]

@@ -13,6 +13,12 @@ const FIRST_WAIT: usize = 524_288;
 /// The fewest bytes that are worth the passing.
 const WORTH: usize = 32;
 
+/// How many texts are passed before it is seen whether blocks pay, and how many bytes each has to have, one with the other: where they are
+/// shorter, the automaton passes as much, and goes on where blocks stop.
+const TURNS: usize = 64;
+
+const FEWEST_EACH: usize = 256;
+
 /// In how many bytes a character of two bytes is looked for, which tells that the next one will be met soon.
 const NEAR: usize = 256;
 
@@ -32,6 +38,9 @@ pub(crate) struct TwoByteBlocks {
     wait: usize,
     /// When they are asked: first where the last text that was passed had characters of two bytes.
     turn: Turn,
+    /// How many texts were passed, or were not worth it, since it was seen whether that pays, and how many bytes these had.
+    passed: usize,
+    bytes: usize,
 }
 
 impl TwoByteBlocks {
@@ -56,6 +65,8 @@ impl TwoByteBlocks {
             left: FIRST_WAIT,
             wait: FIRST_WAIT,
             turn: Turn::Later,
+            passed: 0,
+            bytes: 0,
         }
     }
 
@@ -93,7 +104,9 @@ impl TwoByteBlocks {
         let Some(sets) = &self.sets else {
             return None;
         };
-        let passed = pass_two_bytes(table, pattern, letters, sets, piece, reach)?;
+        let passed = pass_two_bytes(table, pattern, letters, sets, piece, reach);
+        self.count(&passed);
+        let passed = passed?;
         if passed.end < WORTH {
             return None;
         }
@@ -103,6 +116,26 @@ impl TwoByteBlocks {
             Turn::First
         };
         Some(passed)
+    }
+
+    /// Counts a text that was passed, or was not. Without sets from then on where such texts were short, until sets are chosen again.
+    fn count(&mut self, passed: &Option<Passed>)
+        ensures { (table : TableMap) (pattern : Compiled)
+            → AreTwoByteBlocksRight table pattern self.old
+            → AreTwoByteBlocksRight table pattern self.new }
+    {
+        if let Some(passed) = passed {
+            self.bytes = self.bytes.saturating_add(passed.end);
+        }
+        self.passed = self.passed.saturating_add(1);
+        if self.passed < TURNS {
+            return;
+        }
+        if self.bytes < TURNS * FEWEST_EACH {
+            self.sets = None;
+        }
+        self.passed = 0;
+        self.bytes = 0;
     }
 
     /// Chooses sets by a piece of which so much was passed by, where it is due. Where none are found it waits twice as long.
