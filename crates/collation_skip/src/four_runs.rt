@@ -174,17 +174,18 @@ impl Automaton {
         let mut fourth = from.fourth.row;
         let mut moves = 0;
         'moves: while moves < len {
-            let one = cell_at(cells, first, piece[from.first.at + moves]);
-            let two = cell_at(cells, second, piece[from.second.at + moves]);
-            let three = cell_at(cells, third, piece[from.third.at + moves]);
-            let four = cell_at(cells, fourth, piece[from.fourth.at + moves]);
-            if one >= STOP || two >= STOP || three >= STOP || four >= STOP {
+            let one = cell_at(cells, first, piece[from.first.at + moves]) as usize;
+            let two = cell_at(cells, second, piece[from.second.at + moves]) as usize;
+            let three = cell_at(cells, third, piece[from.third.at + moves]) as usize;
+            let four = cell_at(cells, fourth, piece[from.fourth.at + moves]) as usize;
+            let all = one + two + three + four;
+            if all >= STOP as usize {
                 return None;
             }
-            first = one as usize;
-            second = two as usize;
-            third = three as usize;
-            fourth = four as usize;
+            first = one;
+            second = two;
+            third = three;
+            fourth = four;
             moves += 1;
         }
         Some(Spots {

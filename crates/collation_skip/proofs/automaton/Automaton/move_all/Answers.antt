@@ -1,4 +1,5 @@
-use Rattle.std.proofs.Common.{◌≡◌, ◌∙◌, ◌+◌, ℕ, List, length, slice_index, ap, subst, arith}
+use Rattle.std.proofs.Common.{◌≡◌, ◌∙◌, ◌+◌, ◌<◌, ℕ, List, length, slice_index, ap, subst, arith}
+use Rattle.collation_skip.specs.declared.automaton.TheConstants.{STOP}
 use Rattle.collation_skip.specs.Runs.{HaveRun}
 use Rattle.collation_skip.proofs.SpotLemmas.{moved, run-more, run-none, some-within}
 use Rattle.collation_skip.proofs.automaton.Automaton.move_all.Goals as goal
@@ -44,19 +45,24 @@ moves-preserved g c =
     let more = run-more (g.W.Weights.table c.args.table.now) c.args.pattern.now a piece in
     let going = c.moves-test.true in
     let value = c.deref-cells.ensures.value in
+    let all = c.if-all.false in
+    let below-one : c.cell_at-one.result < STOP = omega (arith, all) in
+    let below-two : c.cell_at-two.result < STOP = omega (arith, all) in
+    let below-three : c.cell_at-three.result < STOP = omega (arith, all) in
+    let below-four : c.cell_at-four.result < STOP = omega (arith, all) in
     record {
       within = omega (arith, going);
       run = (
         more from.first n c.moves.first c.cell_at-one.result c.requires.right (omega (arith, going, c.requires.first)) (c.type_inv.piece (from.first.at + n)).fits
-            (c.cell_at-one.ensures ∙ ap (λ (l : List ℕ). slice_index l (c.moves.first + slice_index piece (from.first.at + n))) value) c.if-one-ge-STOP.false run.0,
+            (c.cell_at-one.ensures ∙ ap (λ (l : List ℕ). slice_index l (c.moves.first + slice_index piece (from.first.at + n))) value) below-one run.0,
         (
           more from.second n c.moves.second c.cell_at-two.result c.requires.right (omega (arith, going, c.requires.second)) (c.type_inv.piece (from.second.at + n)).fits
-              (c.cell_at-two.ensures ∙ ap (λ (l : List ℕ). slice_index l (c.moves.second + slice_index piece (from.second.at + n))) value) c.if-two-ge-STOP.false run.1.0,
+              (c.cell_at-two.ensures ∙ ap (λ (l : List ℕ). slice_index l (c.moves.second + slice_index piece (from.second.at + n))) value) below-two run.1.0,
           (
             more from.third n c.moves.third c.cell_at-three.result c.requires.right (omega (arith, going, c.requires.third)) (c.type_inv.piece (from.third.at + n)).fits
-                (c.cell_at-three.ensures ∙ ap (λ (l : List ℕ). slice_index l (c.moves.third + slice_index piece (from.third.at + n))) value) c.if-three-ge-STOP.false run.1.1.0,
+                (c.cell_at-three.ensures ∙ ap (λ (l : List ℕ). slice_index l (c.moves.third + slice_index piece (from.third.at + n))) value) below-three run.1.1.0,
             more from.fourth n c.moves.fourth c.cell_at-four.result c.requires.right (omega (arith, going, c.requires.fourth)) (c.type_inv.piece (from.fourth.at + n)).fits
-                (c.cell_at-four.ensures ∙ ap (λ (l : List ℕ). slice_index l (c.moves.fourth + slice_index piece (from.fourth.at + n))) value) c.if-four-ge-STOP.false run.1.1.1,
+                (c.cell_at-four.ensures ∙ ap (λ (l : List ℕ). slice_index l (c.moves.fourth + slice_index piece (from.fourth.at + n))) value) below-four run.1.1.1,
           ),
         ),
       );
