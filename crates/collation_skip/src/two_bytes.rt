@@ -17,7 +17,7 @@ const WORTH: usize = 32;
 /// shorter, the automaton passes as much, and goes on where blocks stop.
 const TURNS: usize = 64;
 
-const FEWEST_EACH: usize = 256;
+const FEWEST_EACH: usize = 96;
 
 /// In how many bytes a character of two bytes is looked for, which tells that the next one will be met soon.
 const NEAR: usize = 256;
