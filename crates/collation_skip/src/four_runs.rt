@@ -178,6 +178,7 @@ impl Automaton {
             let two = cell_at(cells, second, piece[from.second.at + moves]) as usize;
             let three = cell_at(cells, third, piece[from.third.at + moves]) as usize;
             let four = cell_at(cells, fourth, piece[from.fourth.at + moves]) as usize;
+            // rows are small, so the sum is that large only where one of them is no row
             let all = one + two + three + four;
             if all >= STOP as usize {
                 return None;
