@@ -1,7 +1,7 @@
 -- A run over a piece: that each row is one of a state that was reached.
 use Rattle.std.specs.Char.{len_utf8}
 use Rattle.std.specs.Str.{chars, IsUtf8}
-use Rattle.std.proofs.Common.{◌≡◌, ◌∙◌, ℕ, ◌+◌, ◌-◌, ◌<◌, ◌≤◌, List, [], ◌∷◌, ◌++◌, length, take, drop, slice_index, Option, Some, None, IfSome, refl, sym, ap, subst, arith}
+use Rattle.std.proofs.Common.{◌≡◌, ◌∙◌, ◌⊎◌, inl, inr, ℕ, ◌+◌, ◌-◌, ◌<◌, ◌≤◌, List, [], ◌∷◌, ◌++◌, length, take, drop, slice_index, Option, Some, None, IfSome, refl, sym, ap, subst, arith}
 use Rattle.std.proofs.Math.Logic.{∥∥₁_elim, ∥∥₁_map, ∥∥₁_prop}
 use Rattle.std.proofs.Props.{props}
 use Rattle.std.proofs.lemmas.List.{append-nil, get_or-drop, get_or-take, length-take, take_more, take-take}
@@ -12,6 +12,7 @@ use Rattle.collation_letters.proofs.ApartLemmas.{len_one as byte_len-one}
 use Rattle.collation_table.specs.Table.{TableMap}
 use Rattle.collation_pattern.specs.Compiled.{Compiled}
 use Rattle.collation_skip.specs.declared.automaton.Automaton.{Automaton}
+use Rattle.collation_skip.specs.declared.automaton.Cursor.{Cursor}
 use Rattle.collation_skip.specs.declared.automaton.TheConstants.{STOP}
 use Rattle.collation_skip.specs.declared.state.State.{State}
 use Rattle.collation_skip.specs.Passed.{IsPassed}
@@ -70,6 +71,14 @@ stands-learned table pattern a b piece at row next within moves h =
     let longer : take (at + 1) piece ≡ take at piece ++ byte ∷ [] = take_more piece at 0 within in
     ∥∥₁_map h (λ s.
     let m = moves s.0 s.1 in (m.0, m.1, λ start. subst (HasReached table pattern m.0 start) (sym longer) (m.2 start (take at piece) (s.2 start))))
+
+-- what is known of the last place up to which the text may be passed by, where a cursor came to a row
+pub passed-on : (stands : ℕ → ℕ → Type 0) (len at row : ℕ) (old now : Cursor) → at ≤ len → stands at row → (0 < old.passed_at → (old.passed_at ≤ len) × stands old.passed_at old.passed_row) →
+    (now.passed_at ≡ old.passed_at) × (now.passed_row ≡ old.passed_row) ⊎ (now.passed_at ≡ at) × (now.passed_row ≡ row) → 0 < now.passed_at → (now.passed_at ≤ len) × stands now.passed_at now.passed_row
+passed-on stands len at row old now within here passed is some = elim is [
+  | inl same ↦ let before = passed (omega (arith, some, same.0)) in (omega (arith, same.0, before.0), subst (λ n. stands n now.passed_row) (sym same.0) (subst (stands old.passed_at) (sym same.1) before.1))
+  | inr new ↦ (omega (arith, new.0, within), subst (λ n. stands n now.passed_row) (sym new.0) (subst (stands at) (sym new.1) here))
+]
 
 -- ---- what may be passed by
 

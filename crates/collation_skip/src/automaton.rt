@@ -30,6 +30,8 @@ pub struct Automaton {
     pub(crate) states: Vec<State>,
     /// Numbers of states at the places of their hashes, or after them. A state is compared before its number is used.
     pub(crate) places: Vec<u32>,
+    /// At a place of some bytes the row that was met last behind such bytes, or anything: a wrong one costs time alone.
+    pub(crate) guesses: Vec<u32>,
     pub(crate) alloc: Global,
 }
 
@@ -66,6 +68,7 @@ impl Automaton {
             cells: Vec::new(alloc),
             states: Vec::new(alloc),
             places: Vec::new(alloc),
+            guesses: Vec::new(alloc),
             alloc,
         }
     }
@@ -150,6 +153,7 @@ impl Automaton {
     }
 
     /// Goes over a piece as far as the moves lead, by four runs where it is calm: few stops are expected.
+    #[inline(never)]
     fn go<W: Weights>(
         &mut self,
         table: &W,
@@ -167,16 +171,41 @@ impl Automaton {
         ensures right { AreRight (W.table table.now) pattern.now self.new }
         ensures letters { AreLetters (W.table table.now) pattern.now letters.new }
     {
+        let mut guesses = self.take_guesses(piece.len());
+        let gone = self.go_on(table, pattern, letters, piece, &mut guesses, is_calm);
+        self.put_guesses(guesses);
+        gone
+    }
+
+    /// The same with guesses at hand.
+    fn go_on<W: Weights>(
+        &mut self,
+        table: &W,
+        pattern: &Pattern,
+        letters: &mut Letters,
+        piece: &[u8],
+        guesses: &mut [u32],
+        is_calm: bool,
+    ) -> Option<Cursor>
+        requires right { AreRight (W.table table.now) pattern.now self.old }
+        requires letters { AreLetters (W.table table.now) pattern.now letters.old }
+        ensures passed { IfSome result (λ it. 0 < it.passed_at
+            → (it.passed_at ≤ length piece.now)
+            × Stands (W.table table.now) pattern.now self.new piece.now
+            it.passed_at it.passed_row) }
+        ensures right { AreRight (W.table table.now) pattern.now self.new }
+        ensures letters { AreLetters (W.table table.now) pattern.now letters.new }
+    {
         let mut cursor = self.begin(table, pattern, letters, piece, is_calm)?;
         'moves: loop {
-            cursor = self.run(table, pattern, piece, cursor, piece.len());
+            cursor = self.run_to_end(table, pattern, piece, guesses, cursor);
             if cursor.at >= piece.len() {
                 return Some(cursor);
             }
             let Some(row) = self.learn(table, pattern, letters, cursor.row, piece[cursor.at]) else {
                 return Some(cursor);
             };
-            cursor = moved(cursor, row);
+            cursor = come_to(cursor, cursor.at + 1, row);
         }
     }
 
@@ -322,16 +351,15 @@ pub(crate) fn cell_at(cells: &[u32], row: usize, byte: u8) -> u32
     column[row]
 }
 
-/// The cursor after a move to a row.
-fn moved(cursor: Cursor, row: usize) -> Cursor
-    requires { cursor.at < 2 ^ 64 - 1 }
-    ensures at { result.at ≡ cursor.at + 1 }
+/// The cursor where a run came to a row further on.
+#[inline(always)]
+pub(crate) fn come_to(cursor: Cursor, at: usize, row: usize) -> Cursor
+    ensures at { result.at ≡ at }
     ensures row { result.row ≡ row }
     ensures passed { (result.passed_at ≡ cursor.passed_at)
-        × (result.passed_row ≡ cursor.passed_row) ⊎ (result.passed_at ≡ cursor.at + 1)
+        × (result.passed_row ≡ cursor.passed_row) ⊎ (result.passed_at ≡ at)
         × (result.passed_row ≡ row) }
 {
-    let at = cursor.at + 1;
     let (passed_at, passed_row) = if row % 2 == 1 {
         (at, row)
     } else {

@@ -29,6 +29,7 @@ mod state;
 mod two_byte_blocks;
 mod two_byte_sets;
 mod two_bytes;
+mod windows;
 
 pub use crate::ascii::AsciiBlocks;
 pub use crate::automaton::Automaton;

@@ -129,6 +129,37 @@ fn long_text_is_passed_by(rt: HostRuntime) {
     }
 }
 
+/// A text so long that windows are begun in guesses. They pass as much by as single moves do, where the first guess is wrong as well,
+/// where the text stops in a window or in the last bytes, and where it may be passed by up to no place in the last windows.
+#[test]
+fn windows_pass_by_as_much(rt: HostRuntime) {
+    for (stop, want) in [
+        (3, (2, 3, 'b')),
+        (13, (12, 13, 'b')),
+        (1_300, (1_299, 1_300, 'b')),
+        (2_995, (2_994, 2_995, 'b')),
+        (3_000, (2_998, 2_999, 'm')),
+    ] {
+        let mut piece = [b'm'; 3_000];
+        if let Some(byte) = piece.get_mut(stop) {
+            *byte = b'b';
+        }
+        passed_is(&rt, rt.alloc(), ("b", ONE, KEPT), &piece, 3_000, Some(want));
+    }
+    let mut piece = [b'a'; 3_000];
+    for byte in &mut piece[..1_000] {
+        *byte = b'm';
+    }
+    passed_is(
+        &rt,
+        rt.alloc(),
+        ("aab", ONE, KEPT),
+        &piece,
+        3_000,
+        Some((999, 1_000, 'a')),
+    );
+}
+
 /// A space begins a cluster and has no key in shifted weighting, and so no key that the pattern does not have.
 #[test]
 fn variable_characters_are_passed_by(rt: HostRuntime) {

@@ -1,65 +1,21 @@
-use Rattle.std.proofs.Common.{◌+◌, inl, inr, sym, subst, arith}
+use Rattle.std.proofs.Common.{◌<◌, ◌≤◌, length}
+use Rattle.collation_skip.specs.declared.automaton.Automaton.{Automaton}
+use Rattle.collation_skip.specs.declared.automaton.Cursor.{Cursor}
 use Rattle.collation_skip.specs.Rows.{Stands}
-use Rattle.collation_skip.proofs.RunLemmas.{stands-grown, stands-learned}
+use Rattle.collation_skip.proofs.RunLemmas.{if-some, stands-grown}
 use Rattle.collation_skip.proofs.automaton.Automaton.go.Goals as goal
 
-pub moves-init : goal.moves-init
-moves-init g c = record { right = c.begin.ensures.right; letters = c.begin.ensures.letters; stands = c.in_ok-cursor.ensures.stands; passed = c.in_ok-cursor.ensures.passed }
+pub go_on-gone-requires-clause-right : goal.go_on-gone-requires-clause-right
+go_on-gone-requires-clause-right g c = c.take_guesses-guesses.ensures.right (g.W.Weights.table c.args.table.now) c.args.pattern.now c.requires.right
 
-pub run-cursor-requires-clause-right : goal.run-cursor-requires-clause-right
-run-cursor-requires-clause-right g c = c.moves.invariant.right
-
-pub run-cursor-requires-clause-stands : goal.run-cursor-requires-clause-stands
-run-cursor-requires-clause-stands g c = c.moves.invariant.stands
-
-pub run-cursor-requires-clause-passed : goal.run-cursor-requires-clause-passed
-run-cursor-requires-clause-passed g c = c.moves.invariant.passed
-
-pub returns-then-cursor-piece-clause-right : goal.returns-then-cursor-piece-clause-right
-returns-then-cursor-piece-clause-right g c = c.moves.invariant.right
-
-pub returns-then-cursor-piece-clause-letters : goal.returns-then-cursor-piece-clause-letters
-returns-then-cursor-piece-clause-letters g c = c.moves.invariant.letters
-
-pub learn-requires-clause-right : goal.learn-requires-clause-right
-learn-requires-clause-right g c = c.moves.invariant.right
-
-pub learn-requires-clause-letters : goal.learn-requires-clause-letters
-learn-requires-clause-letters g c = c.moves.invariant.letters
-
-pub returns-in_default-clause-passed : goal.returns-in_default-clause-passed
-returns-in_default-clause-passed g c = λ some.
-    let table = g.W.Weights.table c.args.table.now in
-    let at = c.run-cursor.result in
-    let passed = c.run-cursor.ensures.passed some in
-    (passed.0, stands-grown table c.args.pattern.now c.moves.self c.learn.new.self c.args.piece.now at.passed_at at.passed_row c.learn.ensures.grows passed.1)
-
-pub moves-smaller : goal.moves-smaller
-moves-smaller g c = omega (arith, c.moved-cursor.ensures.at, c.run-cursor.ensures.on, c.if-cursor-piece.false)
-
-pub moves-preserved : goal.moves-preserved
-moves-preserved g c =
+pub returns-clause-passed : goal.returns-clause-passed
+returns-clause-passed g c =
     let table = g.W.Weights.table c.args.table.now in
     let pattern = c.args.pattern.now in
     let piece = c.args.piece.now in
-    let at = c.run-cursor.result in
-    let now = c.moved-cursor.result in
-    let here : Stands table pattern c.learn.new.self piece (at.at + 1) c.in-Some.row =
-    stands-learned table pattern c.moves.self c.learn.new.self piece at.at at.row c.in-Some.row (omega (arith, c.if-cursor-piece.false)) c.in-Some.ensures.moves c.run-cursor.ensures.stands in
-    record {
-      right = c.learn.ensures.right;
-      letters = c.learn.ensures.letters;
-      stands = subst (λ n. Stands table pattern c.learn.new.self piece n now.row) (sym c.moved-cursor.ensures.at) (subst (Stands table pattern c.learn.new.self piece (at.at + 1)) (sym c.moved-cursor.ensures.row) here);
-      passed = λ some. elim c.moved-cursor.ensures.passed [
-        | inl old ↦
-            let passed = c.run-cursor.ensures.passed (omega (arith, some, old.0)) in (
-              omega (arith, old.0, passed.0),
-              subst (λ n. Stands table pattern c.learn.new.self piece n now.passed_row) (sym old.0)
-                  (subst (Stands table pattern c.learn.new.self piece at.passed_at) (sym old.1) (stands-grown table pattern c.moves.self c.learn.new.self piece at.passed_at at.passed_row c.learn.ensures.grows passed.1)),
-            )
-        | inr new ↦ (
-          omega (arith, new.0, c.if-cursor-piece.false),
-          subst (λ n. Stands table pattern c.learn.new.self piece n now.passed_row) (sym new.0) (subst (Stands table pattern c.learn.new.self piece (at.at + 1)) (sym new.1) here),
-        )
-      ];
-    }
+    let passed = λ (a : Automaton) (it : Cursor). 0 < it.passed_at → (it.passed_at ≤ length piece) × Stands table pattern a piece it.passed_at it.passed_row in
+    if-some c.go_on-gone.result (passed c.go_on-gone.new.self) (passed c.put_guesses.new.self)
+    (λ it before some. let was = before some in (was.0, stands-grown table pattern c.go_on-gone.new.self c.put_guesses.new.self piece it.passed_at it.passed_row c.put_guesses.ensures.grows was.1)) c.go_on-gone.ensures.passed
+
+pub returns-clause-right : goal.returns-clause-right
+returns-clause-right g c = c.put_guesses.ensures.right (g.W.Weights.table c.args.table.now) c.args.pattern.now c.go_on-gone.ensures.right

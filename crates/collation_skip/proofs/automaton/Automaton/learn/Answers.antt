@@ -29,5 +29,5 @@ returns-clause-right g c =
       | in-Some w ↦ λ below. let found = w.in-Some.ensures.moves in ∣ (found.0, subst (λ n. IsRow a n found.0) (sym w.cell-is) found.1, found.2) ∣₁
       | in-None w ↦ λ below. absurd (omega (arith, below, w.cell-is))
     ] in
-    right-set table pattern a (record { cells = with_item a.cells (c.args.row + c.args.byte) c.match-to.cell; states = a.states; places = a.places; alloc = a.alloc }) c.args.row c.args.byte c.match-to.cell from c.row_behind-to.ensures.right
+    right-set table pattern a (record a { cells = with_item a.cells (c.args.row + c.args.byte) c.match-to.cell }) c.args.row c.args.byte c.match-to.cell from c.row_behind-to.ensures.right
     refl refl (length-set a.cells.items (c.args.row + c.args.byte) c.match-to.cell) here c.ranges.byte.fits move

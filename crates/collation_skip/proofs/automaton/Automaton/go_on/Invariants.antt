@@ -1,7 +1,7 @@
 use Rattle.std.proofs.Common.{◌≤◌, ◌<◌, ◌-◌, length}
 use Rattle.collation_letters.specs.Store.{AreLetters}
 use Rattle.collation_skip.specs.Rows.{AreRight, Stands}
-use Rattle.collation_skip.proofs.automaton.Automaton.go.Given as goal
+use Rattle.collation_skip.proofs.automaton.Automaton.go_on.Given as goal
 
 -- the row where the cursor stands is that of a state that was reached, and so is the one where the text may be passed by
 abbrev pub invariant-moves : goal.invariant-moves
