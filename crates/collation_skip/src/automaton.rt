@@ -17,11 +17,11 @@ use utf8_cut::first_character;
 /// How far apart the rows of even and of odd states are.
 pub(crate) const ROW: usize = 258;
 
-/// A cell where the automaton stops. Greater than each row.
-pub(crate) const STOP: u32 = 0xFFFF_FFFE;
+/// A cell where the automaton stops. Greater than each row, which the sign of a cell alone tells.
+pub(crate) const STOP: u32 = 0x8000_0000;
 
 /// A cell whose move was not met.
-pub(crate) const UNKNOWN: u32 = 0xFFFF_FFFF;
+pub(crate) const UNKNOWN: u32 = 0x8000_0001;
 
 /// An automaton of a pattern's letters.
 #[derive(Drop)]

@@ -18,7 +18,7 @@ returns-then-is_err-2-clause-right c = λ table pattern right.
     let refused = c.is_err-2.ensures.negation ∙ ap not c.if-is_err-2.true in
     let a = c.args.self.now in
     let n = 258 * (c.len-number.result + 1) in
-    let cells : c.resize.new.self.items ≡ a.cells.items = c.resize.ensures.items ∙ ap (λ b. if b then take n a.cells.items ++ replicate (n - vec_len a.cells) 4294967295 else a.cells.items) refused in
+    let cells : c.resize.new.self.items ≡ a.cells.items = c.resize.ensures.items ∙ ap (λ b. if b then take n a.cells.items ++ replicate (n - vec_len a.cells) 2147483649 else a.cells.items) refused in
     right-same table pattern a (record a { cells = c.resize.new.self; states = c.reserve.new.self }) cells c.reserve.ensures.items right
 
 pub returns-clause-number : goal.returns-clause-number
