@@ -3,7 +3,7 @@
 //! A state has a row of cells, one for each byte: the row of the state to which the byte leads, or one of the two numbers above all
 //! rows. A row is named by the index of its first cell, so that a move is one addition and one look-up. Whether the text may be passed
 //! by up to the last character is seen by the row alone: it is odd then.
-ghost use Rattle.std.specs.Prelude.{◌≡◌, ◌⊎◌, ◌+◌, ◌-◌, ◌^◌, ◌<◌, length, slice_index};
+ghost use Rattle.std.specs.Prelude.{◌≡◌, ◌⊎◌, ◌+◌, ◌<◌, length, slice_index};
 
 use crate::passed::Passed;
 use crate::state::State;
