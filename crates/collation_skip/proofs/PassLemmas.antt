@@ -1,16 +1,37 @@
 -- What blocks that pass say of the bytes of a piece.
-use Rattle.std.proofs.Common.{◌≡◌, ◌∙◌, ℕ, zero, suc, ◌+◌, ◌-◌, ◌/◌, ◌%◌, ◌≤◌, ◌<◌, max, List, ◌∷◌, ◌++◌, length, slice_index, get_or, subst, sym, ap, arith, inl, inr, bit_and}
+use Rattle.std.proofs.Common.{◌≡◌, ◌∙◌, ℕ, zero, suc, ◌+◌, ◌-◌, ◌/◌, ◌%◌, ◌≤◌, ◌<◌, max, List, ◌∷◌, ◌++◌, length, slice_index, get_or, subst, sym, ap, ap₂, arith, inl, inr, bit_and, bit_or}
+use Rattle.std.specs.Int.Bits.{and_zero_l}
+use Rattle.std.proofs.lemmas.Nat.{and_or_apart}
 use Rattle.std.proofs.lemmas.List.{get_or_append_left, get_or-append-add}
 use Rattle.std.proofs.lemmas.Bool.{cases_lt}
 use Rattle.collation_skip.specs.Lanes.{HasLanes}
 use Rattle.collation_skip.specs.declared.classes.Classes.{Classes}
 use Rattle.collation_skip.specs.declared.classes.TheConstants.{COLUMNS}
-use Rattle.collation_skip.specs.Blocks.{Passes, PassesBehind, in_set}
+use Rattle.collation_skip.specs.Blocks.{HaltsDecide, MayPass, Passes, PassesBehind, in_set}
 
 -- a lane of a look-up in a set
 pub member : (set v columns members : List ℕ) → HasLanes columns (λ k. get_or COLUMNS (get_or v k 0 / 16) 0) → HasLanes members (λ k. bit_and (get_or set (get_or v k 0 % 16) 0) (get_or columns k 0)) → (k : ℕ) → k < 16 →
     get_or members k 0 ≡ in_set set (get_or v k 0)
 member set v columns members high looked k less = looked.each k less ∙ ap (bit_and (get_or set (get_or v k 0 % 16) 0)) (high.each k less)
+
+-- no byte is in a set whose lanes are all 0
+pub in-none : (set lanes : List ℕ) → HasLanes lanes (λ k. slice_index set (0 + k)) → ((k : ℕ) → k < 16 → slice_index lanes k ≡ 0) → (byte : ℕ) → in_set set byte ≡ 0
+in-none set lanes has nothing byte = ap (λ (x : ℕ). bit_and x (slice_index COLUMNS (byte / 16))) at ∙ and_zero_l (slice_index COLUMNS (byte / 16))
+  where
+    at : slice_index set (byte % 16) ≡ 0
+    at = ap (λ (j : ℕ). slice_index set j) (omega arith) ∙ sym (has.each (byte % 16) (omega arith)) ∙ nothing (byte % 16) (omega arith)
+
+-- nor in one whose lanes add nothing to those of another, if it is not in that one
+pub in-neither : (set other lanes others : List ℕ) → HasLanes lanes (λ k. slice_index set (0 + k)) → HasLanes others (λ k. slice_index other (0 + k)) →
+    ((k : ℕ) → k < 16 → bit_or (slice_index lanes k) (slice_index others k) ≡ slice_index others k) → (byte : ℕ) → in_set other byte ≡ 0 → in_set set byte ≡ 0
+in-neither set other lanes others has has_other same byte none =
+    let i = byte % 16 in
+    let column = slice_index COLUMNS (byte / 16) in
+    let less : i < 16 = omega arith in
+    let first : slice_index set i ≡ slice_index lanes i = ap (λ (j : ℕ). slice_index set j) (omega arith) ∙ sym (has.each i less) in
+    let second : slice_index other i ≡ slice_index others i = ap (λ (j : ℕ). slice_index other j) (omega arith) ∙ sym (has_other.each i less) in
+    let all : bit_or (slice_index set i) (slice_index other i) ≡ slice_index other i = ap₂ bit_or first second ∙ same i less ∙ sym second in
+    sym (and_or_apart column (slice_index set i) (slice_index other i) none) ∙ ap (λ (x : ℕ). bit_and x column) all ∙ none
 
 pub passes-more : (classes : Classes) (bytes : List ℕ) (len lanes : ℕ) → 1 ≤ len → len + lanes ≤ length bytes → Passes classes bytes len →
     ((k : ℕ) → k < lanes → PassesBehind classes (get_or bytes (len + k - 1) 0) (get_or bytes (len + k) 0)) → Passes classes bytes (len + lanes)
@@ -31,6 +52,29 @@ passes-more classes bytes len lanes some within p block = record {
           subst (λ j. PassesBehind classes (get_or bytes i 0) (get_or bytes j 0)) there
           (subst (λ j. PassesBehind classes (get_or bytes j 0) (get_or bytes (len + k) 0)) last (block k (omega (arith, behind, less))))
     ]
+
+-- the last of the bytes that pass does not halt
+last-going : (classes : Classes) (bytes : List ℕ) (n : ℕ) → 1 ≤ n → Passes classes bytes n → in_set classes.halt (get_or bytes (n - 1) 0) ≡ 0
+last-going classes bytes zero some p = absurd (omega (arith, some))
+last-going classes bytes (suc zero) some p = p.going some
+last-going classes bytes (suc (suc n)) some p = subst (λ (j : ℕ). in_set classes.halt (get_or bytes j 0) ≡ 0) (omega arith) (p.each n (omega arith)).going
+
+-- where the bytes that halt decide it, bytes that can be passed pass behind those that do
+pub passes-halts : (classes : Classes) (bytes : List ℕ) (len lanes : ℕ) → HaltsDecide classes → 1 ≤ len → len + lanes ≤ length bytes → Passes classes bytes len →
+    ((k : ℕ) → k < lanes → MayPass classes (get_or bytes (len + k) 0)) → Passes classes bytes (len + lanes)
+passes-halts classes bytes len lanes decide some within p may = passes-more classes bytes len lanes some within p (λ k less.
+    let no_key = decide.key (get_or bytes (len + k - 1) 0) (before k less) in
+    let apart = decide.inner (get_or bytes (len + k) 0) in
+    record {
+      ascii = (may k less).ascii;
+      going = (may k less).going;
+      keys = omega (arith, no_key);
+      units = omega (arith, apart);
+    })
+  where
+    before : (k : ℕ) → k < lanes → in_set classes.halt (get_or bytes (len + k - 1) 0) ≡ 0
+    before zero less = subst (λ (j : ℕ). in_set classes.halt (get_or bytes j 0) ≡ 0) (omega arith) (last-going classes bytes len some p)
+    before (suc k) less = subst (λ (j : ℕ). in_set classes.halt (get_or bytes j 0) ≡ 0) (omega arith) (may k (omega (arith, less))).going
 
 -- a block that begins amid the bytes that pass
 pub passes-over : (classes : Classes) (bytes : List ℕ) (len at lanes n : ℕ) → 1 ≤ at → at ≤ len → at + lanes ≤ length bytes → len ≤ n → n ≤ max len (at + lanes) → Passes classes bytes len →

@@ -103,7 +103,18 @@ pub record KeysDecide (classes : Classes) : Type 0 where
   pub halt : (byte : ℕ) → byte < 256 → in_set classes.halt byte ≡ 0
   pub inner : (byte : ℕ) → byte < 256 → in_set classes.inner byte ≡ 0
 
+-- The bytes that halt decide alone which bytes pass: a character that may be passed does not have the pattern's key at the place, and no
+-- unit reaches into one.
+pub record HaltsDecide (classes : Classes) : Type 0 where
+  pub key : (byte : ℕ) → in_set classes.halt byte ≡ 0 → in_set classes.key byte ≡ 0
+  pub inner : (byte : ℕ) → in_set classes.inner byte ≡ 0
+
 -- ---- text that passes
+
+-- a byte of ASCII that does not halt
+pub record MayPass (classes : Classes) (byte : ℕ) : Type 0 where
+  pub ascii : byte < 128
+  pub going : in_set classes.halt byte ≡ 0
 
 -- A byte passes behind another: it is ASCII and does not halt, the two are not a key and a later one, and no unit reaches from one to
 -- the other.

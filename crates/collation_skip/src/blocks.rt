@@ -5,13 +5,13 @@ ghost use Rattle.std.specs.Str.{chars, IsUtf8};
 ghost use Rattle.utf8_cut.specs.Sequences.{SpellsCharacter};
 ghost use Rattle.collation_letters.specs.Letters.{IsLetter};
 ghost use Rattle.collation_letters.specs.Store.{AreLetters};
-ghost use Rattle.collation_skip.specs.Blocks.{AreClassesRight, IsClean, KeysDecide, Passes, PassesBehind, in_set as in_set_of};
+ghost use Rattle.collation_skip.specs.Blocks.{AreClassesRight, HaltsDecide, IsClean, KeysDecide, MayPass, Passes, PassesBehind, in_set as in_set_of};
 ghost use Rattle.collation_skip.specs.Passed.{IsPassed};
 
 use crate::classes::{Classes, in_set};
 use crate::lanes::{
-    is_zero, key_stops, keys_behind, keys_decide, keys_of, load, stops, zeros_in_front,
-    zeros_in_front_of_two,
+    halts_decide, halts_of, is_zero, key_stops, keys_behind, keys_decide, keys_of, load, stops,
+    zeros_in_front, zeros_in_front_of_two,
 };
 use crate::passed::Passed;
 use collation_elements::{units_stay_apart, weighers_go_on};
@@ -78,6 +78,8 @@ fn passed_len(classes: &Classes, piece: &[u8], limit: usize) -> usize
     }
     let mut len = if keys_decide(classes) {
         pass_by_keys(classes, piece, limit)
+    } else if halts_decide(classes) {
+        pass_by_halts(classes, piece, limit)
     } else {
         pass_by_twos(classes, piece, limit)
     };
@@ -131,6 +133,26 @@ fn pass_by_keys(classes: &Classes, piece: &[u8], limit: usize) -> usize
         }
         len += 32;
         before = keys;
+    }
+    len
+}
+
+/// The same where the bytes that halt decide it: then one set is looked up.
+#[inline(always)]
+fn pass_by_halts(classes: &Classes, piece: &[u8], limit: usize) -> usize
+    requires halts { HaltsDecide classes.now }
+    requires limit { (1 ≤ limit) × (limit ≤ length piece.now) }
+    requires passes { Passes classes.now piece.now 1 }
+    ensures passes { Passes classes.now piece.now result }
+    ensures within { (1 ≤ result) × (result ≤ limit) }
+{
+    let mut len = 1;
+    while limit - len >= 32 {
+        let lanes = two_blocks_len_by_halts(classes, piece, len);
+        if lanes < 32 {
+            return len + lanes;
+        }
+        len += 32;
     }
     len
 }
@@ -234,6 +256,19 @@ fn two_blocks_len_by_keys(
     let stops_first = key_stops(classes, before, middle, first);
     let stops_second = key_stops(classes, middle, last, second);
     (zeros_in_front_of_two(stops_first, stops_second), last)
+}
+
+/// How many of the thirty-two bytes from `at` on can be passed, up to the first one that can't.
+#[inline(always)]
+fn two_blocks_len_by_halts(classes: &Classes, bytes: &[u8], at: usize) -> usize
+    requires within { at + 32 ≤ length bytes.now }
+    ensures within { result ≤ 32 }
+    ensures passes { (k : ℕ) → k < result
+        → MayPass classes.now (slice_index bytes.now (at + k)) }
+{
+    let first = halts_of(classes, load(bytes, at));
+    let second = halts_of(classes, load(bytes, at + 16));
+    zeros_in_front_of_two(first, second)
 }
 
 /// How many of the sixteen bytes from `at` on pass, behind the byte before them, up to the first one that does not.

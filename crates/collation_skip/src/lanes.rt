@@ -1,6 +1,6 @@
 //! Vectors of sixteen bytes, lane by lane.
 ghost use Rattle.std.specs.Prelude.{◌≡◌, ℕ, ◌+◌, ◌%◌, ◌/◌, ◌<◌, ◌≤◌, ◌∷◌, ◌++◌, min, true, length, slice_index, bit_and, bit_or};
-ghost use Rattle.collation_skip.specs.Blocks.{KeysDecide, PassesBehind, in_set};
+ghost use Rattle.collation_skip.specs.Blocks.{HaltsDecide, KeysDecide, MayPass, PassesBehind, in_set};
 ghost use Rattle.collation_skip.specs.TwoBytes.{GoesOn, is_in, leads, trails};
 ghost use Rattle.collation_skip.specs.Lanes.{HasLanes};
 
@@ -87,6 +87,26 @@ pub(crate) fn keys_decide(classes: &Classes) -> bool
     let halt = load(&classes.halt, 0);
     let inner = load(&classes.inner, 0);
     are_zero(halt, inner)
+}
+
+/// Not 0 in the lanes of bytes that can't be passed.
+#[inline(always)]
+pub(crate) fn halts_of(classes: &Classes, here: u8x16) -> u8x16
+    ensures { (k : ℕ) → k < 16 → slice_index result k ≡ 0
+        → MayPass classes.now (slice_index here k) }
+{
+    either(members(&classes.halt, here, columns(here)), high_bits(here))
+}
+
+/// Whether the bytes that halt decide alone which bytes pass, as for a pattern of one key in a table without strings of letters of ASCII.
+#[inline(always)]
+pub(crate) fn halts_decide(classes: &Classes) -> bool
+    ensures { result ≡ true → HaltsDecide classes.now }
+{
+    let halt = load(&classes.halt, 0);
+    let key = load(&classes.key, 0);
+    let reached = load(&classes.inner, 0);
+    are_zero(unlike(either(key, halt), halt), reached)
 }
 
 /// Not 0 in the lanes where a byte does not go on behind two others.

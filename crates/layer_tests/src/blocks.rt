@@ -1,5 +1,6 @@
 //! How much of a text `collation_skip` passes by in blocks, which no clause says: of ASCII, beside the way before blocks were joined in
-//! twos and looked up once, on made texts of each length about the sizes of blocks; and that characters of two bytes pass in blocks too.
+//! twos and looked up once, for patterns of one key and of two, on made texts of each length about the sizes of blocks; and that characters
+//! of two bytes pass in blocks too.
 
 ghost use Rattle.collation_letters.specs.Store.{AreLetters};
 ghost use Rattle.collation_skip.specs.Blocks.{AreBlocksRight};
@@ -27,25 +28,58 @@ const BYTES: [u8; 16] = *b"abababmmm chmm \xC3";
 /// The longest made text, in bytes.
 const LONGEST: usize = 100;
 
+/// What is sought, and where.
+#[derive(Clone, Copy)]
+enum Sought {
+    /// `ab` in a table without strings of letters of ASCII.
+    Two,
+    /// `ab` in a table with the string `ch`.
+    TwoBesideString,
+    /// `a` in a table without strings of letters of ASCII: there the bytes that halt decide which bytes pass.
+    One,
+}
+
 /// The byte at a place, 0 behind the last.
 fn byte_at(text: &[u8], at: usize) -> u8 {
     text.get(at).copied().unwrap_or(0)
 }
 
-/// Whether a byte passes behind the one before it, in a table with the string `ch` or without.
-fn passes(text: &[u8], at: usize, has_string: bool) -> bool {
+/// Whether a byte passes behind the one before it.
+fn passes(text: &[u8], at: usize, sought: Sought) -> bool {
     let before = byte_at(text, at.wrapping_sub(1));
     let here = byte_at(text, at);
-    here < 128
-        && !(before == b'a' && here == b'b')
-        && !(has_string && before == b'c' && here == b'h')
+    let stops = match sought {
+        Sought::Two => before == b'a' && here == b'b',
+        Sought::TwoBesideString => {
+            (before == b'a' && here == b'b') || (before == b'c' && here == b'h')
+        }
+        Sought::One => here == b'a',
+    };
+    here < 128 && !stops
+}
+
+/// Whether the first byte of a text passes.
+fn begins(text: &[u8], sought: Sought) -> bool {
+    match sought {
+        Sought::Two | Sought::TwoBesideString => byte_at(text, 0) < 128,
+        Sought::One => byte_at(text, 0) < 128 && byte_at(text, 0) != b'a',
+    }
+}
+
+/// Whether the text may be left behind a byte of ASCII: its character has a key which the pattern lacks, and no unit reaches out of it.
+fn is_clean(byte: u8, sought: Sought) -> bool {
+    match sought {
+        Sought::Two => byte != b'a' && byte != b'b',
+        Sought::TwoBesideString => byte != b'a' && byte != b'b' && byte != b'c',
+        Sought::One => byte != b'a',
+    }
 }
 
 /// How many of sixteen bytes pass, up to the first one that does not.
-fn lanes_that_pass(text: &[u8], at: usize, has_string: bool) -> usize {
+fn lanes_that_pass(text: &[u8], at: usize, sought: Sought) -> usize {
     let mut lanes = 0;
     for lane in 0..16usize {
-        if lanes == lane && passes(text, at.saturating_add(lane), has_string) {
+        if lanes == lane && passes(text, at.saturating_add(lane), sought) {
             lanes = lane + 1;
         }
     }
@@ -53,39 +87,37 @@ fn lanes_that_pass(text: &[u8], at: usize, has_string: bool) -> usize {
 }
 
 /// How many bytes at the front of a text passed before: the first one, blocks of sixteen behind it, and the last few one by one.
-fn passed_len(text: &[u8], limit: usize, has_string: bool) -> usize {
-    if limit == 0 || byte_at(text, 0) >= 128 {
+fn passed_len(text: &[u8], limit: usize, sought: Sought) -> usize {
+    if limit == 0 || !begins(text, sought) {
         return 0;
     }
     let mut len = 1usize;
     for _ in 0..LONGEST {
-        if limit.saturating_sub(len) >= 16 && lanes_that_pass(text, len, has_string) == 16 {
+        if limit.saturating_sub(len) >= 16 && lanes_that_pass(text, len, sought) == 16 {
             len = len.saturating_add(16);
         }
     }
     if limit.saturating_sub(len) >= 16 {
-        return len.saturating_add(lanes_that_pass(text, len, has_string));
+        return len.saturating_add(lanes_that_pass(text, len, sought));
     }
     for _ in 0..16 {
-        if len < limit && passes(text, len, has_string) {
+        if len < limit && passes(text, len, sought) {
             len = len.saturating_add(1);
         }
     }
     len
 }
 
-/// Where the text was left then: at the last character that has a key which the pattern lacks and out of which no unit reaches, before
-/// another one of ASCII.
-fn left_at(text: &[u8], limit: usize, has_string: bool) -> Option<(usize, usize)> {
-    let len = passed_len(text, limit, has_string);
+/// Where the text was left then: at the last character behind which it may be, before another one of ASCII.
+fn left_at(text: &[u8], limit: usize, sought: Sought) -> Option<(usize, usize)> {
+    let len = passed_len(text, limit, sought);
     let mut most = len;
     if len >= text.len() || byte_at(text, len) >= 128 {
         most = len.saturating_sub(1);
     }
     let mut left = None;
     for at in 0..most {
-        let byte = byte_at(text, at);
-        if byte != b'a' && byte != b'b' && !(has_string && byte == b'c') {
+        if is_clean(byte_at(text, at), sought) {
             left = Some((at, at + 1));
         }
     }
@@ -119,7 +151,7 @@ fn compare_lengths<W: Weights>(
     pattern: &Pattern,
     letters: &mut Letters,
     blocks: &mut AsciiBlocks,
-    has_string: bool,
+    sought: Sought,
 )
     requires right { AreLetters (W.table table.now) pattern.now letters.old }
     requires blocks { AreBlocksRight (W.table table.now) pattern.now blocks.old }
@@ -131,7 +163,7 @@ fn compare_lengths<W: Weights>(
         let piece = text.get(..len).unwrap_or(b"");
         let limit = len.saturating_sub((number >> 40) as usize % 4);
         let passed = blocks.pass(table, pattern, letters, piece, limit);
-        let want = left_at(piece, limit, has_string);
+        let want = left_at(piece, limit, sought);
         assert_eq!(rt; place_of(passed), want, "{len} {turn} {limit}");
     }
 }
@@ -142,27 +174,28 @@ fn try_lengths(
     alloc: Global,
     table: &Table,
     pattern: &Pattern,
-    has_string: bool,
+    sought: Sought,
 ) -> Result<(), AllocError> {
     let mut letters = Letters::new(alloc, table)?;
     let mut blocks = AsciiBlocks::new();
     let _long = blocks.pass(table, pattern, &mut letters, &[b'm'; 1_024], 1_000);
-    compare_lengths(rt, table, pattern, &mut letters, &mut blocks, has_string);
+    compare_lengths(rt, table, pattern, &mut letters, &mut blocks, sought);
     Ok(())
 }
 
 /// Compares texts in the table of a file.
-fn compare_in(rt: &impl Abort, alloc: Global, file: &str, has_string: bool) {
+fn compare_in(rt: &impl Abort, alloc: Global, file: &str, text: &str, sought: Sought) {
     let table = table_of(rt, alloc, file, None);
-    let pattern = compile(rt, alloc, &table, ("ab", ONE, KEPT));
-    let compared = try_lengths(rt, alloc, &table, &pattern, has_string);
+    let pattern = compile(rt, alloc, &table, (text, ONE, KEPT));
+    let compared = try_lengths(rt, alloc, &table, &pattern, sought);
     compared.expect(rt, "memory");
 }
 
 #[test]
 fn blocks_pass_as_much_as_before(rt: HostRuntime) {
-    compare_in(&rt, rt.alloc(), PLAIN, false);
-    compare_in(&rt, rt.alloc(), TABLE, true);
+    compare_in(&rt, rt.alloc(), PLAIN, "ab", Sought::Two);
+    compare_in(&rt, rt.alloc(), TABLE, "ab", Sought::TwoBesideString);
+    compare_in(&rt, rt.alloc(), PLAIN, "a", Sought::One);
 }
 
 /// How much is passed by of a text.
