@@ -191,11 +191,10 @@ pub(crate) fn zeros_in_front_of_two(a: u8x16, b: u8x16) -> usize
     if are_zero(a, b) {
         return 32;
     }
-    let zeros = zeros_in_front(a);
-    if zeros < 16 {
-        return zeros;
-    }
-    16 + zeros_in_front(b)
+    // both are counted, so that a place that can't be foreseen is no jump
+    let first = zeros_in_front(a);
+    let second = 16 + zeros_in_front(b);
+    if first < 16 { first } else { second }
 }
 
 /// How many lanes stand before the first one that is not 0.
