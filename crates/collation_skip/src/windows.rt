@@ -100,6 +100,7 @@ impl Automaton {
             let Some(row) = self.move_window(table, pattern, piece, cursor.at, cursor.row) else {
                 break;
             };
+            // where the two are equal the processor has gone on from the guess before it knew the row
             if row == guess {
                 cursor = come_to(cursor, cursor.at + WINDOW, guess);
             } else {
