@@ -1,6 +1,6 @@
 -- Lemmas on the steps of a trie: what one more node and one more place change, and what the labels of nodes say.
-use Rattle.std.proofs.Common.{◌≡◌, ℕ, zero, suc, ◌+◌, ◌-◌, ◌*◌, ◌^◌, ◌<◌, ◌≤◌, nat_lt, Bool, true, false, cond, get_or, set, List, [], ◌∷◌, ◌++◌, length, take, drop, Option, Some, None, is_some, refl, sym, ap, subst, ◌∙◌, arith, ◌⊎◌, inl, inr, length-drop, append_assoc, Vec}
-use Rattle.std.proofs.lemmas.Bool.{cases_lt, cond-true, cond-false, lt-ltb, le-ltb}
+use Rattle.std.proofs.Common.{◌≡◌, ℕ, zero, suc, ◌+◌, ◌-◌, ◌<◌, ◌≤◌, Bool, true, false, cond, get_or, set, List, [], ◌∷◌, ◌++◌, length, take, drop, Option, Some, None, is_some, refl, sym, ap, subst, ◌∙◌, arith, ◌⊎◌, inl, inr, length-drop, append_assoc, Vec}
+use Rattle.std.proofs.lemmas.Bool.{cases_lt}
 use Rattle.std.proofs.lemmas.List.{take_more}
 use Rattle.collation_table.specs.Table.{TableMap, is_mapped, longest_prefix, longest_prefix_within}
 use Rattle.collation_table.specs.declared.pages.Entry.{Entry}
@@ -11,10 +11,10 @@ use Rattle.std.specs.Map.{lookup}
 use Rattle.std.specs.declared.cmp.Ordering.{Ordering}
 use Rattle.std.specs.declared.cmp.Ordering.TheVariants.{Less, Equal, Greater}
 use Rattle.std.specs.Ordering.{is_eq, nat_cmp}
-use Rattle.std.proofs.lemmas.Map.Lookups.{exact_unsigned}
+use Rattle.std.proofs.lemmas.Map.Lookups.{exact_pairs, exact_unsigned}
 use Rattle.std.proofs.lemmas.List.{get_or-set_same, get_or-set_other}
 use Rattle.collation_table.specs.declared.first_steps.FirstStep.{FirstStep}
-use Rattle.collation_table.specs.Trie.{no_entry, no_page_entry, page_entry, step_at, step_key, or_no_entry, seek, place_from, Leads, IsTrieOf, IsSet, IsFirst, AreFirst, first_of, no_first_step}
+use Rattle.collation_table.specs.Trie.{no_entry, no_page_entry, page_entry, step_at, step_cmp, or_no_entry, seek, place_from, Leads, IsTrieOf, IsSet, IsFirst, AreFirst, first_of, no_first_step}
 
 -- ---- cases
 
@@ -343,25 +343,18 @@ split_last string n is = sym (take_all' string (n + 1) (omega arith)) ∙ take_m
 
 -- ---- steps of a trie with pages and an ordered map
 
-pub step_at-deep : {A : Type 0} (pages : List (Vec PageEntry A)) (steps : BTreeMap ℕ Entry) (n cp : ℕ) → ((n ≡ 0) → ⊥) → cp < 2 ^ 32 → step_at pages steps n cp ≡ or_no_entry (get nat_cmp steps (step_key n cp))
-step_at-deep pages steps zero cp deep low = absurd (deep refl)
-step_at-deep pages steps (suc n) cp deep low = cond-true (nat_lt cp (2 ^ 32)) _ _ (lt-ltb cp (2 ^ 32) low)
+pub step_at-deep : {A : Type 0} (pages : List (Vec PageEntry A)) (steps : BTreeMap (ℕ × ℕ) Entry) (n cp : ℕ) → ((n ≡ 0) → ⊥) → step_at pages steps n cp ≡ or_no_entry (get step_cmp steps (n, cp))
+step_at-deep pages steps zero cp deep = absurd (deep refl)
+step_at-deep pages steps (suc n) cp deep = refl
 
-step_at-high : {A : Type 0} (pages : List (Vec PageEntry A)) (steps : BTreeMap ℕ Entry) (n cp : ℕ) → 2 ^ 32 ≤ cp → step_at pages steps (suc n) cp ≡ no_entry
-step_at-high pages steps n cp high = cond-false (nat_lt cp (2 ^ 32)) _ _ (le-ltb cp (2 ^ 32) high)
-
-pub step_at-root : {A : Type 0} (pages : List (Vec PageEntry A)) (steps : BTreeMap ℕ Entry) (n cp : ℕ) → n ≡ 0 → step_at pages steps n cp ≡ (page_entry pages cp).entry
+pub step_at-root : {A : Type 0} (pages : List (Vec PageEntry A)) (steps : BTreeMap (ℕ × ℕ) Entry) (n cp : ℕ) → n ≡ 0 → step_at pages steps n cp ≡ (page_entry pages cp).entry
 step_at-root pages steps zero cp root = refl
 step_at-root pages steps (suc n) cp root = absurd (omega arith)
 
 -- where no code point leads anywhere
-pub nowhere : {A : Type 0} (pages : List (Vec PageEntry A)) (steps : BTreeMap ℕ Entry) → ((cp : ℕ) → page_entry pages cp ≡ no_page_entry) → steps.entries ≡ [] → (n cp : ℕ) → step_at pages steps n cp ≡ no_entry
+pub nowhere : {A : Type 0} (pages : List (Vec PageEntry A)) (steps : BTreeMap (ℕ × ℕ) Entry) → ((cp : ℕ) → page_entry pages cp ≡ no_page_entry) → steps.entries ≡ [] → (n cp : ℕ) → step_at pages steps n cp ≡ no_entry
 nowhere pages steps none empty zero cp = ap (λ (e : PageEntry). e.entry) (none cp)
-nowhere pages steps none empty (suc n) cp = by (cases_lt cp (2 ^ 32))
-  where
-    by : (cp < 2 ^ 32) ⊎ (2 ^ 32 ≤ cp) → step_at pages steps (suc n) cp ≡ no_entry
-    by (inl low) = step_at-deep pages steps (suc n) cp (λ e. absurd (omega (arith, e))) low ∙ ap (λ es. or_no_entry (lookup (λ k. is_eq (nat_cmp (step_key (suc n) cp) k)) es)) empty
-    by (inr high) = step_at-high pages steps n cp high
+nowhere pages steps none empty (suc n) cp = ap (λ es. or_no_entry (lookup (λ k. is_eq (step_cmp (suc n, cp) k)) es)) empty
 
 pub nowhere_trie : (E : ℕ → ℕ → Entry) → ((n cp : ℕ) → E n cp ≡ no_entry) → IsTrieOf E 1
 nowhere_trie E none = record {
@@ -382,17 +375,17 @@ is_eq_equal Less h = cc
 is_eq_equal Equal h = refl
 is_eq_equal Greater h = cc
 
-other_step : (n cp m d : ℕ) → cp < 2 ^ 32 → d < 2 ^ 32 → ((m ≡ n) → (d ≡ cp) → ⊥) → is_eq (nat_cmp (step_key n cp) (step_key m d)) ≡ false
-other_step n cp m d low lower other = by (is_eq (nat_cmp (step_key n cp) (step_key m d))) refl
+other_step : (n cp m d : ℕ) → ((m ≡ n) → (d ≡ cp) → ⊥) → is_eq (step_cmp (n, cp) (m, d)) ≡ false
+other_step n cp m d other = by (is_eq (step_cmp (n, cp) (m, d))) refl
   where
-    by : (b : Bool) → is_eq (nat_cmp (step_key n cp) (step_key m d)) ≡ b → b ≡ false
+    by : (b : Bool) → is_eq (step_cmp (n, cp) (m, d)) ≡ b → b ≡ false
     by false h = refl
     by true h =
-        let same : n * 2 ^ 32 + cp ≡ m * 2 ^ 32 + d = exact_unsigned (step_key n cp) (step_key m d) (is_eq_equal (nat_cmp (step_key n cp) (step_key m d)) h) in
-        absurd (other (omega (arith, same, low, lower)) (omega (arith, same, low, lower)))
+        let same : (n, cp) ≡ (m, d) = exact_pairs nat_cmp nat_cmp exact_unsigned exact_unsigned (n, cp) (m, d) (is_eq_equal (step_cmp (n, cp) (m, d)) h) in
+        absurd (other (sym (ap (λ (p : ℕ × ℕ). p.0) same)) (sym (ap (λ (p : ℕ × ℕ). p.1) same)))
 
 -- a step from the root is set
-pub set_at_root : {A : Type 0} (pages new : List (Vec PageEntry A)) (steps : BTreeMap ℕ Entry) (n cp : ℕ) (e : PageEntry) → n ≡ 0 → page_entry new cp ≡ e
+pub set_at_root : {A : Type 0} (pages new : List (Vec PageEntry A)) (steps : BTreeMap (ℕ × ℕ) Entry) (n cp : ℕ) (e : PageEntry) → n ≡ 0 → page_entry new cp ≡ e
     → ((q : ℕ) → ((q ≡ cp) → ⊥) → page_entry new q ≡ page_entry pages q) → IsSet (step_at pages steps) (step_at new steps) n cp e.entry
 set_at_root pages new steps n cp e root here others = record {
   hit = step_at-root new steps n cp root ∙ ap (λ (x : PageEntry). x.entry) here;
@@ -404,11 +397,11 @@ set_at_root pages new steps n cp e root here others = record {
     miss (suc t) d other = refl
 
 -- a step from another node is set, and the code point is marked
-pub set_after : {A : Type 0} (pages new : List (Vec PageEntry A)) (steps more : BTreeMap ℕ Entry) (n cp : ℕ) (e : Entry) → ((n ≡ 0) → ⊥) → (page_entry new cp).entry ≡ (page_entry pages cp).entry
-    → ((q : ℕ) → ((q ≡ cp) → ⊥) → page_entry new q ≡ page_entry pages q) → cp < 2 ^ 32 → get nat_cmp more (step_key n cp) ≡ Some e
-    → ((q : ℕ) → is_eq (nat_cmp (step_key n cp) q) ≡ false → get nat_cmp more q ≡ get nat_cmp steps q) → IsSet (step_at pages steps) (step_at new more) n cp e
-set_after pages new steps more n cp e deep here others low has rest = record {
-  hit = step_at-deep new more n cp deep low ∙ ap or_no_entry has;
+pub set_after : {A : Type 0} (pages new : List (Vec PageEntry A)) (steps more : BTreeMap (ℕ × ℕ) Entry) (n cp : ℕ) (e : Entry) → ((n ≡ 0) → ⊥) → (page_entry new cp).entry ≡ (page_entry pages cp).entry
+    → ((q : ℕ) → ((q ≡ cp) → ⊥) → page_entry new q ≡ page_entry pages q) → get step_cmp more (n, cp) ≡ Some e
+    → ((q : ℕ × ℕ) → is_eq (step_cmp (n, cp) q) ≡ false → get step_cmp more q ≡ get step_cmp steps q) → IsSet (step_at pages steps) (step_at new more) n cp e
+set_after pages new steps more n cp e deep here others has rest = record {
+  hit = step_at-deep new more n cp deep ∙ ap or_no_entry has;
   miss = miss;
 }
   where
@@ -418,17 +411,10 @@ set_after pages new steps more n cp e deep here others low has rest = record {
         by : (d ≡ cp) ⊎ ((d ≡ cp) → ⊥) → (page_entry new d).entry ≡ (page_entry pages d).entry
         by (inl same) = rw same here
         by (inr not) = ap (λ (x : PageEntry). x.entry) (others d not)
-    miss (suc t) d other = by (cases_lt d (2 ^ 32))
-      where
-        by : (d < 2 ^ 32) ⊎ (2 ^ 32 ≤ d) → step_at new more (suc t) d ≡ step_at pages steps (suc t) d
-        by (inl lower) =
-            step_at-deep new more (suc t) d (λ e. absurd (omega (arith, e))) lower
-            ∙ ap or_no_entry (rest (step_key (suc t) d) (other_step n cp (suc t) d low lower other))
-            ∙ sym (step_at-deep pages steps (suc t) d (λ e. absurd (omega (arith, e))) lower)
-        by (inr high) = step_at-high new more t d high ∙ sym (step_at-high pages steps t d high)
+    miss (suc t) d other = ap or_no_entry (rest (suc t, d) (other_step n cp (suc t) d other))
 
 -- what is marked stays so
-pub marked_at_root : {A : Type 0} (pages new : List (Vec PageEntry A)) (steps : BTreeMap ℕ Entry) (cp : ℕ) → (page_entry new cp).continues ≡ (page_entry pages cp).continues
+pub marked_at_root : {A : Type 0} (pages new : List (Vec PageEntry A)) (steps : BTreeMap (ℕ × ℕ) Entry) (cp : ℕ) → (page_entry new cp).continues ≡ (page_entry pages cp).continues
     → ((q : ℕ) → ((q ≡ cp) → ⊥) → page_entry new q ≡ page_entry pages q)
     → ((s d : ℕ) → 0 < s → (page_entry pages d).continues ≡ false → step_at pages steps s d ≡ no_entry)
     → (s d : ℕ) → 0 < s → (page_entry new d).continues ≡ false → step_at new steps s d ≡ no_entry
@@ -439,24 +425,20 @@ marked_at_root pages new steps cp here others marked (suc s) d lt off = marked (
     by (inl same) = (λ i. (page_entry pages (same i)).continues) ∙ sym here ∙ (λ i. (page_entry new (sym same i)).continues) ∙ off
     by (inr not) = sym (ap (λ (x : PageEntry). x.continues) (others d not)) ∙ off
 
-pub marked_after : {A : Type 0} (pages new : List (Vec PageEntry A)) (steps more : BTreeMap ℕ Entry) (n cp : ℕ) → (page_entry new cp).continues ≡ true
-    → ((q : ℕ) → ((q ≡ cp) → ⊥) → page_entry new q ≡ page_entry pages q) → cp < 2 ^ 32
-    → ((q : ℕ) → is_eq (nat_cmp (step_key n cp) q) ≡ false → get nat_cmp more q ≡ get nat_cmp steps q)
+pub marked_after : {A : Type 0} (pages new : List (Vec PageEntry A)) (steps more : BTreeMap (ℕ × ℕ) Entry) (n cp : ℕ) → (page_entry new cp).continues ≡ true
+    → ((q : ℕ) → ((q ≡ cp) → ⊥) → page_entry new q ≡ page_entry pages q)
+    → ((q : ℕ × ℕ) → is_eq (step_cmp (n, cp) q) ≡ false → get step_cmp more q ≡ get step_cmp steps q)
     → ((s d : ℕ) → 0 < s → (page_entry pages d).continues ≡ false → step_at pages steps s d ≡ no_entry)
     → (s d : ℕ) → 0 < s → (page_entry new d).continues ≡ false → step_at new more s d ≡ no_entry
-marked_after pages new steps more n cp here others low rest marked zero d lt off = absurd (omega arith)
-marked_after pages new steps more n cp here others low rest marked (suc s) d lt off = by (is_or_not d cp) (cases_lt d (2 ^ 32))
+marked_after pages new steps more n cp here others rest marked zero d lt off = absurd (omega arith)
+marked_after pages new steps more n cp here others rest marked (suc s) d lt off = by (is_or_not d cp)
   where
-    by : (d ≡ cp) ⊎ ((d ≡ cp) → ⊥) → (d < 2 ^ 32) ⊎ (2 ^ 32 ≤ d) → step_at new more (suc s) d ≡ no_entry
-    by (inl same) _ =
+    by : (d ≡ cp) ⊎ ((d ≡ cp) → ⊥) → or_no_entry (get step_cmp more (suc s, d)) ≡ no_entry
+    by (inl same) =
         let clash : true ≡ false = sym here ∙ (λ i. (page_entry new (sym same i)).continues) ∙ off in
         cc
-    by (inr not) (inl lower) =
-        step_at-deep new more (suc s) d (λ e. absurd (omega (arith, e))) lower
-        ∙ ap or_no_entry (rest (step_key (suc s) d) (other_step n cp (suc s) d low lower (λ p q. not q)))
-        ∙ sym (step_at-deep pages steps (suc s) d (λ e. absurd (omega (arith, e))) lower)
-        ∙ marked (suc s) d lt (sym (ap (λ (x : PageEntry). x.continues) (others d not)) ∙ off)
-    by (inr not) (inr high) = step_at-high new more s d high
+    by (inr not) =
+        ap or_no_entry (rest (suc s, d) (other_step n cp (suc s) d (λ p q. not q))) ∙ marked (suc s) d lt (sym (ap (λ (x : PageEntry). x.continues) (others d not)) ∙ off)
 
 -- ---- first steps
 

@@ -1,7 +1,8 @@
 -- How the paged index of a table finds a mapped string: the first code point by pages, each further one by a step from a node
 -- of a trie. Node 0 is the root.
-use Rattle.std.specs.Prelude.{◌≡◌, ℕ, zero, suc, ◌+◌, ◌*◌, ◌^◌, ◌/◌, ◌%◌, ◌<◌, ◌≤◌, Bool, false, nat_lt, if◌then◌else◌, List, [], ◌∷◌, ◌++◌, Option, Some, None, Vec, slice_get, get_or, length}
-use Rattle.std.specs.Ordering.{nat_cmp}
+use Rattle.std.specs.Prelude.{◌≡◌, ℕ, zero, suc, ◌/◌, ◌%◌, ◌<◌, ◌≤◌, Bool, false, List, [], ◌∷◌, ◌++◌, Option, Some, None, Vec, slice_get, get_or, length}
+use Rattle.std.specs.declared.cmp.Ordering.{Ordering}
+use Rattle.std.specs.Ordering.{nat_cmp, ordering_then}
 use Rattle.std.specs.BTreeMap.{BTreeMap, get}
 use Rattle.collation_table.specs.declared.pages.Place.{Place}
 use Rattle.collation_table.specs.declared.pages.Entry.{Entry}
@@ -24,18 +25,17 @@ in_page (Some page) i = get_or page.items i no_page_entry
 abbrev pub page_entry : {A : Type 0} → List (Vec PageEntry A) → ℕ → PageEntry
 page_entry pages cp = in_page (slice_get pages (cp / 256)) (cp % 256)
 
--- a node and a code point as one number, the code point in the lower 32 bits
-abbrev pub step_key : ℕ → ℕ → ℕ
-step_key n cp = n * 2 ^ 32 + cp
+abbrev pub step_cmp : ℕ × ℕ → ℕ × ℕ → Ordering
+step_cmp x y = ordering_then (nat_cmp x.0 y.0) (nat_cmp x.1 y.1)
 
 abbrev pub or_no_entry : Option Entry → Entry
 or_no_entry None = no_entry
 or_no_entry (Some e) = e
 
 -- where the code point leads after a node
-abbrev pub step_at : {A : Type 0} → List (Vec PageEntry A) → BTreeMap ℕ Entry → ℕ → ℕ → Entry
+abbrev pub step_at : {A : Type 0} → List (Vec PageEntry A) → BTreeMap (ℕ × ℕ) Entry → ℕ → ℕ → Entry
 step_at pages steps zero cp = (page_entry pages cp).entry
-step_at pages steps (suc n) cp = if nat_lt cp (2 ^ 32) then or_no_entry (get nat_cmp steps (step_key (suc n) cp)) else no_entry
+step_at pages steps (suc n) cp = or_no_entry (get step_cmp steps (suc n, cp))
 
 abbrev pub at : Trie → ℕ → ℕ → Entry
 at t = step_at t.pages.pages.items t.steps

@@ -7,7 +7,7 @@
 //! steps is why the trie has this form; the time of a look-up is measured, and no clause speaks of it.
 ghost use Rattle.std.specs.Prelude.{◌≡◌, ℕ, ◌<◌, ◌≤◌, List, [], ◌∷◌, ◌++◌, false, length, is_some, None, Some, OnOk, IfOk, OnSome, IfSome};
 ghost use Rattle.collation_table.specs.Table.{TableMap, is_mapped, longest_prefix};
-ghost use Rattle.collation_table.specs.Trie.{at, step_key, place_of, seek, continues, Leads, IsTrie, IsMarked, HasFirst, IsSet};
+ghost use Rattle.collation_table.specs.Trie.{at, place_of, seek, continues, Leads, IsTrie, IsMarked, HasFirst, IsSet};
 
 use crate::first_steps::FirstSteps;
 use crate::pages::{Entry, NO_ENTRY, PageEntry, Pages, Place};
@@ -18,16 +18,9 @@ use std::collections::BTreeMap;
 #[derive(Drop)]
 pub(crate) struct Trie {
     pages: Pages,
-    steps: BTreeMap<u64, Entry>,
+    steps: BTreeMap<(u32, u32), Entry>,
     firsts: FirstSteps,
     nodes: u32,
-}
-
-/// A node and a code point as one number, so that a look at a step compares one number with another.
-fn step_key(node: u32, cp: u32) -> u64
-    ensures { result ≡ step_key node cp }
-{
-    u64::from(node) * (1 << 32) + u64::from(cp)
 }
 
 impl Trie {
@@ -70,7 +63,7 @@ impl Trie {
         if !page_entry.continues {
             return NO_ENTRY;
         }
-        match self.steps.get(&step_key(node, cp)) {
+        match self.steps.get(&(node, cp)) {
             Some(entry) => *entry,
             None => NO_ENTRY,
         }
@@ -111,7 +104,7 @@ impl Trie {
                 continues: true,
             },
         )?;
-        self.steps.insert(step_key(node, cp), entry)?;
+        self.steps.insert((node, cp), entry)?;
         self.firsts.set(node, cp, entry)?;
         Ok(())
     }

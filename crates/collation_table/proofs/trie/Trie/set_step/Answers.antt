@@ -1,6 +1,4 @@
-use Rattle.std.proofs.Common.{◌≡◌, ℕ, false, Some, subst, ap, ◌∙◌}
-use Rattle.std.specs.BTreeMap.{get}
-use Rattle.std.specs.Ordering.{is_eq, nat_cmp}
+use Rattle.std.proofs.Common.{ap, ◌∙◌}
 use Rattle.collation_table.specs.declared.pages.PageEntry.{PageEntry}
 use Rattle.collation_table.proofs.TrieLemmas.{set_at_root, set_after, marked_at_root, marked_after, AreFirst-root}
 use Rattle.collation_table.proofs.trie.Trie.set_step.Goals as goal
@@ -16,14 +14,12 @@ pub returns-clause-set : goal.returns-clause-set
 returns-clause-set c =
     set_after _ _ c.args.self.now.steps c.insert.new.self c.args.node c.args.cp c.args.entry c.if-node-eq0.false
     (ap (λ (e : PageEntry). e.entry) c.in_ok-set-2.ensures.here ∙ ap (λ (e : PageEntry). e.entry) c.get-page_entry.ensures)
-    c.in_ok-set-2.ensures.others c.ranges.cp.fits (subst (λ (k : ℕ). get nat_cmp c.insert.new.self k ≡ Some c.args.entry) c.step_key.ensures c.in_ok-insert.ensures.updates.1)
-    (subst (λ (k : ℕ). (q : ℕ) → is_eq (nat_cmp k q) ≡ false → get nat_cmp c.insert.new.self q ≡ get nat_cmp c.args.self.now.steps q) c.step_key.ensures c.in_ok-insert.ensures.updates.2)
+    c.in_ok-set-2.ensures.others c.in_ok-insert.ensures.updates.1 c.in_ok-insert.ensures.updates.2
 
 pub returns-clause-marked : goal.returns-clause-marked
 returns-clause-marked c =
     marked_after _ _ c.args.self.now.steps c.insert.new.self c.args.node c.args.cp (ap (λ (e : PageEntry). e.continues) c.in_ok-set-2.ensures.here)
-    c.in_ok-set-2.ensures.others c.ranges.cp.fits
-    (subst (λ (k : ℕ). (q : ℕ) → is_eq (nat_cmp k q) ≡ false → get nat_cmp c.insert.new.self q ≡ get nat_cmp c.args.self.now.steps q) c.step_key.ensures c.in_ok-insert.ensures.updates.2) c.requires.marked
+    c.in_ok-set-2.ensures.others c.in_ok-insert.ensures.updates.2 c.requires.marked
 
 pub returns-then-node-eq0-clause-firsts : goal.returns-then-node-eq0-clause-firsts
 returns-then-node-eq0-clause-firsts c = AreFirst-root _ _ c.args.node c.args.cp _ c.args.self.now.firsts.steps.items (returns-then-node-eq0-clause-set c) c.if-node-eq0.true c.requires.firsts
