@@ -1,5 +1,5 @@
 -- Which keys a list may have.
-use Rattle.std.specs.Prelude.{◌≡◌, ℕ, ◌%◌, Bool, true, false, List, get_or, slice_get, Some}
+use Rattle.std.specs.Prelude.{◌≡◌, ◌≤◌, ℕ, ◌+◌, ◌%◌, List, get_or, slice_get, Some}
 use Rattle.collation_elements.specs.declared.keys.Key.{Key}
 use Rattle.collation_elements.specs.declared.keys.Key.TheVariants.{Primary, Pair, Secondary, Tertiary}
 use Rattle.collation_pattern.specs.declared.key_set.TheConstants.{PLACES}
@@ -15,6 +15,7 @@ telling_weight (Tertiary third) = third
 abbrev pub place_in_set : Key → ℕ
 place_in_set key = telling_weight key % PLACES
 
--- each of these keys is at its place in the set
-abbrev pub HasPlaces : List Key → List Bool → Type 0
-HasPlaces keys set = (place : ℕ) (key : Key) → slice_get keys place ≡ Some key → get_or set (place_in_set key) false ≡ true
+-- each of these keys is at its place in the set, and none stands before the number there, which counts from 1
+abbrev pub HasPlaces : List Key → List ℕ → Type 0
+HasPlaces keys set = (place : ℕ) (key : Key) → slice_get keys place ≡ Some key →
+    let number = get_or set (place_in_set key) 0 in (1 ≤ number) × (number ≤ place + 1)

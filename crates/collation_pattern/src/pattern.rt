@@ -20,7 +20,7 @@ pub struct Pattern {
     /// The table of borders of the keys.
     borders: Vec<usize>,
     /// The set of the keys.
-    set: [bool; PLACES],
+    set: [u8; PLACES],
     strength: Strength,
     variable: Variable,
 }
@@ -46,7 +46,7 @@ impl Model for Pattern {
 }
 
 impl Pattern {
-    ghost use Rattle.std.specs.Prelude.{◌≡◌, ◌≢◌, ◌↔◌, ◌≤◌, ℕ, List, [], ◌∷◌, ◌++◌, length, slice_get, IsTrue, false, None, Some, IfOk, OnOk, IfErr};
+    ghost use Rattle.std.specs.Prelude.{◌≡◌, ◌≢◌, ◌↔◌, ◌<◌, ◌≤◌, ℕ, List, [], ◌∷◌, ◌++◌, length, slice_get, IsTrue, false, None, Some, IfOk, OnOk, IfErr};
     ghost use Rattle.collation_elements.specs.declared.keys.Key.{Key};
     ghost use Rattle.collation_pattern.specs.Border.{border};
     ghost use Rattle.collation_pattern.specs.Levels.{levels, text_keys};
@@ -130,7 +130,15 @@ impl Pattern {
     pub fn may_have(&self, key: &Key) -> bool
         ensures { result ≡ false → (place : ℕ) → slice_get self.now.keys place ≢ Some key.now }
     {
-        self.set[place_of(key)]
+        self.set[place_of(key)] != 0
+    }
+
+    /// From which place on the pattern may have a key: it does not have it before. It looks once, however long the pattern is, and
+    /// answers 254 at most.
+    pub fn may_have_from(&self, key: &Key) -> usize
+        ensures { (place : ℕ) → place < result → slice_get self.now.keys place ≢ Some key.now }
+    {
+        self.set[place_of(key)].saturating_sub(1) as usize
     }
 
     /// How many keys at the beginning of the pattern end the keys of a text with one more key, from how many of them ended
