@@ -27,7 +27,7 @@ pub(crate) struct Places {
 }
 
 impl Places {
-    ghost use Rattle.std.specs.Prelude.{◌<◌, ◌∷◌, [], IfOk};
+    ghost use Rattle.std.specs.Prelude.{◌≡◌, ◌↔◌, ◌<◌, ◌∷◌, [], IfOk, IsTrue};
     ghost use Rattle.collation_table.specs.Table.{TableMap};
     ghost use Rattle.collation_pattern.specs.Compiled.{Compiled};
     ghost use Rattle.collation_letters.specs.Letters.{IsLetter};
@@ -46,7 +46,9 @@ impl Places {
     }
 
     /// Whether there is one place for all characters.
-    pub(crate) fn are_one(&self) -> bool {
+    pub(crate) fn are_one(&self) -> bool
+        ensures { IsTrue result ↔ (self.now.last ≡ 0) }
+    {
         self.last == 0
     }
 

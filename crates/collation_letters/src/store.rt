@@ -22,7 +22,7 @@ const LAST_OF_SOME: usize = 4_095;
 
 const LAST_OF_MANY: usize = 65_535;
 
-/// How often 256 places are asked for where memory for them was refused: at each so manyth letter that is found.
+/// How often 256 places are asked for where memory for them was refused: at each so manyth letter that is found, without end.
 const OFTEN: usize = 32;
 
 /// How many letters are found before there are more places.
@@ -37,7 +37,7 @@ pub struct Letters {
     places: Places,
     /// The letters of two characters together.
     pairs: PairPlaces,
-    /// How many letters were found, up to `MANY`.
+    /// How many letters were found, up to `MANY`; from there on anew where there is one place.
     found: usize,
     /// Of which lengths the patterns are whose keys have symbols.
     lengths: Lengths,
@@ -51,11 +51,12 @@ pub struct Letters {
 }
 
 impl Letters {
-    ghost use Rattle.std.specs.Prelude.{◌∷◌, [], IfOk, IfSome};
+    ghost use Rattle.std.specs.Prelude.{◌≡◌, ◌+◌, ◌%◌, ◌∷◌, [], IfOk, IfSome};
     ghost use Rattle.collation_table.specs.Table.{TableMap};
     ghost use Rattle.collation_pattern.specs.Compiled.{Compiled};
     ghost use Rattle.collation_letters.specs.Letters.{IsLetter};
     ghost use Rattle.collation_letters.specs.Store.{AreLetters};
+    ghost use Rattle.collation_letters.specs.declared.store.TheConstants.{MANY};
 
     /// None is known yet.
     ///
@@ -180,13 +181,16 @@ impl Letters {
 
     /// Counts a letter that is found. Where there is one place, or these are many, it goes on with more places, if there is memory.
     fn count(&mut self)
-        ensures { (table : TableMap) (pattern : Compiled) → AreLetters table pattern self.old
+        ensures right { (table : TableMap) (pattern : Compiled) → AreLetters table pattern self.old
             → AreLetters table pattern self.new }
+        ensures goes_on { self.old.places.last ≡ 0
+            → self.new.found ≡ self.old.found % MANY + 1 }
     {
-        if self.found == MANY {
+        if self.found == MANY && !self.places.are_one() {
             return;
         }
-        self.found += 1;
+        // where there is still one place, it counts anew
+        self.found = self.found % MANY + 1;
         let last = match self.found {
             SOME => LAST_OF_SOME,
             MANY => LAST_OF_MANY,

@@ -127,7 +127,8 @@ pub fn symbol_of(pattern: &Pattern, key: &Key) -> Option<u8>
 }
 
 /// The symbol of a key of a pattern of any length; `None` where the pattern has it first behind the keys that have symbols, or may have
-/// it behind those that are compared. Of most keys that the pattern does not have, one look says so.
+/// it behind those that are compared. Of most keys that the pattern does not have, one look says so; of most others one more says where
+/// they stand, or that it is behind those that have symbols.
 pub fn symbol_in(pattern: &Pattern, key: &Key) -> Option<u8>
     ensures symbol { IfSome result (λ symbol. IsSymbol pattern.now.keys key.now symbol) }
     ensures below { IfSome result (λ symbol. symbol < 255) }
@@ -142,7 +143,7 @@ pub fn symbol_in(pattern: &Pattern, key: &Key) -> Option<u8>
     } else {
         keys.len()
     };
-    for place in 0..compared {
+    for place in pattern.may_have_from(key)..compared {
         if keys[place] == *key {
             if place >= MOST_SYMBOLS {
                 return None;
