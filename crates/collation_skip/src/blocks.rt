@@ -76,16 +76,25 @@ fn passed_len(classes: &Classes, piece: &[u8], limit: usize) -> usize
     if limit == 0 || piece[0] >= 128 || in_set(&classes.halt, piece[0]) != 0 {
         return 0;
     }
-    let mut len = if keys_decide(classes) {
-        pass_by_keys(classes, piece, limit)
-    } else if halts_decide(classes) {
-        pass_by_halts(classes, piece, limit)
-    } else {
-        pass_by_twos(classes, piece, limit)
-    };
-    if limit - len >= 32 {
-        return len;
+    if keys_decide(classes) {
+        return pass_by_keys(classes, piece, limit);
     }
+    if halts_decide(classes) {
+        return pass_by_halts(classes, piece, limit);
+    }
+    pass_by_blocks(classes, piece, 1, limit)
+}
+
+/// How many bytes at the front of a piece pass, up to `limit`, of which the first `from` do: block by block.
+#[inline(always)]
+fn pass_by_blocks(classes: &Classes, piece: &[u8], from: usize, limit: usize) -> usize
+    requires limit { limit ≤ length piece.now }
+    requires from { (1 ≤ from) × (from ≤ limit) }
+    requires passes { Passes classes.now piece.now from }
+    ensures passes { Passes classes.now piece.now result }
+    ensures within { result ≤ limit }
+{
+    let mut len = from;
     while limit - len >= 16 && block_passes(classes, piece, len) {
         len += 16;
     }
@@ -95,34 +104,15 @@ fn passed_len(classes: &Classes, piece: &[u8], limit: usize) -> usize
     len + lanes_that_pass(classes, piece, len)
 }
 
-/// How many bytes at the front of a piece pass, two blocks at a time behind the first byte, which passes: to one that does not, or as long
-/// as there are two blocks.
-#[inline(always)]
-fn pass_by_twos(classes: &Classes, piece: &[u8], limit: usize) -> usize
-    requires limit { (1 ≤ limit) × (limit ≤ length piece.now) }
-    requires passes { Passes classes.now piece.now 1 }
-    ensures passes { Passes classes.now piece.now result }
-    ensures within { (1 ≤ result) × (result ≤ limit) }
-{
-    let mut len = 1;
-    while limit - len >= 32 {
-        let lanes = two_blocks_len(classes, piece, len);
-        if lanes < 32 {
-            return len + lanes;
-        }
-        len += 32;
-    }
-    len
-}
-
-/// The same where keys alone decide it: then each byte is looked up once.
+/// How many bytes at the front of a piece pass, up to `limit`, of which the first one does, where keys alone decide it: two blocks at a
+/// time, each byte of which is looked up once.
 #[inline(always)]
 fn pass_by_keys(classes: &Classes, piece: &[u8], limit: usize) -> usize
     requires keys { KeysDecide classes.now }
     requires limit { (1 ≤ limit) × (limit ≤ length piece.now) }
     requires passes { Passes classes.now piece.now 1 }
     ensures passes { Passes classes.now piece.now result }
-    ensures within { (1 ≤ result) × (result ≤ limit) }
+    ensures within { result ≤ limit }
 {
     let mut len = 1;
     let mut before = keys_behind(classes, piece[0]);
@@ -134,7 +124,7 @@ fn pass_by_keys(classes: &Classes, piece: &[u8], limit: usize) -> usize
         len += 32;
         before = keys;
     }
-    len
+    pass_by_blocks(classes, piece, len, limit)
 }
 
 /// The same where the bytes that halt decide it: then one set is looked up.
@@ -144,7 +134,7 @@ fn pass_by_halts(classes: &Classes, piece: &[u8], limit: usize) -> usize
     requires limit { (1 ≤ limit) × (limit ≤ length piece.now) }
     requires passes { Passes classes.now piece.now 1 }
     ensures passes { Passes classes.now piece.now result }
-    ensures within { (1 ≤ result) × (result ≤ limit) }
+    ensures within { result ≤ limit }
 {
     let mut len = 1;
     while limit - len >= 32 {
@@ -154,7 +144,7 @@ fn pass_by_halts(classes: &Classes, piece: &[u8], limit: usize) -> usize
         }
         len += 32;
     }
-    len
+    pass_by_blocks(classes, piece, len, limit)
 }
 
 /// How many bytes at the front of a piece pass, up to `limit`, of which the first `from` do, and fewer than sixteen are left: by the last
@@ -214,22 +204,8 @@ pub(crate) fn block_passes(classes: &Classes, bytes: &[u8], at: usize) -> bool
     is_zero(stops(classes, load(bytes, at - 1), load(bytes, at)))
 }
 
-/// How many of the thirty-two bytes from `at` on pass, behind the byte before them, up to the first one that does not.
-#[inline(always)]
-fn two_blocks_len(classes: &Classes, bytes: &[u8], at: usize) -> usize
-    requires behind { 1 ≤ at }
-    requires within { at + 32 ≤ length bytes.now }
-    ensures within { result ≤ 32 }
-    ensures passes { (k : ℕ) → k < result
-        → PassesBehind classes.now (slice_index bytes.now (at + k - 1))
-        (slice_index bytes.now (at + k)) }
-{
-    let first = stops(classes, load(bytes, at - 1), load(bytes, at));
-    let second = stops(classes, load(bytes, at + 15), load(bytes, at + 16));
-    zeros_in_front_of_two(first, second)
-}
-
-/// The same where keys alone decide it, and the keys of the sixteen bytes before are known; and those of the last sixteen.
+/// How many of the thirty-two bytes from `at` on pass, behind the byte before them, up to the first one that does not, where keys alone
+/// decide it, and the keys of the sixteen bytes before are known; and those of the last sixteen.
 #[inline(always)]
 fn two_blocks_len_by_keys(
     classes: &Classes,

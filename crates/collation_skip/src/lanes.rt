@@ -84,9 +84,15 @@ fn one_back(before: u8x16, here: u8x16) -> u8x16
 pub(crate) fn keys_decide(classes: &Classes) -> bool
     ensures { result ≡ true → KeysDecide classes.now }
 {
-    let halt = load(&classes.halt, 0);
-    let inner = load(&classes.inner, 0);
-    are_zero(halt, inner)
+    is_empty(&classes.inner) && is_empty(&classes.halt)
+}
+
+/// Whether no byte is in a set.
+#[inline(always)]
+fn is_empty(set: &[u8; 16]) -> bool
+    ensures { result ≡ true → (byte : ℕ) → in_set set.now byte ≡ 0 }
+{
+    is_zero(load(set, 0))
 }
 
 /// Not 0 in the lanes of bytes that can't be passed.
@@ -105,8 +111,7 @@ pub(crate) fn halts_decide(classes: &Classes) -> bool
 {
     let halt = load(&classes.halt, 0);
     let key = load(&classes.key, 0);
-    let reached = load(&classes.inner, 0);
-    are_zero(unlike(either(key, halt), halt), reached)
+    is_empty(&classes.inner) && is_zero(unlike(either(key, halt), halt))
 }
 
 /// Not 0 in the lanes where a byte does not go on behind two others.

@@ -1,6 +1,6 @@
 use Rattle.std.specs.Prelude.{◌≤◌, ◌-◌}
 use Rattle.collation_skip.specs.Blocks.{Passes}
-use Rattle.collation_skip.proofs.blocks.passed_len.Given as goal
+use Rattle.collation_skip.proofs.blocks.pass_by_blocks.Given as goal
 
 abbrev pub invariant-loop-len : goal.invariant-loop-len
 invariant-loop-len l = record {
