@@ -24,6 +24,12 @@ use utf8_cut::sized_character;
 /// The fewest bytes for which blocks are begun.
 const FEWEST: usize = 18;
 
+/// The most bytes that are passed at once: where the text can't be left behind them, they are looked at in vain.
+const MOST: usize = 8_192;
+
+/// In how many bytes, the last of those that pass, a character is looked for behind which the text may be left.
+const WAY_BACK: usize = 512;
+
 /// Passes by text at the front of a piece, where no key waits, by right sets: at most `reach` bytes, and to the end of a character with
 /// a key that the pattern does not have. `None` where it finds no such character behind which it may stop.
 pub(crate) fn pass_two_bytes<W: Weights>(
@@ -56,7 +62,7 @@ pub(crate) fn pass_two_bytes<W: Weights>(
     laws_of_symbols();
     units_stay_apart();
     weighers_go_on();
-    let len = going_len(sets, piece, piece.len().min(reach));
+    let len = going_len(sets, piece, piece.len().min(reach).min(MOST));
     let ending = last_ending(table, pattern, letters, piece, len)?;
     Some(Passed {
         start: ending.start,
@@ -158,7 +164,7 @@ struct Ending {
     following: Letter,
 }
 
-/// The last such character that ends within the first `len` bytes of a piece.
+/// The last such character that ends within the first `len` bytes of a piece, and begins not long before.
 #[inline(always)]
 fn last_ending<W: Weights>(
     table: &W,
@@ -188,8 +194,9 @@ fn last_ending<W: Weights>(
     ensures apart { IfSome result (λ r. (at : ℕ)
         → IsNext (W.table table.now) at (r.character ∷ []) r.next) }
 {
+    let first = len.saturating_sub(WAY_BACK);
     let mut start = len;
-    while start > 0 {
+    while start > first {
         start -= 1;
         let ending = ending_at(table, pattern, letters, piece, len, start);
         if ending.is_some() {
