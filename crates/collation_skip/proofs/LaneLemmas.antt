@@ -1,12 +1,12 @@
 -- What the operations on vectors of sixteen bytes hold at each lane.
-use Rattle.std.proofs.Common.{◌≡◌, ◌∙◌, ◌⊎◌, ℕ, zero, suc, ◌*◌, ◌/◌, ◌%◌, ◌^◌, ◌<◌, ◌≤◌, min, List, Bool, false, true, not, cond, eqb, ltb, length, get_or, map, replicate, refl, sym, ap, subst, arith, w8, w64, bit_and, bit_or, Fits, inl, inr}
+use Rattle.std.proofs.Common.{◌≡◌, ◌≢◌, ◌∙◌, ◌⊎◌, ℕ, zero, suc, ◌*◌, ◌/◌, ◌%◌, ◌^◌, ◌<◌, ◌≤◌, min, List, Bool, false, true, not, cond, eqb, ltb, length, get_or, map, replicate, refl, sym, ap, ap₂, subst, arith, w8, w64, bit_and, bit_or, bit_xor, Fits, inl, inr}
 use Rattle.std.specs.Int.{bit_at, trailing_zeros}
 use Rattle.std.specs.Simd.Lanes.{zip2, sel_l, mask_l, Each1}
 use Rattle.std.proofs.lemmas.Simd.{length-zip2, get_or-zip2, get_or-replicate, length-sel_l, get_or-sel_l, length-swz_l, get_or-swz_l_below, swz_l, SwzOk, SwzOk-from_below, Each1-from_get_or, Each1-get_or, mask_l-lt, bit_mask_l}
-use Rattle.std.proofs.lemmas.List.{length-map, get_or-map}
+use Rattle.std.proofs.lemmas.List.{length-map, get_or-map, get_or_past}
 use Rattle.std.proofs.lemmas.Bool.{cases_Bool, cases_lt, cond-true, cond-false, ltb-true, ltb-false, true≢false, eqb-true}
 use Rattle.std.proofs.lemmas.Nat.{and_mask, le_or_l, le_or_r, or_lt}
-use Rattle.std.proofs.lemmas.Nat.Bits.{and_pow, bit_at-trailing_zeros, bit_at_or, bit_at-lt}
+use Rattle.std.proofs.lemmas.Nat.Bits.{and_pow, bit_at-trailing_zeros, bit_at_or, bit_at_xor, bit_at-lt, bit_at-pow_other, bit_at-zero, same_from_bits}
 use Rattle.collation_skip.specs.Lanes.{HasLanes}
 
 pub lanes-zip2 : (f : ℕ → ℕ → ℕ) (a b : List ℕ) → length a ≡ 16 → length b ≡ 16 → HasLanes (zip2 f a b) (λ k. f (get_or a k 0) (get_or b k 0))
@@ -99,6 +99,13 @@ mask_of v = mask_l (map (λ x. not (eqb x 0)) v)
 pub record HasFirst (v : List ℕ) (first : ℕ) : Type 0 where
   pub within : first ≤ 16
   pub zeros : (k : ℕ) → k < first → get_or v k 0 ≡ 0
+  pub stop : first < 16 → get_or v first 0 ≢ 0
+
+-- the bit of a lane that is 0
+unset-lane : (v : List ℕ) (k : ℕ) → k < length v → get_or v k 0 ≡ 0 → bit_at (mask_of v) k ≡ 0
+unset-lane v k less none =
+    bit_mask_l (map (λ x. not (eqb x 0)) v) k
+    ∙ ap (λ b. cond {A = ℕ} b 1 0) (get_or-map (λ x. not (eqb x 0)) v k 0 false less ∙ ap (λ n. not (eqb n 0)) none)
 
 -- the lowest bit of a mask and of one bit behind its lanes
 pub first-lane : (v : List ℕ) → length v ≡ 16 → HasFirst v (trailing_zeros w64 (bit_or (mask_of v) 65536))
@@ -121,13 +128,57 @@ first-lane v long =
           let none = h.2 k less in
           let here : bit_at mask k ≡ 0 = (let e = bit_at_or mask 65536 k in omega (arith, none, e)) in
           not-zero (get_or v k 0) (sym (get_or-map (λ x. not (eqb x 0)) v k 0 false (omega (arith, less, within, long))) ∙ unset (get_or ms k false) (sym (bit_mask_l ms k) ∙ here));
+      stop = λ low none.
+          let e = bit_at_or mask 65536 first in
+          let other = bit_at-pow_other 16 first (λ same. omega (arith, same, low)) in
+          let here = unset-lane v first (omega (arith, low, long)) none in
+          omega (arith, h.1, e, other, here);
     }
+
+-- no bit is set where all lanes are 0
+pub mask-none : (v : List ℕ) → length v ≡ 16 → ((k : ℕ) → k < 16 → get_or v k 0 ≡ 0) → mask_of v ≡ 0
+mask-none v long none = same_from_bits (mask_of v) 0 (λ i. at i ∙ sym (bit_at-zero i))
+  where
+    ms : List Bool
+    ms = map (λ x. not (eqb x 0)) v
+
+    at : (i : ℕ) → bit_at (mask_of v) i ≡ 0
+    at i = elim (cases_lt i 16) [
+      | inl less ↦ unset-lane v i (omega (arith, less, long)) (none i less)
+      | inr past ↦
+          let e = length-map v (λ x. not (eqb x 0)) in
+          bit_mask_l ms i ∙ ap (λ b. cond {A = ℕ} b 1 0) (get_or_past ms i false (omega (arith, e, long, past)))
+    ]
 
 pub or-left : (a b : ℕ) → bit_or a b ≡ 0 → a ≡ 0
 or-left a b h = let l = le_or_l a b in omega (arith, l, h)
 
 pub or-right : (a b : ℕ) → bit_or a b ≡ 0 → b ≡ 0
 or-right a b h = let l = le_or_r a b in omega (arith, l, h)
+
+pub xor-same : (a b : ℕ) → bit_xor a b ≡ 0 → a ≡ b
+xor-same a b h = same_from_bits a b (λ i. at i)
+  where
+    at : (i : ℕ) → bit_at a i ≡ bit_at b i
+    at i =
+        let e = bit_at_xor a b i in
+        let none : bit_at (bit_xor a b) i ≡ 0 = ap (λ n. bit_at n i) h ∙ bit_at-zero i in
+        let low = bit_at-lt a i in
+        let less = bit_at-lt b i in omega (arith, e, none, low, less)
+
+pub xor-self : (a : ℕ) → bit_xor a a ≡ 0
+xor-self a = same_from_bits (bit_xor a a) 0 (λ i. at i)
+  where
+    at : (i : ℕ) → bit_at (bit_xor a a) i ≡ bit_at 0 i
+    at i =
+        let e = bit_at_xor a a i in
+        let zero_here = bit_at-zero i in omega (arith, e, zero_here)
+
+pub or-none : {a b : ℕ} → a ≡ 0 → b ≡ 0 → bit_or a b ≡ 0
+or-none p q = ap₂ bit_or p q
+
+pub below-none : (n : ℕ) → n < 128 → bit_and n 128 ≡ 0
+below-none n less = let e : bit_and n 128 ≡ (n / 128 % 2) * 128 = and_pow n 7 in omega (arith, e, less)
 
 pub below-high : (n : ℕ) → n < 256 → bit_and n 128 ≡ 0 → n < 128
 below-high n small h = let e : bit_and n 128 ≡ (n / 128 % 2) * 128 = and_pow n 7 in omega (arith, e, h, small)

@@ -1,5 +1,5 @@
 -- What blocks that pass say of the bytes of a piece.
-use Rattle.std.proofs.Common.{◌≡◌, ◌∙◌, ℕ, zero, suc, ◌+◌, ◌-◌, ◌/◌, ◌%◌, ◌≤◌, ◌<◌, max, List, ◌∷◌, ◌++◌, length, slice_index, get_or, subst, sym, ap, ap₂, arith, inl, inr, bit_and, bit_or}
+use Rattle.std.proofs.Common.{◌≡◌, ◌↔◌, ◌∙◌, ℕ, zero, suc, ◌+◌, ◌-◌, ◌/◌, ◌%◌, ◌≤◌, ◌<◌, min, max, List, ◌∷◌, ◌++◌, length, slice_index, get_or, subst, sym, ap, ap₂, arith, inl, inr, bit_and, bit_or}
 use Rattle.std.specs.Int.Bits.{and_zero_l}
 use Rattle.std.proofs.lemmas.Nat.{and_or_apart}
 use Rattle.std.proofs.lemmas.List.{get_or_append_left, get_or-append-add}
@@ -7,7 +7,8 @@ use Rattle.std.proofs.lemmas.Bool.{cases_lt}
 use Rattle.collation_skip.specs.Lanes.{HasLanes}
 use Rattle.collation_skip.specs.declared.classes.Classes.{Classes}
 use Rattle.collation_skip.specs.declared.classes.TheConstants.{COLUMNS}
-use Rattle.collation_skip.specs.Blocks.{HaltsDecide, MayPass, Passes, PassesBehind, in_set}
+use Rattle.collation_skip.proofs.LaneLemmas.{below-high, below-none, or-left, or-right, or-none}
+use Rattle.collation_skip.specs.Blocks.{DoesNotPass, EndsAt, HaltsDecide, KeysDecide, MayPass, Passes, PassesBehind, in_set}
 
 -- a lane of a look-up in a set
 pub member : (set v columns members : List ℕ) → HasLanes columns (λ k. get_or COLUMNS (get_or v k 0 / 16) 0) → HasLanes members (λ k. bit_and (get_or set (get_or v k 0 % 16) 0) (get_or columns k 0)) → (k : ℕ) → k < 16 →
@@ -32,6 +33,66 @@ in-neither set other lanes others has has_other same byte none =
     let second : slice_index other i ≡ slice_index others i = ap (λ (j : ℕ). slice_index other j) (omega arith) ∙ sym (has_other.each i less) in
     let all : bit_or (slice_index set i) (slice_index other i) ≡ slice_index other i = ap₂ bit_or first second ∙ same i less ∙ sym second in
     sym (and_or_apart column (slice_index set i) (slice_index other i) none) ∙ ap (λ (x : ℕ). bit_and x column) all ∙ none
+
+-- ---- a lane, and what it says of its byte
+
+pub lane-passes : (classes : Classes) (before byte lane : ℕ) → byte < 256
+    → lane ≡ bit_or (bit_or (in_set classes.halt byte) (min (in_set classes.key before) (in_set classes.later byte))) (bit_or (min (in_set classes.joins before) (in_set classes.inner byte)) (bit_and byte 128))
+    → (lane ≡ 0) ↔ PassesBehind classes before byte
+lane-passes classes before byte lane fits is = (
+  λ none.
+      let all = sym is ∙ none in
+      let first = or-left _ _ all in
+      let second = or-right _ _ all in
+      record {
+        ascii = below-high byte fits (or-right _ _ second);
+        going = or-left _ _ first;
+        keys = or-right _ _ first;
+        units = or-left _ _ second;
+      },
+  λ p. is ∙ or-none (or-none p.going p.keys) (or-none p.units (below-none byte p.ascii)),
+)
+
+-- where keys alone decide it
+pub lane-passes-by-keys : (classes : Classes) (before byte lane : ℕ) → KeysDecide classes → byte < 256
+    → lane ≡ bit_or (min (in_set classes.key before) (in_set classes.later byte)) (bit_and byte 128) → (lane ≡ 0) ↔ PassesBehind classes before byte
+lane-passes-by-keys classes before byte lane decide fits is = (
+  λ none.
+      let all = sym is ∙ none in
+      let apart = decide.inner byte fits in
+      record {
+        ascii = below-high byte fits (or-right _ _ all);
+        going = decide.halt byte fits;
+        keys = or-left _ _ all;
+        units = omega (arith, apart);
+      },
+  λ p. is ∙ or-none p.keys (below-none byte p.ascii),
+)
+
+pub lane-may-pass : (classes : Classes) (byte lane : ℕ) → byte < 256 → lane ≡ bit_or (in_set classes.halt byte) (bit_and byte 128) → (lane ≡ 0) ↔ MayPass classes byte
+lane-may-pass classes byte lane fits is = (
+  λ none.
+      let all = sym is ∙ none in
+      record { ascii = below-high byte fits (or-right _ _ all); going = or-left _ _ all },
+  λ p. is ∙ or-none p.going (below-none byte p.ascii),
+)
+
+-- two neighbors, as they are loaded and as they are asked for
+pub same-neighbors : (classes : Classes) (bytes : List ℕ) (before here i j m n : ℕ) → before ≡ slice_index bytes i → here ≡ slice_index bytes j → i ≡ m → j ≡ n
+    → PassesBehind classes before here ↔ PassesBehind classes (slice_index bytes m) (slice_index bytes n)
+same-neighbors classes bytes before here i j m n is_before is_here same_before same_here =
+    let b : before ≡ slice_index bytes m = is_before ∙ ap (λ t. slice_index bytes t) same_before in
+    let h : here ≡ slice_index bytes n = is_here ∙ ap (λ t. slice_index bytes t) same_here in (
+      λ p. subst (λ v. PassesBehind classes v (slice_index bytes n)) b (subst (λ v. PassesBehind classes before v) h p),
+      λ p. subst (λ v. PassesBehind classes v here) (sym b) (subst (λ v. PassesBehind classes (slice_index bytes m) v) (sym h) p),
+    )
+
+-- ---- bytes that pass
+
+-- no more bytes pass than those before one that does not
+pub ends : (classes : Classes) (bytes : List ℕ) (m n : ℕ) → 1 ≤ m → m ≤ n → DoesNotPass classes (get_or bytes (m - 1) 0) (get_or bytes m 0) → EndsAt classes bytes n
+ends classes bytes m n some within stop p =
+    stop (subst (λ j. PassesBehind classes (get_or bytes (m - 1) 0) (get_or bytes j 0)) (omega (arith, some)) (p.each (m - 1) (omega (arith, some, within))))
 
 pub passes-more : (classes : Classes) (bytes : List ℕ) (len lanes : ℕ) → 1 ≤ len → len + lanes ≤ length bytes → Passes classes bytes len →
     ((k : ℕ) → k < lanes → PassesBehind classes (get_or bytes (len + k - 1) 0) (get_or bytes (len + k) 0)) → Passes classes bytes (len + lanes)
@@ -109,18 +170,28 @@ pub two_pass : (classes : Classes) (bytes before here later_before later_here : 
 two_pass classes bytes before here later_before later_here at n behind within has_before has_here has_later has_last first second k less =
     elim (cases_lt k 16) [
       | inl low ↦
-          passes_at classes bytes _ _ _ _ (at + k - 1) (at + k) (has_before k low) (has_here k low) (omega (arith, behind)) (omega arith) (first k low less)
+          (same-neighbors classes bytes _ _ _ _ (at + k - 1) (at + k) (has_before k low) (has_here k low) (omega (arith, behind)) (omega arith)).0 (first k low less)
       | inr high ↦
           let low : k - 16 < 16 = omega (arith, high, less, within) in
-          passes_at classes bytes _ _ _ _ (at + k - 1) (at + k) (has_later (k - 16) low) (has_last (k - 16) low) (omega (arith, behind, high)) (omega (arith, high))
+          (same-neighbors classes bytes _ _ _ _ (at + k - 1) (at + k) (has_later (k - 16) low) (has_last (k - 16) low) (omega (arith, behind, high)) (omega (arith, high))).0
           (second (k - 16) low (omega (arith, high, less)))
     ]
-  where
-    passes_at : (classes : Classes) (bytes : List ℕ) (before here i j m n : ℕ) → before ≡ slice_index bytes i → here ≡ slice_index bytes j → i ≡ m → j ≡ n → PassesBehind classes before here
-        → PassesBehind classes (slice_index bytes m) (slice_index bytes n)
-    passes_at classes bytes before here i j m n is_before is_here same_before same_here passes =
-        subst (λ v. PassesBehind classes v (slice_index bytes n)) (is_before ∙ ap (λ t. slice_index bytes t) same_before)
-        (subst (λ v. PassesBehind classes before v) (is_here ∙ ap (λ t. slice_index bytes t) same_here) passes)
+
+-- and the byte behind them does not
+pub two_stop : (classes : Classes) (bytes before here later_before later_here : List ℕ) (at n : ℕ) → 1 ≤ at → n < 32
+    → ((k : ℕ) → k < 16 → slice_index before k ≡ slice_index bytes (at - 1 + k)) → ((k : ℕ) → k < 16 → slice_index here k ≡ slice_index bytes (at + k))
+    → ((k : ℕ) → k < 16 → slice_index later_before k ≡ slice_index bytes (at + 15 + k)) → ((k : ℕ) → k < 16 → slice_index later_here k ≡ slice_index bytes (at + 16 + k))
+    → (n < 16 → DoesNotPass classes (slice_index before n) (slice_index here n))
+    → (16 ≤ n → DoesNotPass classes (slice_index later_before (n - 16)) (slice_index later_here (n - 16)))
+    → DoesNotPass classes (slice_index bytes (at + n - 1)) (slice_index bytes (at + n))
+two_stop classes bytes before here later_before later_here at n behind within has_before has_here has_later has_last first second p =
+    elim (cases_lt n 16) [
+      | inl low ↦ first low ((same-neighbors classes bytes _ _ _ _ (at + n - 1) (at + n) (has_before n low) (has_here n low) (omega (arith, behind)) (omega arith)).1 p)
+      | inr high ↦
+          let low : n - 16 < 16 = omega (arith, high, within) in
+          second high
+          ((same-neighbors classes bytes _ _ _ _ (at + n - 1) (at + n) (has_later (n - 16) low) (has_last (n - 16) low) (omega (arith, behind, high)) (omega (arith, high))).1 p)
+    ]
 
 -- a byte and the lanes that are loaded from behind it
 pub behind-one : (bytes here : List ℕ) (at : ℕ) → 1 ≤ at → ((k : ℕ) → k < 16 → slice_index here k ≡ slice_index bytes (at + k)) → (k : ℕ) → k < 16 →

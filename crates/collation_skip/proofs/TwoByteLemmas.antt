@@ -1,7 +1,7 @@
 -- Text of characters of one and of two bytes that passes, character by character.
 use Rattle.std.specs.Char.{len_utf8}
 use Rattle.std.specs.Str.{chars, IsUtf8}
-use Rattle.std.proofs.Common.{◌≡◌, ◌∙◌, ◌⊎◌, ℕ, zero, suc, ◌+◌, ◌-◌, ◌/◌, ◌≤◌, ◌<◌, max, true, false, List, [], ◌∷◌, ◌++◌, length, map, replicate, take, drop, get_or, Contains, inl, inr, refl, sym, ap, subst, arith}
+use Rattle.std.proofs.Common.{◌≡◌, ◌↔◌, ◌∙◌, ◌⊎◌, ℕ, zero, suc, ◌+◌, ◌-◌, ◌/◌, ◌≤◌, ◌<◌, min, max, bit_or, true, false, List, [], ◌∷◌, ◌++◌, length, map, replicate, take, drop, get_or, Contains, inl, inr, refl, sym, ap, subst, arith}
 use Rattle.std.proofs.lemmas.Bool.{cases_lt, cond-false, ne_eqb}
 use Rattle.std.proofs.lemmas.List.{get_or_append_left, get_or-append-add, get_or-replicate}
 use Rattle.std.proofs.lemmas.List.Elements.{Contains-append_cases}
@@ -32,10 +32,11 @@ use Rattle.collation_skip.specs.declared.two_byte_sets.TheConstants.{LEADS, TRAI
 use Rattle.collation_skip.specs.Blocks.{IsClean, Says, items_at, most}
 use Rattle.collation_skip.specs.Passed.{IsPassed, IsQuiet}
 use Rattle.collation_skip.specs.Reached.{items_from}
-use Rattle.collation_skip.specs.TwoBytes.{AreRightOf, AreSetsRight, GoesOn, Pass, character_of, is_in, leads, trails}
+use Rattle.collation_skip.specs.TwoBytes.{AreRightOf, AreSetsRight, DoesNotGoOn, GoesOn, Pass, StopsAt, character_of, is_in, leads, trails}
 use Rattle.collation_skip.proofs.AsciiLemmas.{RunLaws, contained, items-next, keys-append, possible, quiet-more}
 use Rattle.collation_skip.proofs.BlockLemmas.{spells-ascii}
 use Rattle.collation_skip.proofs.ForeignLemmas.{AreQuiet, ForeignLaws, chars-on, no-keys, passed-on, quiet-begin, text-on}
+use Rattle.collation_skip.proofs.LaneLemmas.{min-zero, or-left, or-right, or-none}
 use Rattle.collation_skip.proofs.ReachedLemmas.{begins-more}
 use Rattle.collation_skip.proofs.TextLemmas.{same-character}
 
@@ -97,6 +98,41 @@ pass-over sets bytes len at lanes n some amid within more most p block =
 pub pass-more : (sets : TwoByteSets) (bytes : List ℕ) (len lanes : ℕ) → 2 ≤ len → len + lanes ≤ length bytes → Pass sets bytes len →
     ((k : ℕ) → k < lanes → GoesOn sets (get_or bytes (len - 2 + k) 0) (get_or bytes (len - 1 + k) 0) (get_or bytes (len + k) 0)) → Pass sets bytes (len + lanes)
 pass-more sets bytes len lanes some within p block = pass-over sets bytes len len lanes (len + lanes) some (omega arith) within (omega arith) (omega arith) p block
+
+-- a lane, and what it says of its byte
+pub lane-goes-on : (sets : TwoByteSets) (earlier before byte unlike lane : ℕ) → (unlike ≡ 0) ↔ (trails byte ≡ leads before)
+    → lane ≡ bit_or (bit_or (is_in sets.halt byte) unlike) (min (bit_or (is_in sets.key before) (min (leads before) (is_in sets.key earlier))) (is_in sets.later byte))
+    → (lane ≡ 0) ↔ GoesOn sets earlier before byte
+lane-goes-on sets earlier before byte unlike lane same is = (
+  λ none.
+      let all = sym is ∙ none in
+      let first = or-left _ _ all in
+      record {
+        going = or-left _ _ first;
+        form = same.0 (or-right _ _ first);
+        keys = elim (min-zero _ _ (or-right _ _ all)) [
+          | inl waiting ↦ inr (or-left _ _ waiting, min-zero _ _ (or-right _ _ waiting))
+          | inr none_later ↦ inl none_later
+        ];
+      },
+  λ p. is ∙ or-none (or-none p.going (same.1 p.form)) (elim p.keys [
+    | inl none_later ↦ omega (arith, none_later)
+    | inr none_before ↦ (let waiting : bit_or (is_in sets.key before) (min (leads before) (is_in sets.key earlier)) ≡ 0 = or-none none_before.0 (elim none_before.1 [
+      | inl no_lead ↦ omega (arith, no_lead)
+      | inr no_key ↦ omega (arith, no_key)
+    ]) in omega (arith, waiting))
+  ]),
+)
+
+-- no more bytes pass than those before one that does not go on
+pub pass-ends : (sets : TwoByteSets) (bytes : List ℕ) (a b m n : ℕ) → 2 ≤ m → m ≤ n → a ≡ m - 2 → b ≡ m - 1 → DoesNotGoOn sets (get_or bytes a 0) (get_or bytes b 0) (get_or bytes m 0) → StopsAt sets bytes n
+pass-ends sets bytes a b zero n some within first second stop p = omega (arith, some)
+pass-ends sets bytes a b (suc zero) n some within first second stop p = omega (arith, some)
+pass-ends sets bytes a b (suc (suc m)) n some within first second stop p =
+    let here : m ≡ a = omega (arith, first) in
+    let next : suc m ≡ b = omega (arith, second) in
+    stop (subst (λ (j : ℕ). GoesOn sets (get_or bytes j 0) (get_or bytes b 0) (get_or bytes (suc (suc m)) 0)) here
+    (subst (λ (j : ℕ). GoesOn sets (get_or bytes m 0) (get_or bytes j 0) (get_or bytes (suc (suc m)) 0)) next (p.each (suc m) (omega (arith, within)))))
 
 -- ---- leading and trailing bytes
 

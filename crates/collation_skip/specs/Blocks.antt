@@ -124,12 +124,20 @@ pub record PassesBehind (classes : Classes) (before byte : ℕ) : Type 0 where
   pub keys : min (in_set classes.key before) (in_set classes.later byte) ≡ 0
   pub units : min (in_set classes.joins before) (in_set classes.inner byte) ≡ 0
 
+-- a byte does not pass behind another
+abbrev pub DoesNotPass : Classes → ℕ → ℕ → Type 0
+DoesNotPass classes before byte = PassesBehind classes before byte → ⊥
+
 -- the first n bytes pass: the first of them does not halt, and each other one passes behind the one before
 pub record Passes (classes : Classes) (bytes : List ℕ) (n : ℕ) : Type 0 where
   pub within : n ≤ length bytes
   pub ascii : 0 < n → slice_index bytes 0 < 128
   pub going : 0 < n → in_set classes.halt (slice_index bytes 0) ≡ 0
   pub each : (i : ℕ) → suc i < n → PassesBehind classes (slice_index bytes i) (slice_index bytes (suc i))
+
+-- no more than the first n bytes pass
+abbrev pub EndsAt : Classes → List ℕ → ℕ → Type 0
+EndsAt classes bytes n = Passes classes bytes (suc n) → ⊥
 
 -- the letter is a cluster out of which no unit reaches, with a last key that the pattern does not have
 abbrev pub IsClean : Letter → Type 0

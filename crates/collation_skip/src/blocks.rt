@@ -1,11 +1,11 @@
 //! Passes by text of ASCII sixteen bytes at a time, as long as no two neighbours may be part of a match.
-ghost use Rattle.std.specs.Prelude.{◌≡◌, ℕ, ◌+◌, ◌-◌, ◌<◌, ◌≤◌, ◌∷◌, [], length, suc, take, drop, true, IfSome, slice_index};
+ghost use Rattle.std.specs.Prelude.{◌≡◌, ◌↔◌, ℕ, ◌+◌, ◌-◌, ◌<◌, ◌≤◌, ◌∷◌, [], length, suc, take, drop, true, IfSome, slice_index};
 ghost use Rattle.std.specs.Char.{len_utf8};
 ghost use Rattle.std.specs.Str.{chars, IsUtf8};
 ghost use Rattle.utf8_cut.specs.Sequences.{SpellsCharacter};
 ghost use Rattle.collation_letters.specs.Letters.{IsLetter};
 ghost use Rattle.collation_letters.specs.Store.{AreLetters};
-ghost use Rattle.collation_skip.specs.Blocks.{AreClassesRight, HaltsDecide, IsClean, KeysDecide, MayPass, Passes, PassesBehind, in_set as in_set_of};
+ghost use Rattle.collation_skip.specs.Blocks.{AreClassesRight, DoesNotPass, EndsAt, HaltsDecide, IsClean, KeysDecide, MayPass, Passes, PassesBehind, in_set as in_set_of};
 ghost use Rattle.collation_skip.specs.Passed.{IsPassed};
 
 use crate::classes::{Classes, in_set};
@@ -72,6 +72,7 @@ fn passed_len(classes: &Classes, piece: &[u8], limit: usize) -> usize
     requires { limit ≤ length piece.now }
     ensures passes { Passes classes.now piece.now result }
     ensures within { result ≤ limit }
+    ensures most { result < limit → EndsAt classes.now piece.now result }
 {
     if limit == 0 || piece[0] >= 128 || in_set(&classes.halt, piece[0]) != 0 {
         return 0;
@@ -93,6 +94,7 @@ fn pass_by_blocks(classes: &Classes, piece: &[u8], from: usize, limit: usize) ->
     requires passes { Passes classes.now piece.now from }
     ensures passes { Passes classes.now piece.now result }
     ensures within { result ≤ limit }
+    ensures most { result < limit → EndsAt classes.now piece.now result }
 {
     let mut len = from;
     while limit - len >= 16 && block_passes(classes, piece, len) {
@@ -113,6 +115,7 @@ fn pass_by_keys(classes: &Classes, piece: &[u8], limit: usize) -> usize
     requires passes { Passes classes.now piece.now 1 }
     ensures passes { Passes classes.now piece.now result }
     ensures within { result ≤ limit }
+    ensures most { result < limit → EndsAt classes.now piece.now result }
 {
     let mut len = 1;
     let mut before = keys_behind(classes, piece[0]);
@@ -135,6 +138,7 @@ fn pass_by_halts(classes: &Classes, piece: &[u8], limit: usize) -> usize
     requires passes { Passes classes.now piece.now 1 }
     ensures passes { Passes classes.now piece.now result }
     ensures within { result ≤ limit }
+    ensures most { result < limit → EndsAt classes.now piece.now result }
 {
     let mut len = 1;
     while limit - len >= 32 {
@@ -157,6 +161,7 @@ fn pass_end(classes: &Classes, piece: &[u8], from: usize, limit: usize) -> usize
     requires passes { Passes classes.now piece.now from }
     ensures passes { Passes classes.now piece.now result }
     ensures within { result ≤ limit }
+    ensures most { result < limit → EndsAt classes.now piece.now result }
 {
     if limit < 17 {
         return pass_bytes(classes, piece, from, limit);
@@ -173,6 +178,7 @@ fn pass_bytes(classes: &Classes, piece: &[u8], from: usize, limit: usize) -> usi
     requires passes { Passes classes.now piece.now from }
     ensures passes { Passes classes.now piece.now result }
     ensures within { result ≤ limit }
+    ensures most { result < limit → EndsAt classes.now piece.now result }
 {
     let mut len = from;
     while len < limit && byte_passes(classes, piece[len - 1], piece[len]) {
@@ -184,7 +190,7 @@ fn pass_bytes(classes: &Classes, piece: &[u8], from: usize, limit: usize) -> usi
 /// Whether a byte passes behind another.
 #[inline(always)]
 fn byte_passes(classes: &Classes, before: u8, here: u8) -> bool
-    ensures { result ≡ true → PassesBehind classes.now before here }
+    ensures { (result ≡ true) ↔ PassesBehind classes.now before here }
 {
     here < 128
         && in_set(&classes.halt, here) == 0
@@ -197,9 +203,9 @@ fn byte_passes(classes: &Classes, before: u8, here: u8) -> bool
 pub(crate) fn block_passes(classes: &Classes, bytes: &[u8], at: usize) -> bool
     requires behind { 1 ≤ at }
     requires within { at + 16 ≤ length bytes.now }
-    ensures { result ≡ true → (k : ℕ) → k < 16
+    ensures { (result ≡ true) ↔ ((k : ℕ) → k < 16
         → PassesBehind classes.now (slice_index bytes.now (at + k - 1))
-        (slice_index bytes.now (at + k)) }
+        (slice_index bytes.now (at + k))) }
 {
     is_zero(stops(classes, load(bytes, at - 1), load(bytes, at)))
 }
@@ -222,6 +228,9 @@ fn two_blocks_len_by_keys(
     ensures passes { (k : ℕ) → k < result.0
         → PassesBehind classes.now (slice_index bytes.now (at + k - 1))
         (slice_index bytes.now (at + k)) }
+    ensures stop { result.0 < 32
+        → DoesNotPass classes.now (slice_index bytes.now (at + result.0 - 1))
+        (slice_index bytes.now (at + result.0)) }
     ensures last { in_set_of classes.now.key (slice_index bytes.now (at + 31))
         ≡ slice_index result.1 15 }
 {
@@ -241,6 +250,7 @@ fn two_blocks_len_by_halts(classes: &Classes, bytes: &[u8], at: usize) -> usize
     ensures within { result ≤ 32 }
     ensures passes { (k : ℕ) → k < result
         → MayPass classes.now (slice_index bytes.now (at + k)) }
+    ensures stop { result < 32 → MayPass classes.now (slice_index bytes.now (at + result)) → ⊥ }
 {
     let first = halts_of(classes, load(bytes, at));
     let second = halts_of(classes, load(bytes, at + 16));
@@ -256,6 +266,9 @@ fn lanes_that_pass(classes: &Classes, bytes: &[u8], at: usize) -> usize
     ensures passes { (k : ℕ) → k < result
         → PassesBehind classes.now (slice_index bytes.now (at + k - 1))
         (slice_index bytes.now (at + k)) }
+    ensures stop { result < 16
+        → DoesNotPass classes.now (slice_index bytes.now (at + result - 1))
+        (slice_index bytes.now (at + result)) }
 {
     zeros_in_front(stops(classes, load(bytes, at - 1), load(bytes, at)))
 }

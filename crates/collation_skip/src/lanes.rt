@@ -1,5 +1,5 @@
 //! Vectors of sixteen bytes, lane by lane.
-ghost use Rattle.std.specs.Prelude.{◌≡◌, ℕ, ◌+◌, ◌%◌, ◌/◌, ◌<◌, ◌≤◌, ◌∷◌, ◌++◌, min, true, length, slice_index, bit_and, bit_or};
+ghost use Rattle.std.specs.Prelude.{◌≡◌, ◌≢◌, ◌↔◌, ℕ, ◌+◌, ◌-◌, ◌%◌, ◌/◌, ◌<◌, ◌≤◌, ◌∷◌, ◌++◌, min, true, length, slice_index, bit_and, bit_or};
 ghost use Rattle.collation_skip.specs.Blocks.{HaltsDecide, KeysDecide, MayPass, PassesBehind, in_set};
 ghost use Rattle.collation_skip.specs.TwoBytes.{GoesOn, is_in, leads, trails};
 ghost use Rattle.collation_skip.specs.Lanes.{HasLanes};
@@ -20,8 +20,8 @@ pub(crate) fn load(bytes: &[u8], at: usize) -> u8x16
 /// Not 0 in the lanes where a byte does not pass behind another.
 #[inline(always)]
 pub(crate) fn stops(classes: &Classes, before: u8x16, here: u8x16) -> u8x16
-    ensures { (k : ℕ) → k < 16 → slice_index result k ≡ 0
-        → PassesBehind classes.now (slice_index before k) (slice_index here k) }
+    ensures { (k : ℕ) → k < 16 → (slice_index result k ≡ 0)
+        ↔ PassesBehind classes.now (slice_index before k) (slice_index here k) }
 {
     let columns_before = columns(before);
     let columns_here = columns(here);
@@ -43,8 +43,8 @@ pub(crate) fn key_stops(classes: &Classes, before: u8x16, keys: u8x16, here: u8x
     requires { HasLanes keys (λ k. in_set classes.now.key (slice_index here k)) }
     ensures { KeysDecide classes.now → (byte : ℕ)
         → in_set classes.now.key byte ≡ slice_index before 15
-        → (k : ℕ) → k < 16 → slice_index result k ≡ 0
-        → PassesBehind classes.now (slice_index (byte ∷ here) k) (slice_index here k) }
+        → (k : ℕ) → k < 16 → (slice_index result k ≡ 0)
+        ↔ PassesBehind classes.now (slice_index (byte ∷ here) k) (slice_index here k) }
 {
     let later = members(&classes.later, here, columns(here));
     either(least(one_back(before, keys), later), high_bits(here))
@@ -98,8 +98,8 @@ fn is_empty(set: &[u8; 16]) -> bool
 /// Not 0 in the lanes of bytes that can't be passed.
 #[inline(always)]
 pub(crate) fn halts_of(classes: &Classes, here: u8x16) -> u8x16
-    ensures { (k : ℕ) → k < 16 → slice_index result k ≡ 0
-        → MayPass classes.now (slice_index here k) }
+    ensures { (k : ℕ) → k < 16 → (slice_index result k ≡ 0)
+        ↔ MayPass classes.now (slice_index here k) }
 {
     either(members(&classes.halt, here, columns(here)), high_bits(here))
 }
@@ -117,8 +117,8 @@ pub(crate) fn halts_decide(classes: &Classes) -> bool
 /// Not 0 in the lanes where a byte does not go on behind two others.
 #[inline(always)]
 pub(crate) fn stops_of_two(sets: &TwoByteSets, earlier: u8x16, before: u8x16, here: u8x16) -> u8x16
-    ensures { (k : ℕ) → k < 16 → slice_index result k ≡ 0
-        → GoesOn sets.now (slice_index earlier k) (slice_index before k) (slice_index here k) }
+    ensures { (k : ℕ) → k < 16 → (slice_index result k ≡ 0)
+        ↔ GoesOn sets.now (slice_index earlier k) (slice_index before k) (slice_index here k) }
 {
     let lead = high_halves(&LEADS, before);
     let trail = high_halves(&TRAILS, here);
@@ -143,7 +143,8 @@ fn members_of_both(set: &ByteSet, v: u8x16) -> u8x16
 /// Not 0 in the lanes in which two vectors differ.
 #[inline(always)]
 fn unlike(a: u8x16, b: u8x16) -> u8x16
-    ensures { (k : ℕ) → k < 16 → slice_index result k ≡ 0 → slice_index a k ≡ slice_index b k }
+    ensures { (k : ℕ) → k < 16 → (slice_index result k ≡ 0)
+        ↔ (slice_index a k ≡ slice_index b k) }
 {
     a ^ b
 }
@@ -173,7 +174,7 @@ fn high_bits(v: u8x16) -> u8x16
 /// Whether all lanes are 0.
 #[inline(always)]
 pub(crate) fn is_zero(v: u8x16) -> bool
-    ensures { result ≡ true → (k : ℕ) → k < 16 → slice_index v k ≡ 0 }
+    ensures { (result ≡ true) ↔ ((k : ℕ) → k < 16 → slice_index v k ≡ 0) }
 {
     v.simd_ne(u8x16::splat(0)).to_bitmask() == 0
 }
@@ -192,6 +193,8 @@ pub(crate) fn zeros_in_front_of_two(a: u8x16, b: u8x16) -> usize
     ensures within { result ≤ 32 }
     ensures first { (k : ℕ) → k < 16 → k < result → slice_index a k ≡ 0 }
     ensures second { (k : ℕ) → k < 16 → 16 + k < result → slice_index b k ≡ 0 }
+    ensures in_first { result < 16 → slice_index a result ≢ 0 }
+    ensures in_second { 16 ≤ result → result < 32 → slice_index b (result - 16) ≢ 0 }
 {
     if are_zero(a, b) {
         return 32;
@@ -207,6 +210,7 @@ pub(crate) fn zeros_in_front_of_two(a: u8x16, b: u8x16) -> usize
 pub(crate) fn zeros_in_front(v: u8x16) -> usize
     ensures within { result ≤ 16 }
     ensures zeros { (k : ℕ) → k < result → slice_index v k ≡ 0 }
+    ensures stop { result < 16 → slice_index v result ≢ 0 }
 {
     // a bit behind the lanes, so that there is one
     (v.simd_ne(u8x16::splat(0)).to_bitmask() | 65_536).trailing_zeros() as usize

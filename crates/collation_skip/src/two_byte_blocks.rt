@@ -1,5 +1,5 @@
 //! Passes by text of characters of one and of two bytes sixteen bytes at a time, as long as no two neighbours may be part of a match.
-ghost use Rattle.std.specs.Prelude.{◌≡◌, ◌≢◌, ℕ, suc, ◌+◌, ◌-◌, ◌<◌, ◌≤◌, ◌∷◌, [], length, take, drop, true, IfSome, slice_index};
+ghost use Rattle.std.specs.Prelude.{◌≡◌, ◌≢◌, ◌↔◌, ℕ, suc, ◌+◌, ◌-◌, ◌<◌, ◌≤◌, ◌∷◌, [], length, take, drop, true, IfSome, slice_index};
 ghost use Rattle.std.specs.Char.{len_utf8};
 ghost use Rattle.std.specs.Str.{chars, IsUtf8};
 ghost use Rattle.utf8_cut.specs.Sequences.{SpellsCharacter};
@@ -8,7 +8,7 @@ ghost use Rattle.collation_letters.specs.Letters.{IsLetter};
 ghost use Rattle.collation_letters.specs.Store.{AreLetters};
 ghost use Rattle.collation_skip.specs.Blocks.{IsClean};
 ghost use Rattle.collation_skip.specs.Passed.{IsPassed};
-ghost use Rattle.collation_skip.specs.TwoBytes.{AreSetsRight, GoesOn, Pass, is_in, leads, trails};
+ghost use Rattle.collation_skip.specs.TwoBytes.{AreSetsRight, DoesNotGoOn, GoesOn, Pass, StopsAt, is_in, leads, trails};
 
 use crate::blocks::is_clean;
 use crate::lanes::{is_zero, load, stops_of_two, zeros_in_front};
@@ -79,6 +79,7 @@ fn going_len(sets: &TwoByteSets, piece: &[u8], limit: usize) -> usize
     requires { limit ≤ length piece.now }
     ensures passes { Pass sets.now piece.now result }
     ensures within { result ≤ limit }
+    ensures most { FEWEST ≤ limit → result < limit → StopsAt sets.now piece.now result }
 {
     if limit < FEWEST || !begins(sets, piece[0]) || !goes_on(sets, 0, piece[0], piece[1]) {
         return 0;
@@ -99,6 +100,7 @@ fn going_len(sets: &TwoByteSets, piece: &[u8], limit: usize) -> usize
 fn begins(sets: &TwoByteSets, byte: u8) -> bool
     ensures going { result ≡ true → is_in sets.now.halt byte ≡ 0 }
     ensures begins { result ≡ true → trails byte ≡ 0 }
+    ensures others { is_in sets.now.halt byte ≡ 0 → trails byte ≡ 0 → result ≡ true }
 {
     sets.halt.has(byte) == 0 && TRAILS[(byte / 16) as usize] == 0
 }
@@ -106,7 +108,7 @@ fn begins(sets: &TwoByteSets, byte: u8) -> bool
 /// Whether a byte goes on behind two others.
 #[inline(always)]
 fn goes_on(sets: &TwoByteSets, earlier: u8, before: u8, here: u8) -> bool
-    ensures { result ≡ true → GoesOn sets.now earlier before here }
+    ensures { (result ≡ true) ↔ GoesOn sets.now earlier before here }
 {
     let lead = LEADS[(before / 16) as usize];
     if sets.halt.has(here) != 0 || TRAILS[(here / 16) as usize] != lead {
@@ -123,9 +125,9 @@ fn goes_on(sets: &TwoByteSets, earlier: u8, before: u8, here: u8) -> bool
 pub(crate) fn block_goes_on(sets: &TwoByteSets, bytes: &[u8], at: usize) -> bool
     requires behind { 2 ≤ at }
     requires within { at + 16 ≤ length bytes.now }
-    ensures { result ≡ true → (k : ℕ) → k < 16
+    ensures { (result ≡ true) ↔ ((k : ℕ) → k < 16
         → GoesOn sets.now (slice_index bytes.now (at - 2 + k)) (slice_index bytes.now (at - 1 + k))
-        (slice_index bytes.now (at + k)) }
+        (slice_index bytes.now (at + k))) }
 {
     is_zero(stops_of_two(
         sets,
@@ -144,6 +146,8 @@ fn lanes_that_go_on(sets: &TwoByteSets, bytes: &[u8], at: usize) -> usize
     ensures passes { (k : ℕ) → k < result
         → GoesOn sets.now (slice_index bytes.now (at - 2 + k)) (slice_index bytes.now (at - 1 + k))
         (slice_index bytes.now (at + k)) }
+    ensures stop { result < 16 → DoesNotGoOn sets.now (slice_index bytes.now (at - 2 + result))
+        (slice_index bytes.now (at - 1 + result)) (slice_index bytes.now (at + result)) }
 {
     zeros_in_front(stops_of_two(
         sets,

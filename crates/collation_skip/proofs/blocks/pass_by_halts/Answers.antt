@@ -1,5 +1,5 @@
-use Rattle.std.proofs.Common.{arith}
-use Rattle.collation_skip.proofs.PassLemmas.{passes-halts}
+use Rattle.std.proofs.Common.{◌+◌, arith}
+use Rattle.collation_skip.proofs.PassLemmas.{ends, passes-halts}
 use Rattle.collation_skip.proofs.blocks.pass_by_halts.Goals as goal
 
 pub loop-len-preserved : goal.loop-len-preserved
@@ -24,3 +24,10 @@ returns-then-lanes-lt32-clause-passes c =
     let limit = c.requires.limit in
     let few = c.two_blocks_len_by_halts-lanes.ensures.within in
     passes-halts c.args.classes.now c.args.piece.now c.loop-len.len c.two_blocks_len_by_halts-lanes.result c.requires.halts i.some (omega (arith, test, few, limit, inside)) i.passes c.two_blocks_len_by_halts-lanes.ensures.passes
+
+pub returns-then-lanes-lt32-clause-most : goal.returns-then-lanes-lt32-clause-most
+returns-then-lanes-lt32-clause-most c = λ less.
+    let some = c.loop-len.invariant.some in
+    let lanes = c.two_blocks_len_by_halts-lanes in
+    ends c.args.classes.now c.args.piece.now (c.loop-len.len + lanes.result) _ (omega (arith, some)) (omega arith)
+    (λ p. lanes.ensures.stop c.if-lanes-lt32.true (record { ascii = p.ascii; going = p.going }))

@@ -1,6 +1,6 @@
 use Rattle.std.proofs.Common.{◌∙◌, ℕ, ap, slice_index, arith}
 use Rattle.collation_skip.specs.Blocks.{in_set}
-use Rattle.collation_skip.proofs.PassLemmas.{passes-more}
+use Rattle.collation_skip.proofs.PassLemmas.{ends, passes-more}
 use Rattle.collation_skip.proofs.blocks.pass_by_keys.Goals as goal
 
 pub loop-len-preserved : goal.loop-len-preserved
@@ -28,3 +28,8 @@ returns-then-lanes-lt32-clause-passes c =
     let two = c.two_blocks_len_by_keys-lanes.ensures in
     let few = two.within in
     passes-more c.args.classes.now c.args.piece.now c.loop-len.len _ i.some (omega (arith, test, few, limit, inside)) i.passes two.passes
+
+pub returns-then-lanes-lt32-clause-most : goal.returns-then-lanes-lt32-clause-most
+returns-then-lanes-lt32-clause-most c = λ less.
+    let some = c.loop-len.invariant.some in
+    ends c.args.classes.now c.args.piece.now _ _ (omega (arith, some)) (omega arith) (c.two_blocks_len_by_keys-lanes.ensures.stop c.if-lanes-lt32.true)

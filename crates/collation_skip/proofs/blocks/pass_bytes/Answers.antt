@@ -30,6 +30,6 @@ loop-len-preserved c =
     let test = c.loop-len-test.true in
     record {
       within = omega (arith, test);
-      passes = passes-one c.args.classes.now c.args.piece.now c.loop-len.len some (omega (arith, test, c.requires.limit)) i.passes (c.byte_passes.ensures c.if-byte_passes.true);
+      passes = passes-one c.args.classes.now c.args.piece.now c.loop-len.len some (omega (arith, test, c.requires.limit)) i.passes (c.byte_passes.ensures.0 c.if-byte_passes.true);
       some = omega (arith, some);
     }

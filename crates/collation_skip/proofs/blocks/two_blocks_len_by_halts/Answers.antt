@@ -1,4 +1,4 @@
-use Rattle.std.proofs.Common.{◌∙◌, ℕ, ◌-◌, ◌<◌, slice_index, subst, ap, arith, inl, inr}
+use Rattle.std.proofs.Common.{◌∙◌, ℕ, ◌-◌, ◌<◌, slice_index, subst, sym, ap, arith, inl, inr}
 use Rattle.std.proofs.lemmas.Bool.{cases_lt}
 use Rattle.collation_skip.specs.Blocks.{MayPass}
 use Rattle.collation_skip.proofs.blocks.two_blocks_len_by_halts.Goals as goal
@@ -8,9 +8,23 @@ returns-clause-passes c = λ k less.
     let classes = c.args.classes.now in
     let zeros = c.zeros_in_front_of_two.ensures in
     elim (cases_lt k 16) [
-      | inl low ↦ subst (MayPass classes) (c.load.ensures.each k low) (c.halts_of-first.ensures k low (zeros.first k low less))
+      | inl low ↦ subst (MayPass classes) (c.load.ensures.each k low) ((c.halts_of-first.ensures k low).0 (zeros.first k low less))
       | inr high ↦
           let low : k - 16 < 16 = omega (arith, high, less, zeros.within) in
           subst (MayPass classes) (c.load-2.ensures.each (k - 16) low ∙ ap (λ (j : ℕ). slice_index c.args.bytes.now j) (omega (arith, high)))
-          (c.halts_of-second.ensures (k - 16) low (zeros.second (k - 16) low (omega (arith, high, less))))
+          ((c.halts_of-second.ensures (k - 16) low).0 (zeros.second (k - 16) low (omega (arith, high, less))))
+    ]
+
+pub returns-clause-stop : goal.returns-clause-stop
+returns-clause-stop c = λ few p.
+    let classes = c.args.classes.now in
+    let zeros = c.zeros_in_front_of_two.ensures in
+    let n = c.zeros_in_front_of_two.result in
+    elim (cases_lt n 16) [
+      | inl low ↦ zeros.in_first low ((c.halts_of-first.ensures n low).1 (subst (MayPass classes) (sym (c.load.ensures.each n low)) p))
+      | inr high ↦
+          let low : n - 16 < 16 = omega (arith, high, few) in
+          zeros.in_second high few
+          ((c.halts_of-second.ensures (n - 16) low).1
+          (subst (MayPass classes) (sym (c.load-2.ensures.each (n - 16) low ∙ ap (λ (j : ℕ). slice_index c.args.bytes.now j) (omega (arith, high)))) p))
     ]

@@ -4,7 +4,7 @@ use Rattle.collation_skip.proofs.lanes.are_zero.Goals as goal
 
 pub returns : goal.returns
 returns c = λ none k less.
-    let zero_here = c.is_zero.ensures none k less in
+    let zero_here = c.is_zero.ensures.0 none k less in
     let both = c.either.ensures.each k less in
     let left = le_or_l (slice_index c.args.a k) (slice_index c.args.b k) in
     let right = le_or_r (slice_index c.args.a k) (slice_index c.args.b k) in

@@ -7,6 +7,6 @@ returns-then-is_empty c = λ yes.
     let classes = c.args.classes.now in
     record {
       key = in-neither classes.key classes.halt c.load-key.result c.load-halt.result c.load-key.ensures c.load-halt.ensures
-          (λ k less. sym (c.either.ensures.each k less) ∙ c.unlike.ensures k less (c.is_zero.ensures yes k less));
+          (λ k less. sym (c.either.ensures.each k less) ∙ (c.unlike.ensures k less).0 (c.is_zero.ensures.0 yes k less));
       inner = c.is_empty.ensures c.if-is_empty.true;
     }
