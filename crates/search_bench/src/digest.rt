@@ -37,7 +37,28 @@ impl Digest {
         match answer {
             Ok(Some((start, end))) => self.add_range(*start, *end),
             Ok(None) => self.add(1),
-            Err(fault) => self.add(fault.offset),
+            Err(fault) => self.add_fault(fault),
+        }
+    }
+
+    /// Adds the answer of a call that takes a piece, or ends a text.
+    pub fn add_status(&mut self, answer: &Result<(), TextFault>) {
+        match answer {
+            Ok(()) => self.add(1),
+            Err(fault) => self.add_fault(fault),
+        }
+    }
+
+    /// Adds a fault.
+    fn add_fault(&mut self, fault: &TextFault) {
+        self.add(u64::from(fault.kind));
+        self.add(fault.offset);
+    }
+
+    /// Adds the words of a saved state.
+    pub fn add_words(&mut self, words: &[u64]) {
+        for word in words {
+            self.add(*word);
         }
     }
 }

@@ -19,13 +19,14 @@ pub fn files(inputs: &mut Inputs<'_>, digest: &mut Digest) -> Result<()> {
     let listed = words(alloc, inputs.lists, "english")?;
     let size = inputs.share_of(500_000).max(10_000);
     let text = Text::of_words(alloc, &listed, 0, size, &mut inputs.random)?;
+    let mut parts = text.parts(&mut inputs.random);
     for _ in 0..inputs.share_of(FILES) {
         inputs.table.vary(&mut inputs.random);
         let table = Table::read(alloc, &inputs.table.bytes)?;
         digest.add(table.longest_key() as u64);
         let sought = word_of(&listed, &mut inputs.random);
         let len = 200 + inputs.random.skewed(20_000);
-        let searched = text.part(len, &mut inputs.random);
+        let searched = parts.next(len);
         search_file(inputs, &table, sought, searched, digest)?;
     }
     Ok(())
@@ -47,6 +48,7 @@ fn search_file(
         Strength::Three,
         Variable::NonIgnorable,
     )?;
+    digest.add(pattern.len() as u64);
     let mut search = Search::new(alloc, table, &pattern)?;
     feed(&mut search, text, 4096, digest)?;
     finish(search, digest)

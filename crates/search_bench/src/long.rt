@@ -8,11 +8,11 @@ use anyhow::Result;
 use collation_elements::{Strength, Variable};
 use collation_pattern::Pattern;
 use collation_search::{Found, Search};
-use collation_table::Table;
+use collation_table::{Table, Weights};
 use std::alloc::Global;
 
 /// How many words a part has at most.
-const PART_WORDS: usize = 20_000;
+pub const PART_WORDS: usize = 20_000;
 
 /// How many bytes a piece has.
 const PIECE: usize = 4096;
@@ -65,14 +65,17 @@ fn search_parts(
         query.strength,
         query.variable,
     )?;
+    digest.add(pattern.len() as u64);
     let mut search = Search::new(alloc, query.table, &pattern)?;
+    let mut parts = text.parts(&mut inputs.random);
     let mut taken = 0usize;
     let bytes = inputs.share_of(query.bytes);
     for _ in 0..bytes {
         if taken >= bytes {
             break;
         }
-        let part = text.part(PART_WORDS, &mut inputs.random);
+        let left = text.words_in(bytes - taken);
+        let part = parts.next(PART_WORDS.min(left));
         taken = taken.saturating_add(part.len());
         feed(&mut search, part, PIECE, digest)?;
     }
@@ -88,7 +91,9 @@ pub fn feed(
 ) -> Result<()> {
     for piece in part.chunks(size.max(1)) {
         let mut sink = |start, end| digest.add_range(start, end);
-        search.feed(piece, &mut sink)?;
+        let answer = search.feed(piece, &mut sink);
+        digest.add_status(&answer);
+        answer?;
     }
     Ok(())
 }
@@ -100,6 +105,7 @@ pub fn finish(search: Search<'_, Table>, digest: &mut Digest) -> Result<()> {
     for (start, end) in found.as_slice() {
         digest.add_range(*start, *end);
     }
+    digest.add_status(&ended);
     Ok(ended?)
 }
 
@@ -111,9 +117,11 @@ fn text_of(inputs: &mut Inputs<'_>, name: &str, joined: usize) -> Result<Text> {
 }
 
 /// Reads another table of the shape, with some rows after its own.
-fn tailored(inputs: &mut Inputs<'_>, tailor: &str) -> Result<Table> {
+fn tailored(inputs: &mut Inputs<'_>, tailor: &str, digest: &mut Digest) -> Result<Table> {
     inputs.table.vary(&mut inputs.random);
-    Ok(Table::read_tailored(inputs.alloc, &inputs.table.bytes, tailor.as_bytes())?)
+    let table = Table::read_tailored(inputs.alloc, &inputs.table.bytes, tailor.as_bytes())?;
+    digest.add(table.longest_key() as u64);
+    Ok(table)
 }
 
 /// Searches a text of the words of a list.
@@ -137,14 +145,14 @@ fn search_tailored(
     bytes: usize,
     digest: &mut Digest,
 ) -> Result<()> {
-    let table = tailored(inputs, tailor)?;
+    let table = tailored(inputs, tailor, digest)?;
     let query = Query::plain(&table, sought, bytes);
     search_list(inputs, name, 0, &query, digest)
 }
 
 /// Texts of ASCII with few matches.
 pub fn plain(inputs: &mut Inputs<'_>, digest: &mut Digest) -> Result<()> {
-    let table = tailored(inputs, "")?;
+    let table = tailored(inputs, "", digest)?;
     for (name, sought, strength, variable) in [
         ("english", "resume", Strength::One, Variable::NonIgnorable),
         ("english", "resume", Strength::One, Variable::Shifted),
@@ -172,11 +180,11 @@ pub fn scripts(inputs: &mut Inputs<'_>, digest: &mut Digest) -> Result<()> {
         60 * MEGABYTE,
         digest,
     )?;
-    let table = tailored(inputs, "")?;
+    let table = tailored(inputs, "", digest)?;
     for (name, joined, sought) in [
         ("russian", 0, "система"),
         ("polish", 0, "książka"),
-        ("french", 0, "resume"),
+        ("french", 0, "deneig"),
         ("vietnamese", 0, "tiếng"),
         ("greek", 0, "λόγος"),
         ("decomposed", 0, "resume"),
@@ -189,13 +197,13 @@ pub fn scripts(inputs: &mut Inputs<'_>, digest: &mut Digest) -> Result<()> {
         let query = Query::plain(&table, sought, 60 * MEGABYTE);
         search_list(inputs, name, joined, &query, digest)?;
     }
-    for (first, count) in [
-        (0x4E00, 20_000),
-        (0xAC00, 11_000),
-        (0x4E00, 20_000),
-        (0xAC00, 11_000),
+    for (first, count, sought) in [
+        (0x4E00, 20_000, "검색"),
+        (0xAC00, 11_000, "문장"),
+        (0x4E00, 20_000, "정렬"),
+        (0xAC00, 11_000, "음절"),
     ] {
-        search_characters(inputs, &table, first, count, digest)?;
+        search_characters(inputs, &table, first, count, sought, digest)?;
     }
     Ok(())
 }
@@ -206,17 +214,18 @@ fn search_characters(
     table: &Table,
     first: u32,
     count: usize,
+    sought: &str,
     digest: &mut Digest,
 ) -> Result<()> {
     let size = inputs.share_of(300_000);
     let text = Text::of_characters(inputs.alloc, first, count, size, &mut inputs.random)?;
-    let query = Query::plain(table, "검색", MEGABYTE);
+    let query = Query::plain(table, sought, MEGABYTE);
     search_parts(inputs, &query, &text, digest)
 }
 
 /// Texts in which the pattern, or its beginning, stands everywhere.
 pub fn matches(inputs: &mut Inputs<'_>, digest: &mut Digest) -> Result<()> {
-    let table = tailored(inputs, "")?;
+    let table = tailored(inputs, "", digest)?;
     for (name, joined, sought, bytes) in [
         ("english", 0, "e", 160 * MEGABYTE),
         ("english", 0, "the", 160 * MEGABYTE),
@@ -236,26 +245,29 @@ const HUNGARIAN: &str = "0063 0073 ; [.F010.0020.0002]\n0064 007A ; [.F011.0020.
     006E 0079 ; [.F015.0020.0002]\n0073 007A ; [.F016.0020.0002]\n0074 0079 ; [.F017.0020.0002]\n\
     007A 0073 ; [.F018.0020.0002]\n";
 
-/// Texts and tables whose units are taken step by step.
+/// Texts and tables whose units are taken step by step, two of each kind.
 pub fn steps(inputs: &mut Inputs<'_>, digest: &mut Digest) -> Result<()> {
-    search_tailored(
-        inputs,
-        HUNGARIAN,
-        "hungarian",
-        "nyelv",
-        10 * MEGABYTE,
-        digest,
-    )?;
-    search_tailored(inputs, "", "typed", "tiếng", 8 * MEGABYTE, digest)?;
-    search_paragraph(inputs, digest)?;
-    search_harmful(inputs, digest)
+    for (hungarian, typed) in [("nyelv", "tiếng"), ("könyv", "chấyp")] {
+        search_tailored(
+            inputs,
+            HUNGARIAN,
+            "hungarian",
+            hungarian,
+            10 * MEGABYTE,
+            digest,
+        )?;
+        search_tailored(inputs, "", "typed", typed, 8 * MEGABYTE, digest)?;
+        search_paragraph(inputs, digest)?;
+        search_harmful(inputs, digest)?;
+    }
+    Ok(())
 }
 
 /// Looks for a pattern of more keys than the search has symbols for: the first 3,000 bytes of a text of ASCII.
 fn search_paragraph(inputs: &mut Inputs<'_>, digest: &mut Digest) -> Result<()> {
     let text = text_of(inputs, "english", 0)?;
     let paragraph = paragraph(inputs.alloc, &text)?;
-    let table = tailored(inputs, "")?;
+    let table = tailored(inputs, "", digest)?;
     let query = Query::plain(&table, paragraph.as_str(), 4 * MEGABYTE);
     search_parts(inputs, &query, &text, digest)
 }
@@ -276,7 +288,7 @@ fn search_harmful(inputs: &mut Inputs<'_>, digest: &mut Digest) -> Result<()> {
         row.push_str("0061 ")?;
     }
     row.push_str("0071 ; [.F020.0020.0002]\n")?;
-    let table = tailored(inputs, row.as_str())?;
+    let table = tailored(inputs, row.as_str(), digest)?;
     let query = Query::plain(&table, "ab", MEGABYTE / 5);
     search_list(inputs, "letters", 2, &query, digest)
 }

@@ -7,6 +7,10 @@ use std::alloc::{AllocError, Global};
 /// How many bytes a line has at least.
 const LINE_LENGTH: usize = 72;
 
+/// By how many words a part begins behind the one before, in a circle. It is a prime number, above the number of words of any text here, so
+/// that each word comes once before one comes again.
+const STRIDE: usize = 2_147_483_647;
+
 /// What is found in no list of words.
 const NOTHING: &[u8] = b"";
 
@@ -15,6 +19,13 @@ const NOTHING: &[u8] = b"";
 pub struct Text {
     bytes: Vec<u8>,
     starts: Vec<usize>,
+}
+
+/// Parts of a text, no two from the same word on until each word has come.
+#[derive(Drop)]
+pub struct Parts<'a> {
+    text: &'a Text,
+    first: usize,
 }
 
 /// The words of the list with this name. A line of `lists` is a name and words, with blanks between them.
@@ -95,13 +106,18 @@ impl Text {
         self.bytes.as_slice()
     }
 
-    /// So many words from one of them on, fewer at the end.
-    pub fn part(&self, words: usize, random: &mut Random) -> &[u8] {
-        let first = random.below(self.starts.len().max(1));
-        let last = first
-            .saturating_add(words)
-            .min(self.starts.len().saturating_sub(1));
-        self.between(first, last)
+    /// How many words so many bytes of it have, about, and one at least.
+    pub fn words_in(&self, bytes: usize) -> usize {
+        let words = bytes.saturating_mul(self.starts.len()) / self.bytes.len().max(1);
+        words.max(1)
+    }
+
+    /// Parts of it, the first from any word on.
+    pub fn parts(&self, random: &mut Random) -> Parts<'_> {
+        Parts {
+            text: self,
+            first: random.below(self.starts.len().max(1)),
+        }
     }
 
     /// From the start of a word to before the start of another.
@@ -109,6 +125,19 @@ impl Text {
         let start = self.starts.get(first).copied().unwrap_or(0);
         let end = self.starts.get(last).copied().unwrap_or(0);
         self.bytes.get(start..end).unwrap_or(NOTHING)
+    }
+}
+
+impl<'a> Parts<'a> {
+    /// So many words from the next first one on, fewer at the end.
+    pub fn next(&mut self, words: usize) -> &'a [u8] {
+        let starts = self.text.starts.len();
+        self.first = self.first.wrapping_add(STRIDE) % starts.max(1);
+        let last = self
+            .first
+            .saturating_add(words)
+            .min(starts.saturating_sub(1));
+        self.text.between(self.first, last)
     }
 }
 
