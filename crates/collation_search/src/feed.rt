@@ -161,7 +161,7 @@ impl<'a, W: Weights> Search<'a, W> {
         Ok(())
     }
 
-    /// How far letters of a piece are taken, in bytes: nowhere where none are found.
+    /// How far letters of a piece are taken, in bytes: nowhere where the piece goes by steps alone.
     fn reach(&mut self, piece: &[u8]) -> usize
         requires none { self.old.fault ≡ None }
         ensures taken { Takes self.old 0 [] (Ok tt) [] self.new }
@@ -169,7 +169,8 @@ impl<'a, W: Weights> Search<'a, W> {
             → max 2 (longest_mapped (sought self.old).table) ≤ starters_from (length u + result)
             (chars (whole (u ++ piece.now))) }
     {
-        if !self.cache.finds_letters {
+        if let Some(left) = self.cache.by_steps.checked_sub(piece.len()) {
+            self.cache.by_steps = left;
             return 0;
         }
         reach(&self.query, &mut self.cache.letters, piece)

@@ -23,6 +23,10 @@ const LONGEST_PIECE: usize = 4_096;
 /// The most bytes of a text that goes by steps alone where the search is made for it, and no letter serves another text.
 const SHORT_TEXT: usize = 64;
 
+/// How many bytes and characters together such a text has at most for each different byte: where it has more, letters serve each often
+/// enough. A character of three bytes takes less than twice the steps of one byte.
+const FOR_EACH: usize = 7;
+
 /// The first range of the answer to a text, if there is one, though a fault may stand after it: its start and its end, in
 /// bytes from the beginning of the text, the end not included. The pattern was compiled with this table.
 ///
@@ -48,7 +52,7 @@ pub fn index<W: Weights>(
             offset: 0,
         });
     };
-    search.cache.finds_letters = text.len() > SHORT_TEXT;
+    search.cache.by_steps = search.cache.by_steps.max(bytes_by_steps(text));
     search.first_in(text)
 }
 
@@ -83,7 +87,8 @@ pub fn index_from<W: Weights>(
             offset: 0,
         });
     };
-    search.cache.finds_letters = text.len().saturating_sub(from) > SHORT_TEXT;
+    let rest = &text[from.min(text.len())..];
+    search.cache.by_steps = search.cache.by_steps.max(bytes_by_steps(rest));
     search.first_from(text, from)
 }
 
@@ -201,6 +206,30 @@ impl<'a, W: Weights> Search<'a, W> {
         );
         range_or_fault(first, fed)
     }
+}
+
+/// How many bytes of a text go by steps alone, as far as its bytes say: all of a short one with many different bytes.
+fn bytes_by_steps(text: &[u8]) -> usize {
+    if text.len() > SHORT_TEXT {
+        return 0;
+    }
+    let mut is_there = [false; 256];
+    let mut different = 0usize;
+    let mut characters = 0usize;
+    for byte in text {
+        let there = &mut is_there[usize::from(*byte)];
+        if !*there {
+            *there = true;
+            different = different.saturating_add(1);
+        }
+        if *byte < 0x80 || *byte >= 0xC0 {
+            characters = characters.saturating_add(1);
+        }
+    }
+    if characters.saturating_add(text.len()) > different.saturating_mul(FOR_EACH) {
+        return 0;
+    }
+    text.len()
 }
 
 /// What was found in the rest of a text from this offset on, its offsets counted from the beginning

@@ -95,7 +95,7 @@ impl<'a, W: Weights> Search<'a, W> {
     {
         let _some = pattern.len();
         let finder = Finder::new(alloc, table, pattern, select)?;
-        let cache = Cache::new(alloc, table)?;
+        let cache = Cache::new(alloc, table, pattern)?;
         Ok(Search {
             query: Query {
                 table,

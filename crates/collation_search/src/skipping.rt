@@ -2,6 +2,7 @@
 use crate::search::Query;
 use collation_elements::weighers_go_on;
 use collation_letters::{Letters, laws_of_symbols};
+use collation_pattern::Pattern;
 use collation_pattern::laws::laws_of_borders;
 use collation_skip::{Passed, Skip};
 use collation_table::Weights;
@@ -19,6 +20,13 @@ const FEWEST_HELD: usize = 1;
 /// The fewest bytes that may be passed by: fewer are walked over sooner.
 const SHORTEST: usize = 8;
 
+/// The most keys of a pattern for which letters are found from the first piece on.
+const MOST_KEYS: usize = 1_024;
+
+/// How many bytes go by steps first where the pattern has more keys: only a longer text gives back what finding its letters, and what
+/// passes it by, costs.
+const BY_STEPS: usize = 32_768;
+
 /// What a search has found out of the characters that it met, for its table and its pattern.
 #[derive(Drop)]
 pub(crate) struct Cache {
@@ -26,8 +34,8 @@ pub(crate) struct Cache {
     pub(crate) skip: Skip,
     /// How many bytes are walked over before text is passed by: few where that was worth it, more where it was not.
     pub(crate) hold: usize,
-    /// Whether letters are found at all: for one short text they cost more than the steps that they save.
-    pub(crate) finds_letters: bool,
+    /// How many bytes go by steps alone before letters are found: for one short text these cost more than the steps that they save.
+    pub(crate) by_steps: usize,
     /// The allocator of the search.
     pub(crate) alloc: Global,
 }
@@ -54,7 +62,11 @@ impl Cache {
     /// # Errors
     ///
     /// Only where memory was refused.
-    pub(crate) fn new<W: Weights>(alloc: Global, table: &W) -> Result<Cache, AllocError>
+    pub(crate) fn new<W: Weights>(
+        alloc: Global,
+        table: &W,
+        pattern: &Pattern,
+    ) -> Result<Cache, AllocError>
         ensures { IfOk result (λ cache. (table : TableMap) (pattern : Compiled)
             → AreRight table pattern cache) }
     {
@@ -62,7 +74,11 @@ impl Cache {
             letters: Letters::for_long_patterns(alloc, table)?,
             skip: Skip::new(alloc),
             hold: FEWEST_HELD,
-            finds_letters: true,
+            by_steps: if pattern.len() > MOST_KEYS {
+                BY_STEPS
+            } else {
+                0
+            },
             alloc,
         })
     }

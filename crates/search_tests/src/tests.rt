@@ -4,6 +4,7 @@
 use collation_elements::{Strength, Variable};
 
 mod answers;
+mod by_steps;
 mod calls;
 mod checks;
 mod handing_out;

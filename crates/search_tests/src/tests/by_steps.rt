@@ -1,0 +1,151 @@
+//! Text that goes by steps alone, and text that goes by letters: on both sides of what decides between them the answers are those of
+//! steps.
+
+use super::answers::{answered_is, fed, resumed, stepped};
+use super::calls::{
+    Query, begin, compile, first_in, first_range, first_range_from, for_all, joined, put_bytes,
+    read, repeated,
+};
+use super::checks::{count_is, first_is};
+use super::{KEPT, ONE, Range, TABLE};
+use collation_table::Table;
+use std::alloc::Global;
+use std::process::Abort;
+
+/// How many letters `a` patterns have, on both sides of the most for which letters are found at once, and how many ranges there are in
+/// `runs`.
+const LENGTHS: [(usize, usize); 3] = [(1_024, 33_131), (1_025, 33_128), (3_000, 27_203)];
+
+/// Sizes of pieces, on both sides of the 32,768 bytes that go by steps first.
+const SIZES: [usize; 4] = [4_096, 32_767, 32_768, 32_769];
+
+/// Runs of letters `a`, of which one stands across the first 32,768 bytes and one behind them.
+fn runs(rt: &impl Abort, alloc: Global) -> String {
+    let some = repeated(rt, alloc, "a", 3_100);
+    let many = repeated(rt, alloc, "a", 30_000);
+    joined(
+        rt,
+        alloc,
+        &[some.as_str(), "b", many.as_str(), "e", some.as_str(), "bbb"],
+    )
+}
+
+/// Compares the ranges of a text that is fed in pieces of each size, and of one whose search is resumed after each piece, with those of
+/// steps.
+fn compare_sizes(
+    rt: &impl Abort,
+    alloc: Global,
+    query: &Query<'_, Table>,
+    text: &[u8],
+    want: usize,
+) {
+    let (ranges, fault) = stepped(rt, alloc, query, text);
+    count_is(rt, ranges.len(), want);
+    for size in SIZES {
+        let whole = fed(rt, alloc, query, text, size);
+        answered_is(rt, &whole, &ranges, fault, "fed");
+    }
+    let (again, _most) = resumed(rt, alloc, query, text, 32_769);
+    answered_is(rt, &again, &ranges, fault, "resumed");
+}
+
+/// Patterns and pieces of each length.
+#[test]
+fn long_patterns_answer_as_steps(rt: HostRuntime) {
+    let alloc = rt.alloc();
+    let table = read(&rt, alloc, TABLE);
+    let text = runs(&rt, alloc);
+    for (len, want) in LENGTHS {
+        let letters = repeated(&rt, alloc, "a", len);
+        let pattern = compile(&rt, alloc, &table, &letters, ONE, KEPT);
+        compare_sizes(
+            &rt,
+            alloc,
+            &for_all(&table, &pattern),
+            text.as_bytes(),
+            want,
+        );
+    }
+}
+
+/// The first range of each of many texts, which together have more bytes than go by steps first, by one search; and so by one for each.
+#[test]
+fn first_range_of_many_texts(rt: HostRuntime) {
+    let alloc = rt.alloc();
+    let table = read(&rt, alloc, TABLE);
+    let letters = repeated(&rt, alloc, "a", 1_025);
+    let pattern = compile(&rt, alloc, &table, &letters, ONE, KEPT);
+    let query = for_all(&table, &pattern);
+    let many = repeated(&rt, alloc, "a", 1_100);
+    let text = joined(&rt, alloc, &["b", many.as_str(), "b"]);
+    let mut search = begin(&rt, alloc, &query);
+    for _ in 0..40 {
+        let first = first_in(&mut search, text.as_bytes());
+        first_is(&rt, first, Ok(Some((1, 1_026))), "one search");
+    }
+    let first = first_range(alloc, &query, text.as_bytes());
+    first_is(&rt, first, Ok(Some((1, 1_026))), "a search for it");
+}
+
+/// Characters, of which short texts have some.
+const CHARACTERS: [char; 20] = [
+    'a', 's', 'é', '一', 'r', 'b', 'c', 'e', 'h', 'm', 'u', ' ', '-', 'A', 'ü', '二', 'ก', '?', '!',
+    '.',
+];
+
+/// A text of so many characters, of which so many are different.
+fn varied(rt: &impl Abort, alloc: Global, len: usize, different: usize) -> String {
+    let mut text = String::new(alloc);
+    for i in 0..len {
+        let turn = i.wrapping_mul(i).wrapping_add(i / 3);
+        let place = if i < different {
+            i
+        } else {
+            turn % 20 % different.max(1)
+        };
+        text.push(CHARACTERS[place % 20]).expect(rt, "memory");
+    }
+    text
+}
+
+/// A range so many bytes further on.
+fn moved(range: Range, by: u64) -> Range {
+    (range.0.wrapping_add(by), range.1.wrapping_add(by))
+}
+
+/// Compares the first range of a text, also where it stands behind other bytes, with that of steps. It answers whether there is one.
+fn compare_first(rt: &impl Abort, alloc: Global, query: &Query<'_, Table>, text: &[u8]) -> bool {
+    let (ranges, _fault) = stepped(rt, alloc, query, text);
+    let want = ranges.first().copied();
+    first_is(rt, first_range(alloc, query, text), Ok(want), "index");
+    let mut behind = Vec::new(alloc);
+    put_bytes(rt, &mut behind, b"sr-");
+    put_bytes(rt, &mut behind, text);
+    let from = first_range_from(alloc, query, &behind, 3);
+    first_is(
+        rt,
+        from,
+        Ok(want.map(|range| moved(range, 3))),
+        "index_from",
+    );
+    want.is_some()
+}
+
+/// Texts of 1 to 66 characters, of which 1 to 20 are different.
+#[test]
+fn first_range_of_short_texts(rt: HostRuntime) {
+    let alloc = rt.alloc();
+    let table = read(&rt, alloc, TABLE);
+    let pattern = compile(&rt, alloc, &table, "sa", ONE, KEPT);
+    let query = for_all(&table, &pattern);
+    let mut found = 0usize;
+    for len in 1..=66usize {
+        for different in 1..=20usize {
+            let text = varied(&rt, alloc, len, different);
+            if compare_first(&rt, alloc, &query, text.as_bytes()) {
+                found = found.wrapping_add(1);
+            }
+        }
+    }
+    assert!(rt; 100 < found && found < 1_220);
+}
