@@ -1,20 +1,20 @@
-//! How much of a text `collation_skip` passes by in blocks, which no clause says: of ASCII, beside the way before blocks were joined in
-//! twos and looked up once, for patterns of one key and of two, on made texts of each length about the sizes of blocks; and that characters
-//! of two bytes pass in blocks too.
+//! How much of a text of ASCII `collation_skip` passes by in blocks, which no clause says: beside the way before blocks were joined in twos
+//! and looked up once, for patterns of one key and of two, in tables without strings of letters of ASCII and with one. The texts are
+//! made: dense in stops and calm, with one stop at each place, and passed up to each place, so that each loop goes many rounds.
 
+ghost use Rattle.std.specs.Prelude.{◌+◌, ◌≤◌, length, IfSome};
 ghost use Rattle.collation_letters.specs.Store.{AreLetters};
 ghost use Rattle.collation_skip.specs.Blocks.{AreBlocksRight};
-ghost use Rattle.collation_skip.specs.Skips.{IsSkipRight};
 
-use crate::calls::{KEPT, ONE, TABLE, compile, put, repeated, table_of};
-use collation_letters::Letters;
+use crate::calls::{KEPT, ONE, TABLE, compile, table_of};
+use collation_letters::{FOREIGN, Letter, Letters, Role};
 use collation_pattern::Pattern;
-use collation_skip::{AsciiBlocks, Passed, Skip};
+use collation_skip::{AsciiBlocks, Passed};
 use collation_table::{Table, Weights};
 use std::alloc::{AllocError, Global};
 use std::process::Abort;
 
-/// A table without strings of letters of ASCII: there keys alone decide which bytes pass.
+/// A table without strings of letters of ASCII.
 const PLAIN: &str = "@version 0.0.0
 0020 ; [*0201.0020.0002]
 0061 ; [.1C00.0020.0002]
@@ -22,106 +22,207 @@ const PLAIN: &str = "@version 0.0.0
 006D ; [.1C60.0020.0002]
 ";
 
-/// The bytes of made texts: the pattern's two, others, two that are a string of one of the tables, and one that is not ASCII.
+/// The bytes of texts that are dense in stops: the pattern's two, others, two that are a string of one of the tables, and one that is not
+/// ASCII.
 const BYTES: [u8; 16] = *b"abababmmm chmm \xC3";
 
-/// The longest made text, in bytes.
-const LONGEST: usize = 100;
+/// Those of calm texts: none of them stops, in any order, and behind some of them no text is left.
+const CALM: [u8; 16] = *b"mmeb mhmbmme mbm";
 
-/// What is sought, and where.
+/// What stops between calm bytes, for some patterns at least.
+const STOPS: [[u8; 2]; 8] = [
+    *b"ab",
+    *b"ch",
+    *b"ab",
+    *b"am",
+    *b"\xC3\xA9",
+    *b"ab",
+    *b"ch",
+    *b"bc",
+];
+
+/// The longest text that is dense in stops, in bytes, those of one stop, and the longest calm one.
+const SHORT: usize = 100;
+
+const MIDDLE: usize = 200;
+
+const LONG: usize = 600;
+
+/// How far one from the other stops are in calm texts, where they have any.
+const RATES: [usize; 4] = [50, 100, 200, 0];
+
+/// How many texts of each kind there are, one kind behind the other: dense ones, those of one stop, those that may be passed by up to a
+/// place, and calm ones.
+const DENSE: usize = 12 * SHORT;
+
+const OF_ONE_STOP: usize = 8 * MIDDLE;
+
+const UP_TO: usize = 2 * MIDDLE;
+
+const OF_CALM: usize = 800;
+
+/// The bytes that stop: each of those that halt, a key before a later one, and one that joins before an inner one.
 #[derive(Clone, Copy)]
-enum Sought {
-    /// `ab` in a table without strings of letters of ASCII.
-    Two,
-    /// `ab` in a table with the string `ch`.
-    TwoBesideString,
-    /// `a` in a table without strings of letters of ASCII: there the bytes that halt decide which bytes pass.
-    One,
+struct Classes<'a> {
+    halt: &'a [u8],
+    key: &'a [u8],
+    later: &'a [u8],
+    joins: &'a [u8],
+    inner: &'a [u8],
 }
 
-/// The byte at a place, 0 behind the last.
-fn byte_at(text: &[u8], at: usize) -> u8 {
-    text.get(at).copied().unwrap_or(0)
-}
+/// Those of `ab` and of `a`, in a table without strings of letters of ASCII and in one with the string `ch`.
+const TWO: Classes<'static> = Classes {
+    halt: b"",
+    key: b"a",
+    later: b"b",
+    joins: b"",
+    inner: b"",
+};
 
-/// Whether a byte passes behind the one before it.
-fn passes(text: &[u8], at: usize, sought: Sought) -> bool {
-    let before = byte_at(text, at.wrapping_sub(1));
-    let here = byte_at(text, at);
-    let stops = match sought {
-        Sought::Two => before == b'a' && here == b'b',
-        Sought::TwoBesideString => {
-            (before == b'a' && here == b'b') || (before == b'c' && here == b'h')
-        }
-        Sought::One => here == b'a',
-    };
-    here < 128 && !stops
-}
+const TWO_BESIDE_STRING: Classes<'static> = Classes {
+    halt: b"",
+    key: b"a",
+    later: b"b",
+    joins: b"c",
+    inner: b"h",
+};
 
-/// Whether the first byte of a text passes.
-fn begins(text: &[u8], sought: Sought) -> bool {
-    match sought {
-        Sought::Two | Sought::TwoBesideString => byte_at(text, 0) < 128,
-        Sought::One => byte_at(text, 0) < 128 && byte_at(text, 0) != b'a',
-    }
-}
+const ONE_ALONE: Classes<'static> = Classes {
+    halt: b"a",
+    key: b"a",
+    later: b"a",
+    joins: b"",
+    inner: b"",
+};
 
-/// Whether the text may be left behind a byte of ASCII: its character has a key which the pattern lacks, and no unit reaches out of it.
-fn is_clean(byte: u8, sought: Sought) -> bool {
-    match sought {
-        Sought::Two => byte != b'a' && byte != b'b',
-        Sought::TwoBesideString => byte != b'a' && byte != b'b' && byte != b'c',
-        Sought::One => byte != b'a',
-    }
-}
+const ONE_BESIDE_STRING: Classes<'static> = Classes {
+    halt: b"a",
+    key: b"a",
+    later: b"a",
+    joins: b"c",
+    inner: b"h",
+};
 
-/// How many of sixteen bytes pass, up to the first one that does not.
-fn lanes_that_pass(text: &[u8], at: usize, sought: Sought) -> usize {
-    let mut lanes = 0;
-    for lane in 0..16usize {
-        if lanes == lane && passes(text, at.saturating_add(lane), sought) {
-            lanes = lane + 1;
-        }
-    }
-    lanes
-}
-
-/// How many bytes at the front of a text passed before: the first one, blocks of sixteen behind it, and the last few one by one.
-fn passed_len(text: &[u8], limit: usize, sought: Sought) -> usize {
-    if limit == 0 || !begins(text, sought) {
+/// How many bytes at the front of a piece passed before, up to `limit`: the first one, blocks of sixteen behind it, and the last few one by
+/// one.
+fn passed_len(classes: &Classes<'_>, piece: &[u8], limit: usize) -> usize
+    requires { limit ≤ length piece.now }
+    ensures within { result ≤ limit }
+{
+    if limit == 0 || piece[0] >= 128 || classes.halt.contains(&piece[0]) {
         return 0;
     }
-    let mut len = 1usize;
-    for _ in 0..LONGEST {
-        if limit.saturating_sub(len) >= 16 && lanes_that_pass(text, len, sought) == 16 {
-            len = len.saturating_add(16);
-        }
+    let mut len = 1;
+    while limit - len >= 16 && block_passes(classes, piece, len) {
+        len += 16;
     }
-    if limit.saturating_sub(len) >= 16 {
-        return len.saturating_add(lanes_that_pass(text, len, sought));
+    if limit - len < 16 {
+        return pass_bytes(classes, piece, len, limit);
     }
-    for _ in 0..16 {
-        if len < limit && passes(text, len, sought) {
-            len = len.saturating_add(1);
-        }
+    len + lanes_that_pass(classes, piece, len)
+}
+
+/// How many bytes at the front of a piece passed, up to `limit`, of which the first `from` do.
+fn pass_bytes(classes: &Classes<'_>, piece: &[u8], from: usize, limit: usize) -> usize
+    requires limit { limit ≤ length piece.now }
+    requires from { (1 ≤ from) × (from ≤ limit) }
+    ensures within { result ≤ limit }
+{
+    let mut len = from;
+    while len < limit && byte_passes(classes, piece[len - 1], piece[len]) {
+        len += 1;
     }
     len
 }
 
-/// Where the text was left then: at the last character behind which it may be, before another one of ASCII.
-fn left_at(text: &[u8], limit: usize, sought: Sought) -> Option<(usize, usize)> {
-    let len = passed_len(text, limit, sought);
-    let mut most = len;
-    if len >= text.len() || byte_at(text, len) >= 128 {
-        most = len.saturating_sub(1);
+/// Whether a byte passed behind another.
+fn byte_passes(classes: &Classes<'_>, before: u8, here: u8) -> bool {
+    here < 128
+        && !classes.halt.contains(&here)
+        && !(classes.key.contains(&before) && classes.later.contains(&here))
+        && !(classes.joins.contains(&before) && classes.inner.contains(&here))
+}
+
+/// Whether the sixteen bytes from `at` on passed, behind the byte before them.
+fn block_passes(classes: &Classes<'_>, bytes: &[u8], at: usize) -> bool
+    requires behind { 1 ≤ at }
+    requires within { at + 16 ≤ length bytes.now }
+{
+    lanes_that_pass(classes, bytes, at) == 16
+}
+
+/// How many of the sixteen bytes from `at` on passed, behind the byte before them, up to the first one that did not.
+fn lanes_that_pass(classes: &Classes<'_>, bytes: &[u8], at: usize) -> usize
+    requires behind { 1 ≤ at }
+    requires within { at + 16 ≤ length bytes.now }
+    ensures within { result ≤ 16 }
+{
+    let mut lanes = 0;
+    while lanes < 16 && byte_passes(classes, bytes[at + lanes - 1], bytes[at + lanes]) {
+        lanes += 1;
     }
-    let mut left = None;
-    for at in 0..most {
-        if is_clean(byte_at(text, at), sought) {
-            left = Some((at, at + 1));
+    lanes
+}
+
+/// How many of the first `len` bytes of a piece, which passed, have a byte of ASCII behind them.
+fn followed_len(piece: &[u8], len: usize) -> usize
+    requires { len ≤ length piece.now }
+    ensures within { result ≤ len }
+{
+    if len < piece.len() && piece[len] < 128 {
+        return len;
+    }
+    len.saturating_sub(1)
+}
+
+/// The last of the first `len` bytes of a piece whose character is a cluster with a key that the pattern does not have; and its letter.
+fn last_clean<W: Weights>(
+    table: &W,
+    pattern: &Pattern,
+    letters: &mut Letters,
+    piece: &[u8],
+    len: usize,
+) -> Option<(usize, Letter)>
+    requires right { AreLetters (W.table table.now) pattern.now letters.old }
+    requires len { len ≤ length piece.now }
+    ensures right { AreLetters (W.table table.now) pattern.now letters.new }
+    ensures within { IfSome result (λ r. r.0 ≤ len) }
+{
+    let mut end = len;
+    while end > 0 {
+        end -= 1;
+        let letter = letters.letter(table, pattern, piece[end] as char);
+        if is_clean(&letter) {
+            return Some((end, letter));
         }
     }
-    left
+    None
+}
+
+/// Whether a letter is a cluster out of which no unit reaches, with a last key that the pattern does not have.
+fn is_clean(letter: &Letter) -> bool {
+    match letter.role {
+        Role::Plain => letter.symbols.third == FOREIGN,
+        _ => false,
+    }
+}
+
+/// Where a piece was left.
+fn left_at<W: Weights>(
+    table: &W,
+    pattern: &Pattern,
+    letters: &mut Letters,
+    piece: &[u8],
+    len: usize,
+) -> Option<(usize, usize)>
+    requires right { AreLetters (W.table table.now) pattern.now letters.old }
+    requires len { len ≤ length piece.now }
+    ensures right { AreLetters (W.table table.now) pattern.now letters.new }
+{
+    let len = followed_len(piece, len);
+    let (start, _letter) = last_clean(table, pattern, letters, piece, len)?;
+    Some((start, start.saturating_add(1)))
 }
 
 /// Where a piece is left.
@@ -130,125 +231,169 @@ fn place_of(passed: Option<Passed>) -> Option<(usize, usize)> {
     Some((it.start, it.end))
 }
 
-/// The next text by a number, of which more bytes stop where `turn` is smaller.
-fn made_text(number: &mut u64, turn: usize) -> [u8; LONGEST] {
-    let mut text = [b'm'; LONGEST];
-    for byte in &mut text {
-        *number = number
-            .wrapping_mul(6_364_136_223_846_793_005)
-            .wrapping_add(1);
-        if (*number >> 60) as usize >= turn {
-            *byte = byte_at(&BYTES, (*number >> 33) as usize % 16);
-        }
-    }
-    text
+/// A made text: as many of its bytes as it has, and up to which it may be passed by.
+#[derive(Drop)]
+struct Made {
+    text: [u8; LONG],
+    len: usize,
+    limit: usize,
 }
 
-/// Compares made texts of each length, up to their ends and to places before them.
-fn compare_lengths<W: Weights>(
+/// The next number.
+fn next(number: &mut u64) -> usize {
+    *number = number
+        .wrapping_mul(6_364_136_223_846_793_005)
+        .wrapping_add(1);
+    (*number >> 33) as usize
+}
+
+/// A text that is dense in stops: more bytes stop where `turn` is smaller.
+fn dense_text(number: &mut u64, round: usize) -> Made {
+    let (len, turn) = (round / 12, round % 12);
+    let mut text = [b'm'; LONG];
+    for byte in &mut text[..SHORT] {
+        let drawn = next(number);
+        if (*number >> 60) as usize >= turn {
+            *byte = BYTES[drawn % 16];
+        }
+    }
+    let limit = len.saturating_sub((*number >> 40) as usize % 4);
+    Made { text, len, limit }
+}
+
+/// A calm text of each length in turn.
+fn calm_text(number: &mut u64, round: usize) -> Made {
+    let rate = RATES[round % 4];
+    let mut text = [b'm'; LONG];
+    let mut second = 0;
+    for byte in &mut text {
+        let drawn = next(number);
+        if second != 0 {
+            *byte = second;
+            second = 0;
+        } else if rate > 0 && drawn / 256 % rate == 0 {
+            let [first, behind] = STOPS[drawn % 8];
+            *byte = first;
+            second = behind;
+        } else {
+            *byte = CALM[drawn % 16];
+        }
+    }
+    let len = LONG.saturating_sub(next(number) % 500);
+    let limit = len.saturating_sub(next(number) % 20);
+    Made { text, len, limit }
+}
+
+/// A calm text with one stop, at each place in turn.
+fn text_of_one_stop(round: usize) -> Made {
+    let mut text = [b'm'; LONG];
+    let [first, second] = STOPS[round / MIDDLE % 8];
+    text[round % MIDDLE] = first;
+    text[round % MIDDLE + 1] = second;
+    Made {
+        text,
+        len: MIDDLE,
+        limit: MIDDLE,
+    }
+}
+
+/// A calm text that may be passed by up to each place in turn, where it ends or not.
+fn text_up_to(round: usize) -> Made {
+    let limit = round % MIDDLE;
+    Made {
+        text: [b'm'; LONG],
+        len: if round < MIDDLE { limit } else { MIDDLE },
+        limit,
+    }
+}
+
+/// Compares where a text is left: how many bytes of it pass.
+fn compare<W: Weights>(
     rt: &impl Abort,
     table: &W,
     pattern: &Pattern,
     letters: &mut Letters,
     blocks: &mut AsciiBlocks,
-    sought: Sought,
-)
+    classes: &Classes<'_>,
+    made: &Made,
+) -> usize
+    requires right { AreLetters (W.table table.now) pattern.now letters.old }
+    requires blocks { AreBlocksRight (W.table table.now) pattern.now blocks.old }
+    ensures right { AreLetters (W.table table.now) pattern.now letters.new }
+    ensures blocks { AreBlocksRight (W.table table.now) pattern.now blocks.new }
+{
+    let piece = made.text.get(..made.len).unwrap_or(b"");
+    let passed = blocks.pass(table, pattern, letters, piece, made.limit);
+    let len = passed_len(classes, piece, piece.len().min(made.limit));
+    let want = left_at(table, pattern, letters, piece, len);
+    assert_eq!(rt; place_of(passed), want, "{len} {piece:?}");
+    len
+}
+
+/// The text of a round.
+fn made_text(number: &mut u64, round: usize) -> Made {
+    if round < DENSE {
+        return dense_text(number, round);
+    }
+    if round < DENSE + OF_ONE_STOP {
+        return text_of_one_stop(round - DENSE);
+    }
+    if round < DENSE + OF_ONE_STOP + UP_TO {
+        return text_up_to(round - DENSE - OF_ONE_STOP);
+    }
+    calm_text(number, round)
+}
+
+/// Compares all texts: how many of them pass so far that two blocks at a time go five rounds.
+fn compare_all<W: Weights>(
+    rt: &impl Abort,
+    table: &W,
+    pattern: &Pattern,
+    letters: &mut Letters,
+    blocks: &mut AsciiBlocks,
+    classes: &Classes<'_>,
+) -> usize
     requires right { AreLetters (W.table table.now) pattern.now letters.old }
     requires blocks { AreBlocksRight (W.table table.now) pattern.now blocks.old }
 {
     let mut number = 7u64;
-    for round in 0..12 * LONGEST {
-        let (len, turn) = (round / 12, round % 12);
-        let text = made_text(&mut number, turn);
-        let piece = text.get(..len).unwrap_or(b"");
-        let limit = len.saturating_sub((number >> 40) as usize % 4);
-        let passed = blocks.pass(table, pattern, letters, piece, limit);
-        let want = left_at(piece, limit, sought);
-        assert_eq!(rt; place_of(passed), want, "{len} {turn} {limit}");
+    let mut far = 0usize;
+    for round in 0..DENSE + OF_ONE_STOP + UP_TO + OF_CALM {
+        let made = made_text(&mut number, round);
+        let len = compare(rt, table, pattern, letters, blocks, classes, &made);
+        if len > 5 * 32 {
+            far = far.saturating_add(1);
+        }
     }
+    far
 }
 
 /// Compares texts after a long one by which the place is chosen, unless memory is refused.
-fn try_lengths(
+fn try_texts(
     rt: &impl Abort,
     alloc: Global,
     table: &Table,
     pattern: &Pattern,
-    sought: Sought,
-) -> Result<(), AllocError> {
+    classes: &Classes<'_>,
+) -> Result<usize, AllocError> {
     let mut letters = Letters::new(alloc, table)?;
     let mut blocks = AsciiBlocks::new();
     let _long = blocks.pass(table, pattern, &mut letters, &[b'm'; 1_024], 1_000);
-    compare_lengths(rt, table, pattern, &mut letters, &mut blocks, sought);
-    Ok(())
+    Ok(compare_all(rt, table, pattern, &mut letters, &mut blocks, classes))
 }
 
-/// Compares texts in the table of a file.
-fn compare_in(rt: &impl Abort, alloc: Global, file: &str, text: &str, sought: Sought) {
+/// Compares texts in the table of a file. Hundreds of them go many rounds.
+fn compare_in(rt: &impl Abort, alloc: Global, file: &str, text: &str, classes: &Classes<'_>) {
     let table = table_of(rt, alloc, file, None);
     let pattern = compile(rt, alloc, &table, (text, ONE, KEPT));
-    let compared = try_lengths(rt, alloc, &table, &pattern, sought);
-    compared.expect(rt, "memory");
+    let far = try_texts(rt, alloc, &table, &pattern, classes).expect(rt, "memory");
+    assert!(rt; far > 800, "{far}");
 }
 
 #[test]
 fn blocks_pass_as_much_as_before(rt: HostRuntime) {
-    compare_in(&rt, rt.alloc(), PLAIN, "ab", Sought::Two);
-    compare_in(&rt, rt.alloc(), TABLE, "ab", Sought::TwoBesideString);
-    compare_in(&rt, rt.alloc(), PLAIN, "a", Sought::One);
-}
-
-/// How much is passed by of a text.
-fn len_of(passed: Option<Passed>) -> usize {
-    match passed {
-        Some(it) => it.end,
-        None => 0,
-    }
-}
-
-/// How much is passed by of a text that comes again and again: the last time.
-fn pass_again_and_again<W: Weights>(
-    table: &W,
-    pattern: &Pattern,
-    letters: &mut Letters,
-    skip: &mut Skip,
-    text: &[u8],
-) -> usize
-    requires right { IsSkipRight (W.table table.now) pattern.now skip.old }
-    requires letters { AreLetters (W.table table.now) pattern.now letters.old }
-{
-    let mut len = 0;
-    for _ in 0..130 {
-        len = len_of(skip.pass(table, pattern, letters, text, text.len()));
-    }
-    len
-}
-
-/// How much is passed by of a text, and how much where it came again and again.
-fn try_again_and_again(
-    alloc: Global,
-    table: &Table,
-    pattern: &Pattern,
-    text: &[u8],
-) -> Result<(usize, usize), AllocError> {
-    let mut letters = Letters::new(alloc, table)?;
-    let mut skip = Skip::new(alloc);
-    let first = len_of(skip.pass(table, pattern, &mut letters, text, text.len()));
-    let last = pass_again_and_again(table, pattern, &mut letters, &mut skip, text);
-    Ok((first, last))
-}
-
-/// By moves of the automaton two keys of three are passed by, which stop the blocks: so they are told apart. Once the automaton has
-/// passed by much, characters of two bytes go in blocks, up to a place where two keys follow one another.
-#[test]
-fn characters_of_two_bytes_pass_in_blocks(rt: HostRuntime) {
-    let table = table_of(&rt, rt.alloc(), TABLE, None);
-    let pattern = compile(&rt, rt.alloc(), &table, ("бвг", ONE, KEPT));
-    let mut text = repeated(&rt, rt.alloc(), "аде жз ", 40);
-    put(&rt, &mut text, "бва авг ");
-    let text = repeated(&rt, rt.alloc(), &text, 10);
-    let passed = try_again_and_again(rt.alloc(), &table, &pattern, text.as_bytes());
-    let (first, last) = passed.expect(&rt, "memory");
-    assert!(rt; first > text.len().saturating_sub(8), "{first}");
-    assert!(rt; (479..500).contains(&last), "{last}");
+    compare_in(&rt, rt.alloc(), PLAIN, "ab", &TWO);
+    compare_in(&rt, rt.alloc(), TABLE, "ab", &TWO_BESIDE_STRING);
+    compare_in(&rt, rt.alloc(), PLAIN, "a", &ONE_ALONE);
+    compare_in(&rt, rt.alloc(), TABLE, "a", &ONE_BESIDE_STRING);
 }

@@ -22,3 +22,7 @@ mod points;
 mod skip;
 #[cfg(test)]
 mod table;
+#[cfg(test)]
+mod two_bytes;
+#[cfg(test)]
+mod windows;

@@ -1,12 +1,13 @@
 //! Texts that could make a state grow: a cluster of a million characters, a million spaces between two letters, and a pattern of the
-//! most bytes; fed, and saved, dropped and resumed after each piece.
+//! most bytes; fed, and saved, dropped and resumed after each piece. And one of characters of two bytes, so long that these are passed by in
+//! blocks.
 
 ghost use Rattle.std.specs.Prelude.{◌<◌};
 
-use super::answers::{answered_is, fed, resumed};
+use super::answers::{answered_is, fed, resumed, stepped};
 use super::calls::{compile, for_all, joined, read, repeated};
 use super::checks::{count_is, fault_is, ranges_follow};
-use super::{KEPT, Range, SHIFTED, TABLE, THREE};
+use super::{KEPT, ONE, Range, SHIFTED, TABLE, THREE};
 use collation_elements::Variable;
 use std::alloc::Global;
 use std::process::Abort;
@@ -79,4 +80,60 @@ fn pattern_of_the_most_bytes(rt: HostRuntime) {
     let records = compare(&rt, rt.alloc(), &letters, KEPT, &text, 4096, &want);
     assert!(rt; records <= 65_573);
     count_is(&rt, records, 65_542);
+}
+
+/// Rows of letters of two bytes.
+const LETTERS: &str = "@version 0.0.0
+0020 ; [*0201.0020.0002]
+0430 ; [.2000.0020.0002]
+0431 ; [.2010.0020.0002]
+0432 ; [.2020.0020.0002]
+0433 ; [.2030.0020.0002]
+0434 ; [.2040.0020.0002]
+0435 ; [.2050.0020.0002]
+0436 ; [.2060.0020.0002]
+";
+
+/// Letters of two bytes: more than 524,288 bytes without those of `абв`; then matches and what is nearly one, far more of the pattern's
+/// letters than a block has, up to a match, and a last match behind others.
+fn letters_of_two_bytes(rt: &impl Abort, alloc: Global) -> String {
+    let calm = repeated(rt, alloc, "где ж ", 54_000);
+    let matches = repeated(rt, alloc, "абв где абж бв аб где ", 300);
+    let own = repeated(rt, alloc, "б", 5_000);
+    let nearly = repeated(rt, alloc, "аб", 3_000);
+    let behind = repeated(rt, alloc, "где ж ", 1_000);
+    let texts = [
+        calm.as_str(),
+        matches.as_str(),
+        behind.as_str(),
+        own.as_str(),
+        nearly.as_str(),
+        "в",
+        behind.as_str(),
+        "абв",
+        behind.as_str(),
+    ];
+    joined(rt, alloc, &texts)
+}
+
+/// Compares the ranges of a text that is fed as one piece, and in pieces of 4,096 bytes, with those of steps.
+fn compare_with_steps(rt: &impl Abort, alloc: Global, letters: &str, text: &str, count: usize) {
+    let table = read(rt, alloc, LETTERS);
+    let pattern = compile(rt, alloc, &table, letters, ONE, KEPT);
+    let query = for_all(&table, &pattern);
+    let steps = stepped(rt, alloc, &query, text.as_bytes());
+    count_is(rt, steps.0.len(), count);
+    fault_is(rt, steps.1, None, letters);
+    let whole = fed(rt, alloc, &query, text.as_bytes(), usize::MAX);
+    answered_is(rt, &whole, &steps.0, None, "whole");
+    let pieces = fed(rt, alloc, &query, text.as_bytes(), 4_096);
+    answered_is(rt, &pieces, &steps.0, None, "pieces");
+}
+
+#[test]
+fn letters_of_two_bytes_by_half_a_million(rt: HostRuntime) {
+    let text = letters_of_two_bytes(&rt, rt.alloc());
+    compare_with_steps(&rt, rt.alloc(), "абв", &text, 302);
+    compare_with_steps(&rt, rt.alloc(), "бв", &text, 602);
+    compare_with_steps(&rt, rt.alloc(), "в", &text, 602);
 }

@@ -1,4 +1,4 @@
-use Rattle.layer_tests.proofs.blocks.try_lengths.Goals as goal
+use Rattle.layer_tests.proofs.blocks.try_texts.Goals as goal
 
 -- nothing is chosen at first
 pub pass-long-requires-clause-blocks : goal.pass-long-requires-clause-blocks

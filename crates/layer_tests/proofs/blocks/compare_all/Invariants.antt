@@ -1,6 +1,6 @@
 use Rattle.collation_letters.specs.Store.{AreLetters}
 use Rattle.collation_skip.specs.Blocks.{AreBlocksRight}
-use Rattle.layer_tests.proofs.blocks.compare_lengths.Given as goal
+use Rattle.layer_tests.proofs.blocks.compare_all.Given as goal
 
 abbrev pub invariant-loop-round : goal.invariant-loop-round
 invariant-loop-round g l = record {
