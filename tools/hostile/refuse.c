@@ -1,5 +1,6 @@
-/* Refuses one request for memory of a program, the one whose number is in the environment as REFUSED_REQUEST, counted from 1.
-   To be loaded before the C library (LD_PRELOAD). The number of requests is written to the file REQUEST_COUNT, 8 bytes. */
+/* Refuses one request for memory of a program, the one whose number is in the environment as REFUSED_REQUEST, counted from 1, or as
+   many in a row from it on as REFUSED_IN_A_ROW says. To be loaded before the C library (LD_PRELOAD). The number of requests is
+   written to the file REQUEST_COUNT, 8 bytes. */
 #define _GNU_SOURCE
 #include <errno.h>
 #include <fcntl.h>
@@ -15,11 +16,12 @@ extern void *__libc_memalign(size_t, size_t);
 
 static uint64_t before_the_start;
 static uint64_t *requests = &before_the_start;
-static uint64_t refused;
+static uint64_t refused, in_a_row;
 
 __attribute__((constructor)) static void begin(void) {
-    const char *number = getenv("REFUSED_REQUEST"), *path = getenv("REQUEST_COUNT");
+    const char *number = getenv("REFUSED_REQUEST"), *row = getenv("REFUSED_IN_A_ROW"), *path = getenv("REQUEST_COUNT");
     refused = number ? strtoull(number, 0, 10) : 0;
+    in_a_row = row ? strtoull(row, 0, 10) : 1;
     int file = path ? open(path, O_RDWR) : -1;
     if (file >= 0) {
         void *shared = mmap(0, sizeof *requests, PROT_READ | PROT_WRITE, MAP_SHARED, file, 0);
@@ -31,7 +33,7 @@ __attribute__((constructor)) static void begin(void) {
 
 static int is_refused(void) {
     *requests += 1;
-    if (*requests != refused) return 0;
+    if (refused == 0 || *requests < refused || *requests - refused >= in_a_row) return 0;
     errno = ENOMEM;
     return 1;
 }

@@ -5,7 +5,8 @@
 COLFIND is the built program, TESTS are built test programs (crates/NAME/out/NAME_tests). The answers allowed of the program are
 that of ample memory, and fault 14, 24 or 36 at 0 with nothing printed. Of the tests those are run that are made for it: all of
 layer_tests that read tables, where each file is read again after a refusal, and those that name refusals. A test may pass, or be
-stopped by a refusal that met the test itself, or end with its error; nothing else.
+stopped by a refusal that met the test itself, or end with its error; nothing else. The test whose letters are to be kept though the
+requests of the first 4,096 were refused is run with so many requests in a row refused too, from each one on.
 """
 
 import os
@@ -25,6 +26,8 @@ REFUSED_TEST = re.compile(
     rb"|TextFault \{ kind: 36, offset: 0 \}|Kind\(OutOfMemory\))\n"
 )
 MOST_SECONDS = 60  # of one run, and of all runs of one test
+PLACES_TEST = "letters::refused_places_are_asked_for_again"
+PLACES_REQUESTS = 130  # of the first 4,096 letters where each is refused
 
 
 class Refuser:
@@ -38,9 +41,10 @@ class Refuser:
         with open(self.count, "wb") as file:
             file.write(bytes(8))
 
-    def run(self, words, data, number):
-        """The status, both outputs, and how many requests there were; request `number` is refused, none for 0."""
-        extra = {"LD_PRELOAD": self.library, "REQUEST_COUNT": self.count, "REFUSED_REQUEST": str(number)}
+    def run(self, words, data, number, in_a_row=1):
+        """The status, both outputs, and how many requests there were; so many are refused from request `number` on, none for 0."""
+        extra = {"LD_PRELOAD": self.library, "REQUEST_COUNT": self.count}
+        extra |= {"REFUSED_REQUEST": str(number), "REFUSED_IN_A_ROW": str(in_a_row)}
         ran = subprocess.run(
             words, input=data, capture_output=True, check=False, env={**os.environ, **extra}, timeout=MOST_SECONDS
         )
@@ -167,6 +171,25 @@ def sweep_test(refuser, program, test):
     return counts, 0
 
 
+def sweep_places(refuser, program):
+    """How many runs were wrong. In one run all requests for places of the first 4,096 letters are refused, and in place of the three
+    with ample memory there are one more than those."""
+    ample, requests = refuser.run([program, PLACES_TEST], b"", 0)
+    most, counts = 0, {"passed": 0, "ended by the refusal": 0, "wrong": 0}
+    for number in range(1, requests + 1):
+        answer, made = refuser.run([program, PLACES_TEST], b"", number, PLACES_REQUESTS)
+        outcome = judge(answer)
+        counts[outcome] += 1
+        if outcome == "passed":
+            most = max(most, made)
+        elif outcome == "wrong":
+            print(f"wrong: {PLACES_TEST}, {PLACES_REQUESTS} requests from {number} on: {answer}")
+    more = most - requests
+    said = ", ".join(f"{count} {outcome}" for outcome, count in counts.items())
+    print(f"{PLACES_TEST}: {PLACES_REQUESTS} requests in a row refused from each of {requests} on: {said}; {more} more made", flush=True)
+    return counts["wrong"] + (judge(ample) != "passed") + (more != PLACES_REQUESTS - 2)
+
+
 def is_made_for_refusals(test):
     return test.startswith("table::") or "::refused_" in test or test.endswith("ask_for_no_memory")
 
@@ -184,7 +207,8 @@ def sweep_tests(refuser, program):
                 print(f"{name}, {test}: {left} requests not refused for want of time")
     said = ", ".join(f"{count} {outcome}" for outcome, count in totals.items())
     print(f"{name}: {sum(totals.values())} requests refused: {said}", flush=True)
-    return totals["wrong"]
+    places = sweep_places(refuser, program) if f"{PLACES_TEST}: test" in listed.splitlines() else 0
+    return totals["wrong"] + places
 
 
 def main():

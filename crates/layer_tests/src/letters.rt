@@ -10,9 +10,10 @@ use collation_table::Table;
 use std::alloc::{AllocError, Global};
 use std::process::Abort;
 
-/// Rows beside those of the table: `x` has three elements, `y` four.
+/// Rows beside those of the table: `x` has three elements, `y` four, and `z` the key `LIKE_A`.
 const MORE: &str = "0078 ; [.1CA0.0020.0002][.1C00.0020.0002][.1C10.0020.0002]
 0079 ; [.1CB0.0020.0002][.1C00.0020.0002][.1C10.0020.0002][.1C00.0020.0002]
+007A ; [.2000.0020.0002]
 ";
 
 /// The table with these rows.
@@ -229,6 +230,44 @@ fn symbols_of_long_patterns(rt: HostRuntime) {
     );
 }
 
+/// The beginning of a pattern and so many letters `b`, before a `z`; a key; from which place on the pattern may have it; and its symbol
+/// where the pattern ends there, and where a thousand `b` follow. `A` and `LIKE_A` share a place in the set.
+const SHARED: [(&str, usize, Key, usize, Option<u8>, Option<u8>); 13] = [
+    ("", 251, LIKE_A, 251, Some(252), Some(252)),
+    ("", 252, LIKE_A, 252, Some(253), Some(253)),
+    ("", 253, LIKE_A, 253, Some(254), Some(254)),
+    ("", 254, LIKE_A, 254, None, None),
+    ("", 255, LIKE_A, 254, None, None),
+    ("", 252, A, 252, Some(0), None),
+    ("", 253, A, 253, Some(0), None),
+    ("", 254, A, 254, Some(0), None),
+    ("a", 251, LIKE_A, 0, Some(253), Some(253)),
+    ("a", 252, LIKE_A, 0, Some(254), Some(254)),
+    ("a", 253, LIKE_A, 0, None, None),
+    ("a", 254, LIKE_A, 0, None, None),
+    ("a", 254, A, 0, Some(1), Some(1)),
+];
+
+#[test]
+fn symbols_of_keys_that_share_a_place(rt: HostRuntime) {
+    let table = table_with_more(&rt, rt.alloc());
+    for (first, count, key, from, short, long) in &SHARED {
+        for (more, want) in [(0, *short), (1_000, *long)] {
+            let mut text = repeated(&rt, rt.alloc(), *first, 1);
+            put(&rt, &mut text, &repeated(&rt, rt.alloc(), "b", *count));
+            put(&rt, &mut text, "z");
+            put(&rt, &mut text, &repeated(&rt, rt.alloc(), "b", more));
+            let pattern = compile(&rt, rt.alloc(), &table, (text.as_str(), ONE, KEPT));
+            assert_eq!(rt; pattern.may_have_from(key), *from, "{key:?} of {count}");
+            assert_eq!(rt;
+                symbol_in(&pattern, key),
+                want,
+                "{key:?} of {count}, {more}"
+            );
+        }
+    }
+}
+
 /// A character with marks behind it, and its letter to a pattern with the keys of `e` and of U+0301; none where one of them does not
 /// join: a mark of a lower class, one behind what begins a mapped string, and a fourth key.
 const MARKED: [(&str, &str); 11] = [
@@ -364,4 +403,25 @@ fn refused_letters_are_asked_for_again(rt: HostRuntime) {
     let (letter, pair) = again.expect(&rt, "the letters");
     letter_is(&rt, rt.alloc(), letter, "Plain 255 255 1;");
     letter_is(&rt, rt.alloc(), pair, "Plain 255 255 0;");
+}
+
+/// Whether the letters of two characters are kept together, behind the letters of 4,096 others.
+fn try_kept(alloc: Global, table: &Table, pattern: &Pattern) -> Result<bool, AllocError> {
+    let mut letters = Letters::new(alloc, table)?;
+    for code_point in 0x4E00..0x5E00 {
+        if let Some(c) = char::from_u32(code_point) {
+            let _ = letters.letter(table, pattern, c);
+        }
+    }
+    let _ = letters.letter(table, pattern, 'a');
+    let _ = letters.letter(table, pattern, 'b');
+    Ok(letters.known('a').is_some() && letters.known('b').is_some())
+}
+
+/// To be run with 130 requests in a row refused too, which is how often the first 4,096 letters ask for places.
+#[test]
+fn refused_places_are_asked_for_again(rt: HostRuntime) {
+    let table = table_with_more(&rt, rt.alloc());
+    let pattern = compile(&rt, rt.alloc(), &table, ("a", TWO, KEPT));
+    assert!(rt; try_kept(rt.alloc(), &table, &pattern).expect(&rt, "the letters"));
 }
