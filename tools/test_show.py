@@ -76,6 +76,11 @@ class ShowTest(unittest.TestCase):
         self.assertEqual(self.shown("ab\n", ""), (1, b"", b""))
         self.assertEqual(self.shown("", ""), (1, b"", b""))
 
+    def test_status_for_pipefail(self):
+        self.assertEqual(self.shown("ab\n", "", "--pipefail"), (0, b"", b""))
+        self.assertEqual(self.shown("ab\n", "0:1\n", "--pipefail"), (0, b"[a]b\n", b""))
+        self.assertEqual(self.shown("ab\n", "9:10\n", "--pipefail")[0], 2)
+
     def test_lines_before_a_wrong_one_are_printed(self):
         status, printed, complained = self.shown("ab\ncd\n", "0:1\n3:4\n3\n")
         self.assertEqual((status, complained), (2, b"show: not a range: 3\n"))
