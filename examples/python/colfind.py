@@ -1,10 +1,23 @@
-"""Finds a pattern in text by Unicode collation (UTS #10), by the proved C library. `./build` makes the shared object that it loads."""
+"""Finds a pattern in text by Unicode collation (UTS #10), by the proved C library.
+
+    table = Table(Path("allkeys_CLDR.txt").read_bytes())
+    pattern = Pattern(table, "resume", strength=1)
+    for start, end in pattern.search("my r\u00e9sum\u00e9"): ...
+
+The library is the file libcolfind.so.1 beside this module, or else the one that the system finds by this name. An argument that is none
+gives a TypeError or a ValueError that names it; what is wrong with a table, a pattern or a text is a Fault."""
 from __future__ import annotations
 
+import operator
+from array import array
 from collections.abc import Callable, Iterator
-from ctypes import POINTER, PyDLL, Structure, c_char_p, c_size_t, c_uint8, c_uint32, c_uint64, c_void_p, create_string_buffer
+from ctypes import (POINTER, PyDLL, Structure, byref, c_char_p, c_int, c_size_t, c_ssize_t, c_uint8, c_uint32, c_uint64, c_void_p,
+                    create_string_buffer, py_object, pythonapi)
 from pathlib import Path
-from typing import BinaryIO
+from typing import BinaryIO, TypeVar, Union
+
+__all__ = ["Fault", "Pattern", "Search", "Table"]
+__version__ = "1.0.0"
 
 
 def _struct(**fields: type) -> type[Structure]:
@@ -13,9 +26,14 @@ def _struct(**fields: type) -> type[Structure]:
 
 _Handle, _Range, _Status = _struct(at=c_void_p), _struct(start=c_uint64, end=c_uint64), _struct(kind=c_uint32, at=c_uint64)
 _Saved, _First = _struct(status=_Status, words=c_size_t), _struct(status=_Status, is_found=c_uint32, range=_Range)
+_Buffer = _struct(buf=c_void_p, obj=c_void_p, len=c_ssize_t, itemsize=c_ssize_t, readonly=c_int, ndim=c_int, format=c_char_p,
+                  shape=c_void_p, strides=c_void_p, suboffsets=c_void_p, internal=c_void_p)  # Py_buffer
 Ranges = Iterator[tuple[int, int]]
+Bytes = Union[bytes, bytearray, memoryview]
+_Owning = TypeVar("_Owning", bound="_Owner")
 # a call holds the lock of the interpreter, so that no handle is in two calls at once
-_C = PyDLL(str(Path(__file__).parent / "out" / "libcolfind.so"))
+_BESIDE = Path(__file__).parent / "libcolfind.so.1"
+_C = PyDLL(str(_BESIDE) if _BESIDE.exists() else _BESIDE.name)
 _HANDLE, _WORDS, _BYTES = POINTER(_Handle), POINTER(c_uint64), [c_char_p, c_size_t]
 for _name, _result, _types in [
     ("table", _Status, [_HANDLE, *_BYTES, *_BYTES]), ("pattern", _Status, [_HANDLE, _HANDLE, *_BYTES, c_uint8, c_uint8]),
@@ -37,6 +55,9 @@ class Fault(Exception):
         super().__init__(text.value.decode())
         self.kind, self.at = kind, at
 
+    def __reduce__(self) -> tuple[type[Fault], tuple[int, int]]:
+        return Fault, (self.kind, self.at)
+
 
 def _check(status: Structure) -> None:
     if status.kind:
@@ -48,8 +69,54 @@ def _then_fault(ranges: list[Structure], status: Structure) -> Ranges:
     _check(status)
 
 
-def _encoded(text: str | bytes) -> bytes:
-    return text if isinstance(text, bytes) else text.encode("utf-8", "surrogatepass")
+def _wrong_type(name: str, wanted: str, value: object) -> TypeError:
+    return TypeError(f"{name} is {wanted}, not {type(value).__name__}")
+
+
+def _typed(name: str, value: object, wanted: type) -> None:
+    if not isinstance(value, wanted):
+        raise _wrong_type(name, f"a {wanted.__name__}", value)
+
+
+def _number(name: str, value: int) -> int:
+    try:
+        return operator.index(value)
+    except TypeError:
+        raise _wrong_type(name, "a number", value) from None
+
+
+def _offset(start: int, length: int) -> int:
+    start = _number("start", start)
+    if not 0 <= start <= length:
+        raise ValueError(f"start is {start}, and the text has the offsets 0 to {length}")
+    return start
+
+
+class _View(c_char_p):
+    """The bytes of an object, where they are. They stay there until this is let go."""
+
+    def __init__(self, name: str, data: Bytes) -> None:
+        self.buffer = _Buffer()
+        try:
+            pythonapi.PyObject_GetBuffer(py_object(data), byref(self.buffer), 0)
+        except (TypeError, BufferError):
+            raise _wrong_type(name, "bytes, or an object with bytes in one piece", data) from None
+        super().__init__(self.buffer.buf if self.buffer.len else b"")
+
+    def __del__(self) -> None:
+        pythonapi.PyBuffer_Release(byref(self.buffer))
+
+
+def _viewed(name: str, data: Bytes) -> tuple[bytes | _View, int]:
+    """What C is given for bytes, and how many they are."""
+    if isinstance(data, bytes):
+        return data, len(data)
+    view = _View(name, data)
+    return view, view.buffer.len
+
+
+def _encoded(text: str | Bytes) -> Bytes:
+    return text.encode("utf-8", "surrogatepass") if isinstance(text, str) else text
 
 
 def _characters_of(data: bytes) -> Callable[[int], int]:
@@ -64,12 +131,12 @@ def _characters_of(data: bytes) -> Callable[[int], int]:
 
 
 class _Owner:
-    """Holds a handle, which is freed at the end of a `with` or when nothing refers to it."""
+    """Holds a handle, which is freed at the end of a `with` or when nothing refers to it. So it can't be copied."""
 
     def __init__(self) -> None:
         self._handle = _Handle()
 
-    def __enter__(self):
+    def __enter__(self: _Owning) -> _Owning:
         return self
 
     def __exit__(self, *_: object) -> None:
@@ -77,39 +144,47 @@ class _Owner:
 
     __del__ = __exit__
 
+    def __reduce_ex__(self, _: object) -> str:
+        raise TypeError(f"a {type(self).__name__} can't be copied or pickled")
+
 
 class Table(_Owner):
     """The table of a file's bytes, and of a file's that tailors it."""
 
-    def __init__(self, base: bytes, tailor: bytes = b"") -> None:
+    def __init__(self, base: Bytes, tailor: Bytes = b"") -> None:
         super().__init__()
-        _check(_C.colfind_table(self._handle, base, len(base), tailor, len(tailor)))
+        _check(_C.colfind_table(self._handle, *_viewed("base", base), *_viewed("tailor", tailor)))
 
 
 class Pattern(_Owner):
     """A pattern, compiled with a table at strength 1, 2 or 3."""
 
-    def __init__(self, table: Table, text: str, strength: int = 3, shifted: bool = False) -> None:
+    def __init__(self, table: Table, text: str | Bytes, strength: int = 3, shifted: bool = False) -> None:
         super().__init__()
-        data = _encoded(text)
-        _check(_C.colfind_pattern(table._handle, self._handle, data, len(data), strength, shifted))
+        _typed("table", table, Table)
+        _typed("shifted", shifted, bool)
+        if _number("strength", strength) not in (1, 2, 3):
+            raise ValueError(f"strength is 1, 2 or 3, not {strength}")
+        status = _C.colfind_pattern(table._handle, self._handle, *_viewed("text", _encoded(text)), strength, shifted)
+        if status.kind == 85:
+            raise ValueError("text is not UTF-8")
+        _check(status)
         self._titles = Search(self)
 
-    def search(self, text: str | bytes, chain: bool = False) -> Ranges:
+    def search(self, text: str | Bytes, chain: bool = False) -> Ranges:
         """The ranges of a text, all or a chain that do not overlap: offsets of characters in a str, of bytes in bytes. A fault of the text
         is raised behind the ranges before it."""
-        data = _encoded(text)
-        start_of, end_of = (int, int) if len(data) == len(text) else (_characters_of(data), _characters_of(data))
-        with Search(self, chain) as search:
-            try:
-                for step in (lambda: search.feed(data), search.finish):
-                    yield from ((start_of(start), end_of(end)) for start, end in step())
-            except Fault as fault:
-                raise Fault(fault.kind, start_of(fault.at)) from None
+        search, data = Search(self, chain), _encoded(text)
+        fed = search._fed("text", data)
+        if isinstance(text, str) and len(data) > len(text):
+            return search._rest(fed, _characters_of(data), _characters_of(data))
+        return search._rest(fed, int, int)
 
-    def index(self, text: str | bytes, start: int = 0) -> tuple[int, int] | None:
+    def index(self, text: str | Bytes, start: int = 0) -> tuple[int, int] | None:
         """The first range at or after an offset, or none. Many short texts are best searched by this."""
-        data = _encoded(text)
+        if not isinstance(text, str):
+            return self._titles.first_in(text, start)
+        data, start = _encoded(text), _offset(start, len(text))
         if len(data) == len(text):
             return self._titles.first_in(data, start)
         place = _characters_of(data)
@@ -130,10 +205,19 @@ class Search(_Owner):
 
     def __init__(self, pattern: Pattern, chain: bool = False, words: list[int] | None = None) -> None:
         super().__init__()
+        _typed("pattern", pattern, Pattern)
+        _typed("chain", chain, bool)
         if words is None:
             _check(_C.colfind_search(pattern._handle, self._handle, chain))
-        else:
-            _check(_C.colfind_resume(pattern._handle, self._handle, chain, (c_uint64 * (len(words) or 1))(*words), len(words)))
+            return
+        try:
+            numbers = array("Q", list(words))
+        except OverflowError:
+            raise ValueError("words has a number that is not from 0 to 2^64 - 1") from None
+        except TypeError:
+            raise _wrong_type("words", "a list of numbers", words) from None
+        held = (c_uint64 * (len(numbers) or 1))(*numbers)
+        _check(_C.colfind_resume(pattern._handle, self._handle, chain, held, len(numbers)))
 
     def _taken(self, status: Structure) -> Ranges:
         if status.kind in (81, 82, 83):
@@ -142,14 +226,30 @@ class Search(_Owner):
         ranges = (_Range * (waiting or 1))()
         return _then_fault(ranges[:_C.colfind_take(self._handle, ranges, waiting)], status)
 
-    def feed(self, piece: bytes) -> Ranges:
+    def _fed(self, name: str, piece: Bytes) -> Ranges:
+        return self._taken(_C.colfind_feed(self._handle, *_viewed(name, piece)))
+
+    def _rest(self, fed: Ranges, start_of: Callable[[int], int], end_of: Callable[[int], int]) -> Ranges:
+        with self:
+            try:
+                for ranges in (lambda: fed, self.finish):
+                    yield from ((start_of(start), end_of(end)) for start, end in ranges())
+            except Fault as fault:
+                raise Fault(fault.kind, start_of(fault.at)) from None
+
+    def feed(self, piece: Bytes) -> Ranges:
         """Takes the next piece: the ranges that became known. Fault 81 says that memory was refused after `at` bytes of the piece: the
         next call, with the others, gives their ranges too."""
-        return self._taken(_C.colfind_feed(self._handle, piece, len(piece)))
+        return self._fed("piece", piece)
 
     def feed_file(self, file: BinaryIO, size: int = 1 << 16) -> Ranges:
         """Takes the rest of an open file, and ends the text: the ranges as they become known."""
-        while piece := file.read(size):
+        if _number("size", size) <= 0:
+            raise ValueError(f"size is above 0, not {size}")
+        return self._of_file(file, size)
+
+    def _of_file(self, file: BinaryIO, size: int) -> Ranges:
+        while (piece := file.read(size)) != b"":
             yield from self.feed(piece)
         yield from self.finish()
 
@@ -161,9 +261,10 @@ class Search(_Owner):
         """Gives the text up: the ranges before the end of its last whole character."""
         return self._taken(_C.colfind_stop(self._handle))
 
-    def first_in(self, text: bytes, start: int = 0) -> tuple[int, int] | None:
+    def first_in(self, text: Bytes, start: int = 0) -> tuple[int, int] | None:
         """The first range of a text at or after an offset, or none. What was fed before is given up."""
-        first = _C.colfind_first_in(self._handle, text, len(text), start)
+        data, length = _viewed("text", text)
+        first = _C.colfind_first_in(self._handle, data, length, _offset(start, length))
         if first.is_found:
             return first.range.start, first.range.end
         _check(first.status)

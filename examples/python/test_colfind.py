@@ -1,15 +1,24 @@
-"""Tests of colfind.py against the program, whose path COLFIND may say."""
+"""Tests of colfind.py against the program. COLFIND may say its path, and REPOSITORY that of the repository, for tests of a module that is
+installed."""
+import copy
+import gc
+import io
+import mmap
 import os
+import pickle
 import random
 import subprocess
 import tempfile
+import tracemalloc
 import unittest
+from array import array
 from pathlib import Path
 
+import colfind
 from catalogue import catalogue, made_titles
 from colfind import Fault, Pattern, Search, Table
 
-ROOT = Path(__file__).parents[2]
+ROOT = Path(os.environ.get("REPOSITORY", Path(__file__).absolute().parents[2]))
 LETTERS = ROOT / "docs" / "example" / "letters.txt"
 PROGRAM = os.environ.get("COLFIND", str(ROOT / "crates" / "colfind" / "out" / "colfind"))
 PARTS = ["resume", "r\u00e9sum\u00e9", "re\u0301sume\u0301", "a", "aa", " ", "e", "\u00e9", "s", "\u0301", "\u6f22", "\U0001f600", "\ud800"]
@@ -96,13 +105,109 @@ class Tests(unittest.TestCase):
             (52, 0, "fault 52 at 0: ", lambda: Pattern(self.table, "aa").resume(Search(pattern).save())),
             (83, 0, "fault 83 at 0: the search was finished", lambda: ended.feed(b"a")),
             (83, 0, "fault 83 at 0: ", ended.save),
-            (85, 0, "fault 85 at 0: ", lambda: Pattern(self.table, "a", 4)),
-            (85, 0, "fault 85 at 0: ", lambda: pattern.index("a", 2)),
         ]:
             with self.assertRaises(Fault) as fault:
                 call()
             self.assertEqual((fault.exception.kind, fault.exception.at), (kind, at))
             self.assertTrue(str(fault.exception).startswith(words), str(fault.exception))
+            again = pickle.loads(pickle.dumps(fault.exception))
+            self.assertEqual((again.kind, again.at, str(again)), (kind, at, str(fault.exception)))
+
+    def test_arguments_that_are_none(self) -> None:
+        """Each gives an error that begins with the name of the argument."""
+        pattern = Pattern(self.table, "a")
+        search = Search(pattern)
+        parts = memoryview(b"abab")[::2]
+        for error, name, call in [
+            (TypeError, "base", lambda: Table("letters.txt")),
+            (TypeError, "base", lambda: Table(LETTERS)),
+            (TypeError, "tailor", lambda: Table(b"", "german.txt")),
+            (TypeError, "table", lambda: Pattern(LETTERS.read_bytes(), "a")),
+            (TypeError, "text", lambda: Pattern(self.table, 1)),
+            (ValueError, "text", lambda: Pattern(self.table, b"\xff")),
+            (ValueError, "text", lambda: Pattern(self.table, "\ud800")),
+            (ValueError, "strength", lambda: Pattern(self.table, "a", 0)),
+            (ValueError, "strength", lambda: Pattern(self.table, "a", 4)),
+            (ValueError, "strength", lambda: Pattern(self.table, "a", 257)),
+            (ValueError, "strength", lambda: Pattern(self.table, "a", -255)),
+            (TypeError, "strength", lambda: Pattern(self.table, "a", "1")),
+            (TypeError, "strength", lambda: Pattern(self.table, "a", 1.0)),
+            (TypeError, "shifted", lambda: Pattern(self.table, "a", 1, "shifted")),
+            (TypeError, "shifted", lambda: Pattern(self.table, "a", 1, 257)),
+            (TypeError, "chain", lambda: pattern.search("a", 256)),
+            (TypeError, "chain", lambda: Search(pattern, "chain")),
+            (TypeError, "pattern", lambda: Search("a")),
+            (TypeError, "text", lambda: pattern.search(None)),
+            (TypeError, "text", lambda: pattern.search(["a"])),
+            (TypeError, "text", lambda: pattern.search(parts)),
+            (TypeError, "text", lambda: pattern.index(None)),
+            (TypeError, "start", lambda: pattern.index("a", "0")),
+            *((ValueError, "start", lambda text=text, start=start: pattern.index(text, start))
+              for text in ("ab", "\u00e9b", b"ab", bytearray(b"ab")) for start in (-1, -2, 3, 2 ** 64, 2 ** 64 + 1)),
+            (ValueError, "start", lambda: search.first_in(b"ab", -1)),
+            (TypeError, "text", lambda: search.first_in("ab")),
+            (TypeError, "piece", lambda: search.feed("a")),
+            (TypeError, "piece", lambda: search.feed(None)),
+            (TypeError, "piece", lambda: list(search.feed_file(io.StringIO("a")))),
+            (TypeError, "piece", lambda: list(search.feed_file(io.StringIO("")))),
+            (ValueError, "size", lambda: search.feed_file(io.BytesIO(b"a"), 0)),
+            (ValueError, "size", lambda: search.feed_file(io.BytesIO(b"a"), -1)),
+            (TypeError, "words", lambda: pattern.resume("1")),
+            (TypeError, "words", lambda: pattern.resume(7)),
+            (ValueError, "words", lambda: pattern.resume([-1])),
+            (ValueError, "words", lambda: pattern.resume([2 ** 64])),
+        ]:
+            with self.assertRaises(error) as raised:
+                call()
+            self.assertEqual(str(raised.exception).split()[0], name, str(raised.exception))
+        self.assertEqual(list(search.feed(b"a bb")), [(0, 1)])  # none of these calls has changed it
+
+    def test_objects_like_bytes(self) -> None:
+        text = b"resume, r\xc3\xa9sum\xc3\xa9 -"
+        table = Table(bytearray(LETTERS.read_bytes()), memoryview(b""))
+        pattern, wanted = Pattern(table, memoryview(b"resume"), 1), [(0, 6), (8, 16)]
+        with tempfile.TemporaryFile() as file:
+            file.write(text)
+            file.flush()
+            kinds = [text, bytearray(text), memoryview(text), memoryview(bytearray(text)), memoryview(b"x" + text)[1:], array("B", text),
+                     array("H", text), mmap.mmap(file.fileno(), 0, access=mmap.ACCESS_READ)]
+            for data in kinds:
+                self.assertEqual(list(pattern.search(data)), wanted)
+                self.assertEqual((pattern.index(data), pattern.index(data, 1), pattern.index(data, len(text))), (*wanted, None))
+                search = Search(pattern)
+                self.assertEqual(list(search.feed(data)) + list(search.finish()), wanted)
+                self.assertEqual(Search(pattern).first_in(data, 2), wanted[1])
+            kinds.pop().close()  # nothing holds it
+            grown = kinds[1]
+            found = pattern.search(grown)
+            grown += b"x"
+            self.assertEqual(list(found), wanted)
+        for empty in (b"", bytearray(), memoryview(b"")):
+            self.assertEqual((list(pattern.search(empty)), pattern.index(empty)), ([], None))
+
+    def test_bytes_are_not_copied(self) -> None:
+        pattern, data = Pattern(self.table, "resume", 1), bytearray(b"e" * (1 << 24))
+        pattern.index(data[:100])
+        tracemalloc.start()
+        self.assertIsNone(pattern.index(data))
+        self.assertIsNone(pattern.index(memoryview(data)))
+        self.assertLess(tracemalloc.get_traced_memory()[1], 1 << 20)
+        tracemalloc.stop()
+
+    def test_handles_are_not_copied(self) -> None:
+        pattern = Pattern(self.table, "a")
+        for owner in (self.table, pattern, Search(pattern)):
+            for call in (copy.copy, copy.deepcopy, pickle.dumps):
+                self.assertRaisesRegex(TypeError, f"a {type(owner).__name__} can't be copied", call, owner)
+        gc.collect()
+        self.assertEqual(pattern.index("a"), (0, 1))
+
+    def test_names(self) -> None:
+        self.assertEqual(colfind.__all__, ["Fault", "Pattern", "Search", "Table"])
+        for name in colfind.__all__:
+            for one in (getattr(colfind, name), *vars(getattr(colfind, name)).values()):
+                if getattr(one, "__module__", "") == "colfind" and not one.__name__.startswith("_"):
+                    self.assertTrue(one.__doc__, one)
 
     def test_freed(self) -> None:
         with Search(Pattern(self.table, "a")) as search:
