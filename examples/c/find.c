@@ -70,5 +70,6 @@ int main(int argc, char **argv) {
     fclose(file);
     colfind_free(&search), colfind_free(&pattern), colfind_free(&table);
     free(rows.bytes), free(text.bytes);
+    if (fflush(stdout)) fail("the matches can't be written");
     return found == 0;
 }
