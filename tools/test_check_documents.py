@@ -73,9 +73,14 @@ class CheckDocumentsTest(unittest.TestCase):
     def test_examples_in_one_session(self):
         self.runs("```console\n$ cd docs/example\n$ colfind\n0:3\ncolfind: fault 31 at 4\n$ echo $?\n2\n```\n")
         self.runs("```console\n$ cd docs\n```\nand\n```console\n$ cat example/text.txt |\n> cat\nabc d\n```\n")
-        self.runs("```console\n$ echo 0:3 | tools/show docs/example/text.txt\n[abc] d\n$ printf '1\\n2\\n3\\n'\n1\n...\n```\n")
+        self.runs("```console\n$ echo 0:3 | colfind-show docs/example/text.txt\n[abc] d\n$ printf '1\\n2\\n3\\n'\n1\n...\n```\n")
         self.runs("```console\n$ printf 'e\\314\\201'\n\u00e9\n```\n")
         self.runs("```sh\n$ echo no\n```\n")
+
+    def test_examples_that_are_left_out(self):
+        self.runs("```console\n$ cat /usr/share/none/none.txt\nno\n$ echo yes\nyes\n```\n")
+        self.runs("```console\n$ alias cat-it='cat /usr/share/none/none.txt'\n$ cat-it | cat\nno\n$ echo yes > cat-it-not\n```\n")
+        self.runs("```console\n$ alias say='echo yes'\n$ say && say\nyes\nyes\n```\n")
 
     def test_example_that_prints_something_else(self):
         found = ["README.md:3: $ echo a; echo b", "  printed:", "    a", "    b"]
