@@ -77,13 +77,17 @@ fn passed_len(classes: &Classes, piece: &[u8], limit: usize) -> usize
     if limit == 0 || piece[0] >= 128 || in_set(&classes.halt, piece[0]) != 0 {
         return 0;
     }
-    if keys_decide(classes) {
-        return pass_by_keys(classes, piece, limit);
+    let len = if keys_decide(classes) {
+        pass_by_keys(classes, piece, limit)
+    } else if halts_decide(classes) {
+        pass_by_halts(classes, piece, limit)
+    } else {
+        return pass_by_blocks(classes, piece, 1, limit);
+    };
+    if limit - len >= 32 {
+        return len;
     }
-    if halts_decide(classes) {
-        return pass_by_halts(classes, piece, limit);
-    }
-    pass_by_blocks(classes, piece, 1, limit)
+    pass_by_blocks(classes, piece, len, limit)
 }
 
 /// How many bytes at the front of a piece pass, up to `limit`, of which the first `from` do: block by block.
@@ -106,16 +110,16 @@ fn pass_by_blocks(classes: &Classes, piece: &[u8], from: usize, limit: usize) ->
     len + lanes_that_pass(classes, piece, len)
 }
 
-/// How many bytes at the front of a piece pass, up to `limit`, of which the first one does, where keys alone decide it: two blocks at a
-/// time, each byte of which is looked up once.
+/// How many bytes at the front of a piece pass, of which the first one does, where keys alone decide it: two blocks at a time, each byte
+/// of which is looked up once, to a byte that does not pass, or as long as there are two blocks.
 #[inline(always)]
 fn pass_by_keys(classes: &Classes, piece: &[u8], limit: usize) -> usize
     requires keys { KeysDecide classes.now }
     requires limit { (1 ≤ limit) × (limit ≤ length piece.now) }
     requires passes { Passes classes.now piece.now 1 }
     ensures passes { Passes classes.now piece.now result }
-    ensures within { result ≤ limit }
-    ensures most { result < limit → EndsAt classes.now piece.now result }
+    ensures within { (1 ≤ result) × (result ≤ limit) }
+    ensures most { result + 32 ≤ limit → EndsAt classes.now piece.now result }
 {
     let mut len = 1;
     let mut before = keys_behind(classes, piece[0]);
@@ -127,7 +131,7 @@ fn pass_by_keys(classes: &Classes, piece: &[u8], limit: usize) -> usize
         len += 32;
         before = keys;
     }
-    pass_by_blocks(classes, piece, len, limit)
+    len
 }
 
 /// The same where the bytes that halt decide it: then one set is looked up.
@@ -137,8 +141,8 @@ fn pass_by_halts(classes: &Classes, piece: &[u8], limit: usize) -> usize
     requires limit { (1 ≤ limit) × (limit ≤ length piece.now) }
     requires passes { Passes classes.now piece.now 1 }
     ensures passes { Passes classes.now piece.now result }
-    ensures within { result ≤ limit }
-    ensures most { result < limit → EndsAt classes.now piece.now result }
+    ensures within { (1 ≤ result) × (result ≤ limit) }
+    ensures most { result + 32 ≤ limit → EndsAt classes.now piece.now result }
 {
     let mut len = 1;
     while limit - len >= 32 {
@@ -148,7 +152,7 @@ fn pass_by_halts(classes: &Classes, piece: &[u8], limit: usize) -> usize
         }
         len += 32;
     }
-    pass_by_blocks(classes, piece, len, limit)
+    len
 }
 
 /// How many bytes at the front of a piece pass, up to `limit`, of which the first `from` do, and fewer than sixteen are left: by the last
