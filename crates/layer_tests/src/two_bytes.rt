@@ -405,6 +405,33 @@ fn few_bytes_do_not_pay(rt: HostRuntime) {
     }
 }
 
+/// The most bytes that blocks pass by at once.
+const MOST: usize = 8_192;
+
+/// At most 8,192 bytes pass at once, up to the end of a character.
+#[test]
+fn blocks_of_two_bytes_pass_so_much_at_once(rt: HostRuntime) {
+    let alloc = rt.alloc();
+    for (more, want) in [(0, MOST - 2), (1, MOST - 1), (2, MOST), (3, MOST - 1), (4, MOST)] {
+        let text = calm(&rt, alloc, MOST + more);
+        rows_with_sets(&rt, alloc, &[(text.as_bytes(), 1, want)], 0);
+    }
+}
+
+/// The character behind which a text is left begins in the last 512 bytes that pass; where the pattern has all of those, the automaton goes
+/// on.
+#[test]
+fn way_back_has_512_bytes(rt: HostRuntime) {
+    let alloc = rt.alloc();
+    for (count, is_found) in [(0, true), (253, true), (254, false)] {
+        let mut own = repeated(&rt, alloc, "в", count);
+        put(&rt, &mut own, "аб");
+        let text = amid(&rt, alloc, 200, &own);
+        let want = if is_found { 200 } else { all_of(&text) };
+        rows_with_sets(&rt, alloc, &[(text.as_bytes(), 1, want)], 0);
+    }
+}
+
 /// Where the first 256 bytes of what is passed by are of ASCII, blocks of ASCII come first then, and else those of two bytes.
 #[test]
 fn text_that_is_near_tells_the_turn(rt: HostRuntime) {
