@@ -405,17 +405,46 @@ fn refused_letters_are_asked_for_again(rt: HostRuntime) {
     letter_is(&rt, rt.alloc(), pair, "Plain 255 255 0;");
 }
 
-/// Whether the letters of two characters are kept together, behind the letters of 4,096 others.
-fn try_kept(alloc: Global, table: &Table, pattern: &Pattern) -> Result<bool, AllocError> {
+/// Whether the letters of two characters are kept together, behind the letters of so many others.
+fn try_kept(
+    alloc: Global,
+    table: &Table,
+    pattern: &Pattern,
+    others: u32,
+    both: (char, char),
+) -> Result<bool, AllocError> {
+    let (first, second) = both;
     let mut letters = Letters::new(alloc, table)?;
-    for code_point in 0x4E00..0x5E00 {
+    for code_point in 0x4E00..0x4E00u32.wrapping_add(others) {
         if let Some(c) = char::from_u32(code_point) {
             let _ = letters.letter(table, pattern, c);
         }
     }
-    let _ = letters.letter(table, pattern, 'a');
-    let _ = letters.letter(table, pattern, 'b');
-    Ok(letters.known('a').is_some() && letters.known('b').is_some())
+    let _ = letters.letter(table, pattern, first);
+    let _ = letters.letter(table, pattern, second);
+    Ok(letters.known(first).is_some() && letters.known(second).is_some())
+}
+
+/// Two characters, and how many others come before: from the first letter on those are kept together whose last eight bits differ, from the
+/// 192nd on the last twelve, and from the 4,096th on the last sixteen.
+const TOGETHER: [(u32, char, char, bool); 6] = [
+    (0, 'a', 'b', true),
+    (0, 'a', '\u{161}', false),
+    (189, 'a', '\u{161}', false),
+    (190, 'a', '\u{161}', true),
+    (4_093, 'a', '\u{1061}', false),
+    (4_094, 'a', '\u{1061}', true),
+];
+
+#[test]
+fn more_letters_are_kept_where_more_are_found(rt: HostRuntime) {
+    let table = table_with_more(&rt, rt.alloc());
+    let pattern = compile(&rt, rt.alloc(), &table, ("a", TWO, KEPT));
+    for (others, first, second, want) in &TOGETHER {
+        let both = (*first, *second);
+        let kept = try_kept(rt.alloc(), &table, &pattern, *others, both).expect(&rt, "the letters");
+        assert_eq!(rt; kept, *want, "{first} and {second} behind {others}");
+    }
 }
 
 /// To be run with 130 requests in a row refused too, which is how often the first 4,096 letters ask for places.
@@ -423,5 +452,6 @@ fn try_kept(alloc: Global, table: &Table, pattern: &Pattern) -> Result<bool, All
 fn refused_places_are_asked_for_again(rt: HostRuntime) {
     let table = table_with_more(&rt, rt.alloc());
     let pattern = compile(&rt, rt.alloc(), &table, ("a", TWO, KEPT));
-    assert!(rt; try_kept(rt.alloc(), &table, &pattern).expect(&rt, "the letters"));
+    let kept = try_kept(rt.alloc(), &table, &pattern, 4_096, ('a', 'b'));
+    assert!(rt; kept.expect(&rt, "the letters"));
 }

@@ -412,7 +412,13 @@ const MOST: usize = 8_192;
 #[test]
 fn blocks_of_two_bytes_pass_so_much_at_once(rt: HostRuntime) {
     let alloc = rt.alloc();
-    for (more, want) in [(0, MOST - 2), (1, MOST - 1), (2, MOST), (3, MOST - 1), (4, MOST)] {
+    for (more, want) in [
+        (0, MOST - 2),
+        (1, MOST - 1),
+        (2, MOST),
+        (3, MOST - 1),
+        (4, MOST),
+    ] {
         let text = calm(&rt, alloc, MOST + more);
         rows_with_sets(&rt, alloc, &[(text.as_bytes(), 1, want)], 0);
     }
