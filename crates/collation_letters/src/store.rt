@@ -22,7 +22,7 @@ const LAST_OF_SOME: usize = 4_095;
 
 const LAST_OF_MANY: usize = 65_535;
 
-/// How often 256 places are asked for where memory for them was refused: at each so manyth letter that is found, without end.
+/// How often 256 places are asked for as long as there is one place: at one of so many letters that are found, without end.
 const OFTEN: usize = 32;
 
 /// How many letters are found before there are more places.

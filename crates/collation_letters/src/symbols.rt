@@ -128,7 +128,7 @@ pub fn symbol_of(pattern: &Pattern, key: &Key) -> Option<u8>
 
 /// The symbol of a key of a pattern of any length; `None` where the pattern has it first behind the keys that have symbols, or may have
 /// it behind those that are compared. Of most keys that the pattern does not have, one look says so; of most others one more says where
-/// they stand, or that it is behind those that have symbols.
+/// they stand, or that they stand behind those that have symbols.
 pub fn symbol_in(pattern: &Pattern, key: &Key) -> Option<u8>
     ensures symbol { IfSome result (λ symbol. IsSymbol pattern.now.keys key.now symbol) }
     ensures below { IfSome result (λ symbol. symbol < 255) }

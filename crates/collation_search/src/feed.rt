@@ -95,7 +95,7 @@ pub(crate) fn hand_out<F: FnMut(u64, u64)>(ranges: &[(u64, u64)], sink: &mut F)
 }
 
 impl<'a, W: Weights> Search<'a, W> {
-    ghost use Rattle.std.specs.Prelude.{◌≡◌, ℕ, ◌+◌, ◌<◌, ◌≤◌, max, List, [], ◌++◌, length, take, None, Ok, true};
+    ghost use Rattle.std.specs.Prelude.{◌≡◌, ℕ, ◌+◌, ◌-◌, ◌<◌, ◌≤◌, max, List, [], ◌++◌, length, take, None, Ok, true};
     ghost use Rattle.std.specs.List.{FoldsTo};
     ghost use Rattle.std.specs.Str.{chars};
     ghost use Rattle.collation_table.specs.Table.{longest_mapped};
@@ -168,9 +168,12 @@ impl<'a, W: Weights> Search<'a, W> {
         ensures enough { (u : List ℕ) → is_good_so_far (u ++ piece.now) ≡ true → 0 < result
             → max 2 (longest_mapped (sought self.old).table) ≤ starters_from (length u + result)
             (chars (whole (u ++ piece.now))) }
+        ensures counted { self.new.cache.by_steps
+            ≡ self.old.cache.by_steps - length piece.now }
     {
-        if let Some(left) = self.cache.by_steps.checked_sub(piece.len()) {
-            self.cache.by_steps = left;
+        let by_steps = self.cache.by_steps;
+        self.cache.by_steps = by_steps.saturating_sub(piece.len());
+        if piece.len() <= by_steps {
             return 0;
         }
         reach(&self.query, &mut self.cache.letters, piece)

@@ -34,7 +34,8 @@ pub(crate) struct Cache {
     pub(crate) skip: Skip,
     /// How many bytes are walked over before text is passed by: few where that was worth it, more where it was not.
     pub(crate) hold: usize,
-    /// How many bytes go by steps alone before letters are found: for one short text these cost more than the steps that they save.
+    /// How many bytes more go by steps alone, as long as no piece has more: for one short text letters cost more than the steps that they
+    /// save.
     pub(crate) by_steps: usize,
     /// The allocator of the search.
     pub(crate) alloc: Global,
@@ -53,6 +54,7 @@ impl Cache {
     ghost use Rattle.collation_letters.specs.Letters.{IsLetter};
     ghost use Rattle.collation_elements.specs.Weighing.{is_after_variable};
     ghost use Rattle.collation_search.specs.declared.matching.Matcher.{Matcher};
+    ghost use Rattle.collation_search.specs.declared.skipping.TheConstants.{MOST_KEYS};
     ghost use Rattle.collation_search.specs.Matching.{HasWalkedOn};
     ghost use Rattle.collation_search.specs.Caches.{AreRight};
     ghost use Rattle.collation_search.specs.Walks.{passed_to};
@@ -67,8 +69,10 @@ impl Cache {
         table: &W,
         pattern: &Pattern,
     ) -> Result<Cache, AllocError>
-        ensures { IfOk result (λ cache. (table : TableMap) (pattern : Compiled)
+        ensures right { IfOk result (λ cache. (table : TableMap) (pattern : Compiled)
             → AreRight table pattern cache) }
+        ensures at_once { length pattern.now.keys ≤ MOST_KEYS
+            → IfOk result (λ cache. cache.by_steps ≡ 0) }
     {
         Ok(Cache {
             letters: Letters::for_long_patterns(alloc, table)?,

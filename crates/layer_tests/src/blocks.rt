@@ -1,6 +1,6 @@
-//! How much of a text of ASCII `collation_skip` passes by in blocks, which no clause says: beside the way before blocks were joined in twos
-//! and looked up once, for patterns of one key and of two, in tables without strings of letters of ASCII and with one. The texts are
-//! made: dense in stops and calm, with one stop at each place, and passed up to each place, so that each loop goes many rounds.
+//! How much of a text of ASCII `collation_skip` passes by in blocks, which no public clause says: beside a plain way, block by block, for
+//! patterns of one key and of two, in tables without strings of letters of ASCII and with one. The texts are made: dense in stops and
+//! calm, with one stop at each place, and passed up to each place, so that each loop goes many rounds.
 
 ghost use Rattle.std.specs.Prelude.{◌+◌, ◌≤◌, length, IfSome};
 ghost use Rattle.collation_letters.specs.Store.{AreLetters};
@@ -104,8 +104,7 @@ const ONE_BESIDE_STRING: Classes<'static> = Classes {
     inner: b"h",
 };
 
-/// How many bytes at the front of a piece passed before, up to `limit`: the first one, blocks of sixteen behind it, and the last few one by
-/// one.
+/// How many bytes at the front of a piece pass, up to `limit`: the first one, blocks of sixteen behind it, and the last few one by one.
 fn passed_len(classes: &Classes<'_>, piece: &[u8], limit: usize) -> usize
     requires { limit ≤ length piece.now }
     ensures within { result ≤ limit }

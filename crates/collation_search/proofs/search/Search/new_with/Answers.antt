@@ -4,7 +4,7 @@ use Rattle.collation_search.proofs.StateLemmas.{none-left}
 use Rattle.collation_search.proofs.search.Search.new_with.Goals as goal
 
 pub invariant_of-result-2-clause-right : goal.invariant_of-result-2-clause-right
-invariant_of-result-2-clause-right g c = c.in_ok-cache.ensures (g.W.Weights.table c.args.table.now) c.args.pattern.now
+invariant_of-result-2-clause-right g c = c.in_ok-cache.ensures.right (g.W.Weights.table c.args.table.now) c.args.pattern.now
 
 pub returns-clause-stands : goal.returns-clause-stands
 returns-clause-stands g c =

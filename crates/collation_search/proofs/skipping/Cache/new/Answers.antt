@@ -1,4 +1,4 @@
 use Rattle.collation_search.proofs.skipping.Cache.new.Goals as goal
 
-pub returns : goal.returns
-returns g c = λ table pattern. (c.in_ok-for_long_patterns.ensures table pattern, c.new.ensures table pattern)
+pub returns-clause-right : goal.returns-clause-right
+returns-clause-right g c = λ table pattern. (c.in_ok-for_long_patterns.ensures table pattern, c.new.ensures table pattern)
