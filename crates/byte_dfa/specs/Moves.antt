@@ -1,0 +1,41 @@
+-- Rows of cells, and where moves over the bytes of a piece lead.
+use Rattle.std.specs.Prelude.{◌≡◌, ◌⊎◌, ℕ, ◌+◌, ◌<◌, ◌≤◌, nat_lt, if◌then◌else◌, List, [], ◌∷◌, length, Option, Some, None, slice_index, slice_range, All}
+use Rattle.byte_dfa.specs.declared.moves.Cursor.{Cursor}
+use Rattle.byte_dfa.specs.declared.moves.TheConstants.{STOP}
+
+-- the cells of a row are there, one for each byte
+abbrev pub HasRow : List ℕ → ℕ → Type 0
+HasRow cells row = row + 256 ≤ length cells
+
+-- each cell is a row of these cells, or a stop
+abbrev pub LeadToRows : List ℕ → Type 0
+LeadToRows cells = All (λ cell. cell < STOP → HasRow cells cell) cells
+
+-- the row behind these bytes, by one move for each; none where a cell on the way is a stop
+abbrev pub row_after : List ℕ → ℕ → List ℕ → Option ℕ
+row_after cells row [] = Some row
+row_after cells row (byte ∷ bytes) =
+    let cell = slice_index cells (row + byte) in
+    if nat_lt cell STOP then row_after cells cell bytes else None
+
+-- a place in a piece, and a row
+pub record IsSpot (cells piece : List ℕ) (at row : ℕ) : Type 0 where
+  pub within : at ≤ length piece
+  pub has_row : HasRow cells row
+
+-- moves over the bytes between two places of a piece lead from the one row to the other
+pub record Leads (cells piece : List ℕ) (at row to to_row : ℕ) : Type 0 where
+  pub on : at ≤ to
+  pub spot : IsSpot cells piece to to_row
+  pub moves : row_after cells row (slice_range piece at to) ≡ Some to_row
+
+-- A run may go on from this cursor: the place where it last accepted is not behind it.
+pub record IsCursor (cells piece : List ℕ) (cursor : Cursor) : Type 0 where
+  pub spot : IsSpot cells piece cursor.at cursor.row
+  pub order : cursor.accepted_at ≤ cursor.at
+
+-- A run came from one cursor to the other by these moves. Where it last accepted is a place on the way, or is as it was.
+pub record Follows (cells piece : List ℕ) (from to : Cursor) : Type 0 where
+  pub here : Leads cells piece from.at from.row to.at to.row
+  pub order : to.accepted_at ≤ to.at
+  pub accepted : (to.accepted_at ≡ from.accepted_at) × (to.accepted_row ≡ from.accepted_row) ⊎ Leads cells piece from.at from.row to.accepted_at to.accepted_row

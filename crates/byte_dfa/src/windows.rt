@@ -1,0 +1,143 @@
+//! A run by windows of a few bytes. A move waits for the one before it, so the row behind a window is guessed by the window's last
+//! bytes, and the processor begins with the next window in the guessed row before it has come there. A guess counts where the run
+//! comes to it, and else only time is lost.
+ghost use Rattle.std.specs.Prelude.{◌≡◌, ◌⊎◌, ◌+◌, ◌<◌, ◌≤◌, length, IfSome};
+ghost use Rattle.byte_dfa.specs.Moves.{Follows, IsCursor, IsSpot, LeadToRows, Leads};
+
+use crate::moves::{Cursor, STOP, cell_at, come_to, run};
+use std::alloc::Global;
+
+/// How many bytes a window has: so few that the processor has several windows in hand.
+const WINDOW: usize = 12;
+
+/// How many guesses there are, a power of two.
+const GUESSES: usize = 4_096;
+
+/// The fewest bytes of a piece for which guesses are made.
+const WORTH_GUESSES: usize = 2_048;
+
+/// At a place of some bytes the row that was met last behind such bytes, or anything: a wrong one costs time alone.
+#[derive(Drop)]
+pub struct Guesses {
+    pub(crate) rows: Vec<u32>,
+}
+
+impl Guesses {
+    /// None are made yet. Takes no memory.
+    pub fn new(alloc: Global) -> Guesses {
+        Guesses {
+            rows: Vec::new(alloc),
+        }
+    }
+
+    /// Makes them where there are none, a piece of so many bytes is worth it and there is memory.
+    #[inline(always)]
+    pub fn make(&mut self, alloc: Global, len: usize) {
+        if !self.rows.is_empty() || len < WORTH_GUESSES {
+            return;
+        }
+        if let Ok(rows) = vec![in alloc; 0; GUESSES] {
+            self.rows = rows;
+        }
+    }
+}
+
+/// Goes up to the end of the piece: by windows, and by single moves where they end. Where these come to no row that accepts, the last one
+/// before them is looked for.
+pub(crate) fn run_to_end(cells: &[u32], piece: &[u8], guesses: &mut [u32], from: Cursor) -> Cursor
+    requires cells { LeadToRows cells.now }
+    requires cursor { IsCursor cells.now piece.now from }
+    ensures { Follows cells.now piece.now from result }
+{
+    let near = run_by_windows(cells, piece, guesses, from);
+    let end = run(cells, piece, near, piece.len());
+    if end.accepted_at >= near.at || near.at == from.at {
+        return end;
+    }
+    let back = back_to_accepted(from, near);
+    let before = run(cells, piece, back, piece.len().min(near.at));
+    Cursor {
+        at: end.at,
+        row: end.row,
+        accepted_at: before.accepted_at,
+        accepted_row: before.accepted_row,
+    }
+}
+
+/// Goes by whole windows, up to one that is cut off by the end of the piece or by a stop.
+#[inline(never)]
+fn run_by_windows(cells: &[u32], piece: &[u8], guesses: &mut [u32], from: Cursor) -> Cursor
+    requires cells { LeadToRows cells.now }
+    requires cursor { IsCursor cells.now piece.now from }
+    ensures { Follows cells.now piece.now from result }
+{
+    if guesses.len() < GUESSES || piece.len() < WINDOW {
+        return from;
+    }
+    let last = piece.len() - WINDOW;
+    let mut cursor = from;
+    'windows: while cursor.at <= last {
+        let place = place_of(&piece[cursor.at..cursor.at + WINDOW]);
+        let guess = guesses[place] as usize;
+        let Some(row) = move_window(cells, piece, cursor.at, cursor.row) else {
+            break;
+        };
+        // where the two are equal the processor has gone on from the guess before it knew the row
+        if row == guess {
+            cursor = come_to(cursor, cursor.at + WINDOW, guess);
+        } else {
+            guesses[place] = row as u32;
+            cursor = come_to(cursor, cursor.at + WINDOW, row);
+        }
+    }
+    cursor
+}
+
+/// The row behind a window; `None` where a run ends within.
+#[inline(always)]
+fn move_window(cells: &[u32], piece: &[u8], at: usize, row: usize) -> Option<usize>
+    requires cells { LeadToRows cells.now }
+    requires spot { IsSpot cells.now piece.now at row }
+    requires within { at + WINDOW ≤ length piece.now }
+    ensures leads { IfSome result (Leads cells.now piece.now at row (at + WINDOW)) }
+    ensures below { IfSome result (λ come. come < STOP) }
+{
+    let mut now = row;
+    let mut moves = 0;
+    'moves: while moves < WINDOW {
+        let cell = cell_at(cells, now, piece[at + moves]);
+        if cell >= STOP {
+            return None;
+        }
+        now = cell as usize;
+        moves += 1;
+    }
+    Some(now)
+}
+
+/// The place of the guess for what stands behind a window: by its last three bytes, and of the one before them what kind it is.
+#[inline(always)]
+fn place_of(window: &[u8]) -> usize
+    requires { length window.now ≡ WINDOW }
+    ensures { result < GUESSES }
+{
+    let bytes = [window[8] & 0xE0, window[9], window[10], window[11]];
+    let hash = u32::from_le_bytes(bytes).wrapping_mul(0x9E37_79B1);
+    (hash >> 20) as usize % GUESSES
+}
+
+/// Where a row that accepts was met last since `begun`, else `begun`.
+fn back_to_accepted(begun: Cursor, near: Cursor) -> Cursor
+    ensures { (result ≡ begun) ⊎ (begun.at < near.accepted_at)
+        × (result ≡ record near { at = near.accepted_at; row = near.accepted_row }) }
+{
+    if near.accepted_at <= begun.at {
+        return begun;
+    }
+    Cursor {
+        at: near.accepted_at,
+        row: near.accepted_row,
+        accepted_at: near.accepted_at,
+        accepted_row: near.accepted_row,
+    }
+}
