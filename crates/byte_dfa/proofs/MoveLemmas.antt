@@ -8,7 +8,7 @@ use Rattle.std.proofs.lemmas.List.{drop-drop, get_or-drop, get_or-take}
 use Rattle.std.proofs.lemmas.List.Edits.{between_more, between_none}
 use Rattle.byte_dfa.specs.declared.moves.Cursor.{Cursor}
 use Rattle.byte_dfa.specs.declared.moves.TheConstants.{STOP}
-use Rattle.byte_dfa.specs.Moves.{Follows, HasRow, IsCursor, IsSpot, LeadToRows, Leads, row_after}
+use Rattle.byte_dfa.specs.Moves.{Accepts, Follows, HasRow, IsCursor, IsSpot, LeadToRows, Leads, row_after}
 
 -- a cell of the column from a byte on
 pub cell-column : (cells : List ℕ) (byte row : ℕ) → row + byte < length cells → slice_index (take (length cells - byte) (drop byte cells)) row ≡ slice_index cells (row + byte)
@@ -102,13 +102,13 @@ follows-none cells piece from is = record { here = leads-none cells piece from.a
 
 -- on to a place and row, which are where it last accepted if that changes
 pub follows-moved : (cells piece : List ℕ) (from to : Cursor) (at row : ℕ) → from.accepted_at ≤ from.at → Leads cells piece from.at from.row at row → to.at ≡ at → to.row ≡ row →
-    (to.accepted_at ≡ from.accepted_at) × (to.accepted_row ≡ from.accepted_row) ⊎ (to.accepted_at ≡ at) × (to.accepted_row ≡ row) → Follows cells piece from to
+    (to.accepted_at ≡ from.accepted_at) × (to.accepted_row ≡ from.accepted_row) ⊎ (to.accepted_at ≡ at) × (to.accepted_row ≡ row) × Accepts row → Follows cells piece from to
 follows-moved cells piece from to at row order leads is is_row accepted =
     let on = leads.on in
     record {
       here = leads-same cells piece from.at from.row at row to.at to.row is is_row leads;
       order = elim accepted [ inl same ↦ omega (arith, order, on, is, same.0) | inr new ↦ omega (arith, is, new.0) ];
-      accepted = elim accepted [ inl same ↦ inl same | inr new ↦ inr (leads-same cells piece from.at from.row at row to.accepted_at to.accepted_row new.0 new.1 leads) ];
+      accepted = elim accepted [ inl same ↦ inl same | inr new ↦ inr (leads-same cells piece from.at from.row at row to.accepted_at to.accepted_row new.0 new.1 leads, subst Accepts (sym new.1) new.2) ];
     }
 
 -- a run after another
@@ -120,9 +120,9 @@ follows-on cells piece from mid to g h =
       accepted = elim h.accepted [
         | inl same ↦ elim g.accepted [
           | inl was ↦ inl (same.0 ∙ was.0, same.1 ∙ was.1)
-          | inr met ↦ inr (leads-same cells piece from.at from.row mid.accepted_at mid.accepted_row to.accepted_at to.accepted_row same.0 same.1 met)
+          | inr met ↦ inr (leads-same cells piece from.at from.row mid.accepted_at mid.accepted_row to.accepted_at to.accepted_row same.0 same.1 met.0, subst Accepts (sym same.1) met.1)
         ]
-        | inr met ↦ inr (leads-on cells piece from.at from.row mid.at mid.row to.accepted_at to.accepted_row g.here met)
+        | inr met ↦ inr (leads-on cells piece from.at from.row mid.at mid.row to.accepted_at to.accepted_row g.here met.0, met.1)
       ];
     }
 
@@ -133,6 +133,6 @@ follows-back cells piece from near back is h back_is = elim back_is [
   | inl begun ↦ subst (λ (it : Cursor). Follows cells piece from it × (it.at ≤ near.at)) (sym begun) (follows-none cells piece from is, h.here.on)
   | inr mark ↦ elim h.accepted [
     | inl same ↦ let order = is.order in absurd (omega (arith, order, same.0, mark.0))
-    | inr met ↦ subst (λ (it : Cursor). Follows cells piece from it × (it.at ≤ near.at)) (sym mark.1) (record { here = met; order = omega arith; accepted = inr met }, h.order)
+    | inr met ↦ subst (λ (it : Cursor). Follows cells piece from it × (it.at ≤ near.at)) (sym mark.1) (record { here = met.0; order = omega arith; accepted = inr met }, h.order)
   ]
 ]

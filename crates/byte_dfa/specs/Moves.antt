@@ -1,5 +1,5 @@
 -- Rows of cells, and where moves over the bytes of a piece lead.
-use Rattle.std.specs.Prelude.{◌≡◌, ◌⊎◌, ℕ, ◌+◌, ◌<◌, ◌≤◌, nat_lt, if◌then◌else◌, List, [], ◌∷◌, length, Option, Some, None, slice_index, slice_range, All}
+use Rattle.std.specs.Prelude.{◌≡◌, ◌⊎◌, ℕ, ◌+◌, ◌%◌, ◌<◌, ◌≤◌, nat_lt, if◌then◌else◌, List, [], ◌∷◌, length, Option, Some, None, slice_index, slice_range, All}
 use Rattle.byte_dfa.specs.declared.moves.Cursor.{Cursor}
 use Rattle.byte_dfa.specs.declared.moves.TheConstants.{STOP}
 
@@ -10,6 +10,10 @@ HasRow cells row = row + 256 ≤ length cells
 -- each cell is a row of these cells, or a stop
 abbrev pub LeadToRows : List ℕ → Type 0
 LeadToRows cells = All (λ cell. cell < STOP → HasRow cells cell) cells
+
+-- the bytes before a row are accepted
+abbrev pub Accepts : ℕ → Type 0
+Accepts row = row % 2 ≡ 1
 
 -- the row behind these bytes, by one move for each; none where a cell on the way is a stop
 abbrev pub row_after : List ℕ → ℕ → List ℕ → Option ℕ
@@ -38,4 +42,4 @@ pub record IsCursor (cells piece : List ℕ) (cursor : Cursor) : Type 0 where
 pub record Follows (cells piece : List ℕ) (from to : Cursor) : Type 0 where
   pub here : Leads cells piece from.at from.row to.at to.row
   pub order : to.accepted_at ≤ to.at
-  pub accepted : (to.accepted_at ≡ from.accepted_at) × (to.accepted_row ≡ from.accepted_row) ⊎ Leads cells piece from.at from.row to.accepted_at to.accepted_row
+  pub accepted : (to.accepted_at ≡ from.accepted_at) × (to.accepted_row ≡ from.accepted_row) ⊎ Leads cells piece from.at from.row to.accepted_at to.accepted_row × Accepts to.accepted_row

@@ -1,6 +1,6 @@
 //! A run by single moves.
 ghost use Rattle.std.specs.Prelude.{◌≡◌, ◌⊎◌, ◌+◌, ◌<◌, ◌≤◌, length, slice_index};
-ghost use Rattle.byte_dfa.specs.Moves.{Follows, IsCursor, LeadToRows};
+ghost use Rattle.byte_dfa.specs.Moves.{Accepts, Follows, IsCursor, LeadToRows};
 
 /// A cell where a run ends. Greater than each row, which the sign of a cell alone tells.
 pub const STOP: u32 = 0x8000_0000;
@@ -22,8 +22,8 @@ pub fn come_to(cursor: Cursor, at: usize, row: usize) -> Cursor
     ensures at { result.at ≡ at }
     ensures row { result.row ≡ row }
     ensures accepted { (result.accepted_at ≡ cursor.accepted_at)
-        × (result.accepted_row ≡ cursor.accepted_row) ⊎ (result.accepted_at ≡ at)
-        × (result.accepted_row ≡ row) }
+        × (result.accepted_row ≡ cursor.accepted_row)
+        ⊎ (result.accepted_at ≡ at) × (result.accepted_row ≡ row) × Accepts row }
 {
     let (accepted_at, accepted_row) = if row % 2 == 1 {
         (at, row)

@@ -22,7 +22,7 @@ bytes-preserved-then-row-eq1 c =
     let new = cursor_at (at + 1) cell (at + 1) cell in
     let one = leads-one cells piece at c.bytes.row cell c.requires.cells (omega (arith, c.bytes-test.true, c.requires.to)) (c.type_inv.piece at).fits c.cell_at-cell.ensures c.if-cell-ge-STOP.false i.follows.here.spot in
     record {
-      follows = follows-on cells piece c.args.from old new i.follows (follows-moved cells piece old new (at + 1) cell i.follows.order one refl refl (inr (refl, refl)));
+      follows = follows-on cells piece c.args.from old new i.follows (follows-moved cells piece old new (at + 1) cell i.follows.order one refl refl (inr (refl, refl, c.if-row-eq1.true)));
       to = λ before. omega (arith, c.bytes-test.true);
     }
 

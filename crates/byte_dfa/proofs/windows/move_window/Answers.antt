@@ -1,5 +1,4 @@
-use Rattle.std.proofs.Common.{◌≡◌, ◌+◌, subst, sym, refl, arith}
-use Rattle.byte_dfa.specs.Moves.{Leads}
+use Rattle.std.proofs.Common.{◌+◌, refl, arith}
 use Rattle.byte_dfa.proofs.MoveLemmas.{leads-more, leads-none, leads-same}
 use Rattle.byte_dfa.proofs.windows.move_window.Goals as goal
 

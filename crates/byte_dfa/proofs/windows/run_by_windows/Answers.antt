@@ -1,6 +1,6 @@
-use Rattle.std.proofs.Common.{◌+◌, length, length-set, subst, arith}
+use Rattle.std.proofs.Common.{◌+◌, length-set, subst, arith}
 use Rattle.byte_dfa.specs.Moves.{Leads}
-use Rattle.byte_dfa.proofs.MoveLemmas.{follows-moved, follows-none, follows-on}
+use Rattle.byte_dfa.proofs.MoveLemmas.{follows-moved, follows-on}
 use Rattle.byte_dfa.proofs.windows.run_by_windows.Goals as goal
 
 pub overflow_cast-guesses : goal.overflow_cast-guesses
