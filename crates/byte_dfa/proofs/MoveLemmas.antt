@@ -2,7 +2,7 @@
 use Rattle.std.proofs.Common.{◌≡◌, ◌∙◌, ◌⊎◌, inl, inr, ℕ, ◌+◌, ◌-◌, ◌<◌, ◌≤◌, Bool, true, false, nat_lt, cond, List, [], ◌∷◌, ◌++◌, length, take, drop, slice_index, Option, Some, None, refl, sym, ap, subst, arith}
 use Rattle.std.specs.Prelude.{slice_range}
 use Rattle.std.proofs.Math.Seq.{take-add}
-use Rattle.std.proofs.lemmas.Bool.{lt-ltb}
+use Rattle.std.proofs.lemmas.Bool.{lt-ltb, ltb-true}
 use Rattle.std.proofs.lemmas.Option.{same_Some}
 use Rattle.std.proofs.lemmas.List.{drop-drop, get_or-drop, get_or-take}
 use Rattle.std.proofs.lemmas.List.Edits.{between_more, between_none}
@@ -22,6 +22,12 @@ cell-column cells byte row within =
 went-on : (b : Bool) (o : Option ℕ) (row : ℕ) → cond b o None ≡ Some row → (b ≡ true) × (o ≡ Some row)
 went-on true o row h = (refl, h)
 went-on false o row h = cc
+
+-- the first of some moves, and the others
+pub row_after-first : (cells : List ℕ) (row to byte : ℕ) (bytes : List ℕ) → row_after cells row (byte ∷ bytes) ≡ Some to → (slice_index cells (row + byte) < STOP) × (row_after cells (slice_index cells (row + byte)) bytes ≡ Some to)
+row_after-first cells row to byte bytes h =
+    let cell = slice_index cells (row + byte) in
+    let w = went-on (nat_lt cell STOP) (row_after cells cell bytes) to h in (ltb-true cell STOP w.0, w.1)
 
 -- more bytes lead on from the row behind the first ones
 pub row_after-append : (cells : List ℕ) (row mid : ℕ) (xs ys : List ℕ) → row_after cells row xs ≡ Some mid → row_after cells row (xs ++ ys) ≡ row_after cells mid ys

@@ -12,7 +12,7 @@ use std::marker::Model;
 pub const ROW: usize = 258;
 
 /// A cell whose move is not known.
-const UNKNOWN: u32 = STOP + 1;
+pub const UNKNOWN: u32 = STOP + 1;
 
 /// Rows of cells, each cell of which is a row of these cells or a stop. Contracts see the list of the cells.
 #[derive(Drop)]

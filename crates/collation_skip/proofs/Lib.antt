@@ -5,7 +5,6 @@ pub mod TextLemmas
 pub mod RowLemmas
 pub mod DepthLemmas
 pub mod RunLemmas
-pub mod SpotLemmas
 pub mod BorderSteps
 pub mod AsciiLemmas
 pub mod ClassLemmas

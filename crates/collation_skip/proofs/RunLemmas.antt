@@ -1,10 +1,17 @@
--- A run over a piece: that each row is one of a state that was reached.
+-- A run over a piece: that it comes to rows of states that were reached.
 use Rattle.std.specs.Char.{len_utf8}
 use Rattle.std.specs.Str.{chars, IsUtf8}
-use Rattle.std.proofs.Common.{◌≡◌, ◌∙◌, ◌⊎◌, inl, inr, ℕ, ◌+◌, ◌-◌, ◌<◌, ◌≤◌, List, [], ◌∷◌, ◌++◌, length, take, drop, slice_index, Option, Some, None, IfSome, refl, sym, ap, subst, arith}
+use Rattle.std.proofs.Common.{◌≡◌, ◌∙◌, ◌⊎◌, inl, inr, ℕ, ◌+◌, ◌-◌, ◌<◌, ◌≤◌, List, [], ◌∷◌, ◌++◌, length, take, drop, slice_index, Option, Some, None, IfSome, refl, sym, ap, append_assoc, subst, arith}
 use Rattle.std.proofs.Math.Logic.{∥∥₁_elim, ∥∥₁_map, ∥∥₁_prop}
 use Rattle.std.proofs.Props.{props}
-use Rattle.std.proofs.lemmas.List.{append-nil, get_or-drop, get_or-take, length-take, take_more, take-take}
+use Rattle.std.specs.Prelude.{slice_range, All}
+use Rattle.std.proofs.Math.Seq.{take-add}
+use Rattle.std.proofs.lemmas.Option.{same_Some}
+use Rattle.std.proofs.lemmas.List.{append-nil, length-take, take_more, take-take}
+use Rattle.std.proofs.lemmas.List.Elements.{All-drop, All-head, All-tail, All-take}
+use Rattle.byte_dfa.specs.declared.moves.Cursor.{Cursor}
+use Rattle.byte_dfa.specs.Moves.{Accepts, Follows, HasRow, IsCursor, Leads, row_after}
+use Rattle.byte_dfa.proofs.MoveLemmas.{row_after-first}
 use Rattle.utf8_cut.specs.Sequences.{SpellsCharacter}
 use Rattle.nfd_points.specs.Points.{byte_len}
 use Rattle.nfd_points.specs.Laws.{BytesOfParts}
@@ -12,35 +19,61 @@ use Rattle.collation_letters.proofs.ApartLemmas.{len_one as byte_len-one}
 use Rattle.collation_table.specs.Table.{TableMap}
 use Rattle.collation_pattern.specs.Compiled.{Compiled}
 use Rattle.collation_skip.specs.declared.automaton.Automaton.{Automaton}
-use Rattle.collation_skip.specs.declared.automaton.Cursor.{Cursor}
-use Rattle.collation_skip.specs.declared.automaton.TheConstants.{STOP}
 use Rattle.collation_skip.specs.declared.state.State.{State}
 use Rattle.collation_skip.specs.Passed.{IsPassed}
 use Rattle.collation_skip.specs.Reached.{HasReached, IsReached, IsMove}
 use Rattle.collation_skip.specs.Rows.{AreRight, IsRow, Stands}
 use Rattle.collation_skip.proofs.PassedLemmas.{passed-had}
-use Rattle.collation_skip.proofs.RowLemmas.{row-one, row-within}
+use Rattle.collation_skip.proofs.RowLemmas.{row-had, row-one}
 use Rattle.collation_skip.proofs.TextLemmas.{cut-last, same-character}
 
--- a cell of the column from a byte on
-pub cell-column : (cells : List ℕ) (byte row : ℕ) → row + byte < length cells → slice_index (take (length cells - byte) (drop byte cells)) row ≡ slice_index cells (row + byte)
-cell-column cells byte row within =
-    let there : row < length cells - byte = omega (arith, within) in
-    let turned : byte + row ≡ row + byte = omega arith in
-    get_or-take (length cells - byte) (drop byte cells) row 0 there ∙ get_or-drop byte cells row 0 ∙ ap (λ n. slice_index cells n) turned
+-- the row is one of the cells
+pub stands-had : (table : TableMap) (pattern : Compiled) (a : Automaton) (piece : List ℕ) (at row : ℕ) → AreRight table pattern a → Stands table pattern a piece at row → HasRow a.cells row
+stands-had table pattern a piece at row right h = ∥∥₁_elim h (hlevel props) (λ s. row-had table pattern a row s.0 right s.1)
 
--- the cell of a byte is there
-pub stands-within : (table : TableMap) (pattern : Compiled) (a : Automaton) (piece : List ℕ) (at row byte : ℕ) → AreRight table pattern a → byte < 256 → Stands table pattern a piece at row → row + byte < length a.cells.items
-stands-within table pattern a piece at row byte right less h = ∥∥₁_elim h (hlevel props) (λ s. row-within table pattern a row byte s.0 right s.1 less)
+-- a run may go on from a cursor that stands at such a row
+pub stands-cursor : (table : TableMap) (pattern : Compiled) (a : Automaton) (piece : List ℕ) (cursor : Cursor) → AreRight table pattern a → Stands table pattern a piece cursor.at cursor.row → cursor.at ≤ length piece → cursor.accepted_at ≤ cursor.at →
+    IsCursor a.cells piece cursor
+stands-cursor table pattern a piece cursor right h within order = record { spot = record { within = within; has_row = stands-had table pattern a piece cursor.at cursor.row right h }; order = order }
 
--- one byte more
-pub stands-more : (table : TableMap) (pattern : Compiled) (a : Automaton) (piece : List ℕ) (at row cell : ℕ) → AreRight table pattern a → at < length piece → slice_index piece at < 256 →
-    cell ≡ slice_index a.cells.items (row + slice_index piece at) → cell < STOP → Stands table pattern a piece at row → Stands table pattern a piece (at + 1) cell
-stands-more table pattern a piece at row cell right within byte is below h =
-    let b = slice_index piece at in
-    let longer : take (at + 1) piece ≡ take at piece ++ b ∷ [] = take_more piece at 0 within in
-    ∥∥₁_elim h ∥∥₁_prop (λ s. ∥∥₁_map (right.cells row b s.0 byte s.1 (subst (λ n. n < STOP) is below))
-    (λ m. (m.0, subst (λ n. IsRow a n m.0) (sym is) m.1, λ start. subst (HasReached table pattern m.0 start) (sym longer) (m.2 start (take at piece) (s.2 start)))))
+-- the state behind more bytes
+stands-after : (table : TableMap) (pattern : Compiled) (a : Automaton) (before bytes : List ℕ) (row to : ℕ) (s : State) → AreRight table pattern a → All (λ byte. byte < 256) bytes → IsRow a row s →
+    ((start : ℕ) → HasReached table pattern s start before) → row_after a.cells row bytes ≡ Some to → ∥ ((t : State) × IsRow a to t × ((start : ℕ) → HasReached table pattern t start (before ++ bytes))) ∥₁
+stands-after table pattern a before [] row to s right small is reached leads =
+    let same = same_Some row to leads in
+    ∣ (s, subst (λ n. IsRow a n s) same is, λ start. subst (HasReached table pattern s start) (sym (append-nil before)) (reached start)) ∣₁
+stands-after table pattern a before (byte ∷ bytes) row to s right small is reached leads =
+    let cell = slice_index a.cells (row + byte) in
+    let first = row_after-first a.cells row to byte bytes leads in
+    let same : (before ++ byte ∷ []) ++ bytes ≡ before ++ byte ∷ bytes = append_assoc before (byte ∷ []) bytes in
+    ∥∥₁_elim (right.cells row byte s (All-head (λ n. n < 256) byte bytes small) is first.0) ∥∥₁_prop (λ m.
+    subst (λ (text : List ℕ). ∥ ((t : State) × IsRow a to t × ((start : ℕ) → HasReached table pattern t start text)) ∥₁) same
+    (stands-after table pattern a (before ++ byte ∷ []) bytes cell to m.0 right (All-tail (λ n. n < 256) byte bytes small) m.1 (λ start. m.2 start before (reached start)) first.1))
+
+-- where moves led
+pub stands-leads : (table : TableMap) (pattern : Compiled) (a : Automaton) (piece : List ℕ) (at row to to_row : ℕ) → AreRight table pattern a → All (λ byte. byte < 256) piece → Leads a.cells piece at row to to_row → Stands table pattern a piece at row →
+    Stands table pattern a piece to to_row
+stands-leads table pattern a piece at row to to_row right small h stands =
+    let on = h.on in
+    let longer : take to piece ≡ take at piece ++ slice_range piece at to = ap (λ n. take n piece) (omega (arith, on)) ∙ take-add at (to - at) piece in
+    let between = All-take (λ n. n < 256) (to - at) (drop at piece) (All-drop (λ n. n < 256) at piece small) in
+    ∥∥₁_elim stands ∥∥₁_prop (λ s.
+    subst (λ (text : List ℕ). ∥ ((t : State) × IsRow a to_row t × ((start : ℕ) → HasReached table pattern t start text)) ∥₁) (sym longer)
+    (stands-after table pattern a (take at piece) (slice_range piece at to) row to_row s.0 right between s.1 s.2 h.moves))
+
+-- what is known where a run went on from a cursor: where it stands, and the last place where it accepted
+pub stands-follows : (table : TableMap) (pattern : Compiled) (a : Automaton) (piece : List ℕ) (from to : Cursor) → AreRight table pattern a → All (λ byte. byte < 256) piece → Follows a.cells piece from to → Stands table pattern a piece from.at from.row →
+    Stands table pattern a piece to.at to.row
+stands-follows table pattern a piece from to right small h = stands-leads table pattern a piece from.at from.row to.at to.row right small h.here
+
+pub passed-follows : (table : TableMap) (pattern : Compiled) (a : Automaton) (piece : List ℕ) (from to : Cursor) → AreRight table pattern a → All (λ byte. byte < 256) piece → Follows a.cells piece from to → Stands table pattern a piece from.at from.row →
+    (0 < from.accepted_at → (from.accepted_at ≤ length piece) × Stands table pattern a piece from.accepted_at from.accepted_row) → 0 < to.accepted_at → (to.accepted_at ≤ length piece) × Stands table pattern a piece to.accepted_at to.accepted_row
+passed-follows table pattern a piece from to right small h stands passed some = elim h.accepted [
+  | inl same ↦
+      let before = passed (omega (arith, some, same.0)) in
+      (omega (arith, same.0, before.0), subst (λ n. Stands table pattern a piece n to.accepted_row) (sym same.0) (subst (Stands table pattern a piece from.accepted_at) (sym same.1) before.1))
+  | inr met ↦ (met.0.spot.within, stands-leads table pattern a piece from.at from.row to.accepted_at to.accepted_row right small met.0 stands)
+]
 
 -- behind the first character
 pub stands-first : (table : TableMap) (pattern : Compiled) (a : Automaton) (piece : List ℕ) (at row : ℕ) (s : State) → IsRow a row s → ((start : ℕ) → IsReached table pattern s start (take at piece)) → Stands table pattern a piece at row
@@ -72,12 +105,12 @@ stands-learned table pattern a b piece at row next within moves h =
     ∥∥₁_map h (λ s.
     let m = moves s.0 s.1 in (m.0, m.1, λ start. subst (HasReached table pattern m.0 start) (sym longer) (m.2 start (take at piece) (s.2 start))))
 
--- what is known of the last place up to which the text may be passed by, where a cursor came to a row
-pub passed-on : (stands : ℕ → ℕ → Type 0) (len at row : ℕ) (old now : Cursor) → at ≤ len → stands at row → (0 < old.passed_at → (old.passed_at ≤ len) × stands old.passed_at old.passed_row) →
-    (now.passed_at ≡ old.passed_at) × (now.passed_row ≡ old.passed_row) ⊎ (now.passed_at ≡ at) × (now.passed_row ≡ row) → 0 < now.passed_at → (now.passed_at ≤ len) × stands now.passed_at now.passed_row
+-- what is known of the last place where a run accepted, where a cursor came to a row
+pub passed-on : (stands : ℕ → ℕ → Type 0) (len at row : ℕ) (old now : Cursor) → at ≤ len → stands at row → (0 < old.accepted_at → (old.accepted_at ≤ len) × stands old.accepted_at old.accepted_row) →
+    (now.accepted_at ≡ old.accepted_at) × (now.accepted_row ≡ old.accepted_row) ⊎ (now.accepted_at ≡ at) × (now.accepted_row ≡ row) × Accepts row → 0 < now.accepted_at → (now.accepted_at ≤ len) × stands now.accepted_at now.accepted_row
 passed-on stands len at row old now within here passed is some = elim is [
-  | inl same ↦ let before = passed (omega (arith, some, same.0)) in (omega (arith, same.0, before.0), subst (λ n. stands n now.passed_row) (sym same.0) (subst (stands old.passed_at) (sym same.1) before.1))
-  | inr new ↦ (omega (arith, new.0, within), subst (λ n. stands n now.passed_row) (sym new.0) (subst (stands at) (sym new.1) here))
+  | inl same ↦ let before = passed (omega (arith, some, same.0)) in (omega (arith, same.0, before.0), subst (λ n. stands n now.accepted_row) (sym same.0) (subst (stands old.accepted_at) (sym same.1) before.1))
+  | inr new ↦ (omega (arith, new.0, within), subst (λ n. stands n now.accepted_row) (sym new.0) (subst (stands at) (sym new.1) here))
 ]
 
 -- ---- what may be passed by

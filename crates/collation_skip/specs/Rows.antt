@@ -3,7 +3,8 @@ use Rattle.std.specs.Prelude.{◌≡◌, ℕ, ◌+◌, ◌*◌, ◌<◌, nat_lt,
 use Rattle.collation_table.specs.Table.{TableMap}
 use Rattle.collation_pattern.specs.Compiled.{Compiled}
 use Rattle.collation_skip.specs.declared.automaton.Automaton.{Automaton}
-use Rattle.collation_skip.specs.declared.automaton.TheConstants.{ROW, STOP}
+use Rattle.byte_dfa.specs.declared.cells.TheConstants.{ROW}
+use Rattle.byte_dfa.specs.declared.moves.TheConstants.{STOP}
 use Rattle.collation_skip.specs.declared.state.State.{State}
 use Rattle.collation_skip.specs.Reached.{HasReached, IsMove}
 
@@ -19,15 +20,11 @@ abbrev pub IsRow : Automaton → ℕ → State → Type 0
 IsRow automaton row state =
     (number : ℕ) × (slice_get automaton.states.items number ≡ Some state) × (row ≡ row_at number state)
 
--- the row of some state
-abbrev pub IsSomeRow : Automaton → ℕ → Type 0
-IsSomeRow automaton row = ∥ ((state : State) × IsRow automaton row state) ∥₁
-
 -- each cell is unknown, a stop, or the row of a state to which its byte leads
 pub record AreRight (table : TableMap) (pattern : Compiled) (automaton : Automaton) : Type 0 where
-  pub len : length automaton.cells.items ≡ ROW * length automaton.states.items
+  pub len : length automaton.cells ≡ ROW * length automaton.states.items
   pub cells : (row byte : ℕ) (from : State) → byte < 256 → IsRow automaton row from
-      → let cell = slice_index automaton.cells.items (row + byte) in cell < STOP
+      → let cell = slice_index automaton.cells (row + byte) in cell < STOP
       → ∥ ((to : State) × IsRow automaton cell to × IsMove table pattern from byte to) ∥₁
 
 -- the row is that of a state that was reached behind so many bytes of a piece, wherever this stands

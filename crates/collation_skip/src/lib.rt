@@ -18,7 +18,6 @@ mod blocks;
 mod classes;
 mod depth;
 mod foreign;
-mod four_runs;
 mod kinds;
 mod lanes;
 mod moves;
@@ -29,7 +28,6 @@ mod state;
 mod two_byte_blocks;
 mod two_byte_sets;
 mod two_bytes;
-mod windows;
 
 pub use crate::ascii::AsciiBlocks;
 pub use crate::automaton::Automaton;

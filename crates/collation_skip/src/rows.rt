@@ -2,10 +2,11 @@
 ghost use Rattle.std.specs.Prelude.{◌≡◌, ◌≤◌};
 ghost use Rattle.collation_skip.specs.Rows.{parity};
 
-use crate::automaton::{Automaton, ROW, STOP, UNKNOWN};
+use crate::automaton::Automaton;
 use crate::begun::Begun;
 use crate::moves::state_after;
 use crate::state::State;
+use byte_dfa::{ROW, STOP};
 use collation_letters::Letters;
 use collation_pattern::Pattern;
 use collation_table::Weights;
@@ -48,7 +49,7 @@ impl Automaton {
         ensures letters { AreLetters (W.table table.now) pattern.now letters.new }
     {
         let state = self.state_at(row)?;
-        if self.cells[row + byte as usize] == STOP {
+        if self.cells.cell(row, byte) == STOP {
             return None;
         }
         let to = self.row_behind(table, pattern, letters, &state, byte);
@@ -56,7 +57,7 @@ impl Automaton {
             Some(to) => to as u32,
             None => STOP,
         };
-        self.cells[row + byte as usize] = cell;
+        self.cells.set_cell(row, byte, cell);
         to
     }
 
@@ -206,7 +207,7 @@ impl Automaton {
         if number >= MOST_STATES || self.states.reserve(1).is_err() {
             return None;
         }
-        if self.cells.resize(ROW * (number + 1), UNKNOWN).is_err() {
+        if self.cells.add_row().is_err() {
             return None;
         }
         self.states.push_reserved(state);

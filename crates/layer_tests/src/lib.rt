@@ -11,6 +11,8 @@ mod calls;
 #[cfg(test)]
 mod cut;
 #[cfg(test)]
+mod dfa;
+#[cfg(test)]
 mod elements;
 #[cfg(test)]
 mod letters;

@@ -1,4 +1,5 @@
-use Rattle.std.proofs.Common.{◌≡◌, ◌∙◌, ◌+◌, ◌*◌, ◌-◌, true, not, List, [], ◌∷◌, ◌++◌, length, take, replicate, slice_get, vec_len, is_ok, if◌then◌else◌, refl, sym, ap, subst, arith}
+use Rattle.std.proofs.Common.{◌≡◌, ◌∙◌, true, false, List, [], ◌∷◌, ◌++◌, length, slice_get, refl, sym, ap, subst, arith}
+use Rattle.std.specs.Prelude.{Result, Ok, Err, is_err, OnOk, OnErr}
 use Rattle.collation_skip.specs.declared.automaton.Automaton.{Automaton}
 use Rattle.collation_skip.specs.declared.state.State.{State}
 use Rattle.collation_skip.specs.Rows.{AreRight}
@@ -13,13 +14,19 @@ returns-then-number-ge-MOST_STATES-clause-right c = λ table pattern right. elim
       (right-same table pattern c.args.self.now (record c.args.self.now { states = w.reserve.new.self }) refl w.reserve.ensures.items right)
 ]
 
+refused : {T E P : Type 0} (r : Result T E) → is_err r ≡ true → OnErr r P → P
+refused (Ok x) is p = cc
+refused (Err e) is p = p
+
+done : {T E P : Type 0} (r : Result T E) → is_err r ≡ false → OnOk r P → P
+done (Ok x) is p = p
+done (Err e) is p = cc
+
 pub returns-then-is_err-2-clause-right : goal.returns-then-is_err-2-clause-right
 returns-then-is_err-2-clause-right c = λ table pattern right.
-    let refused = c.is_err-2.ensures.negation ∙ ap not c.if-is_err-2.true in
     let a = c.args.self.now in
-    let n = 258 * (c.len-number.result + 1) in
-    let cells : c.resize.new.self.items ≡ a.cells.items = c.resize.ensures.items ∙ ap (λ b. if b then take n a.cells.items ++ replicate (n - vec_len a.cells) 2147483649 else a.cells.items) refused in
-    right-same table pattern a (record a { cells = c.resize.new.self; states = c.reserve.new.self }) cells c.reserve.ensures.items right
+    let cells = refused c.add_row.result (sym c.is_err-2.ensures.value ∙ c.if-is_err-2.true) c.add_row.ensures.err in
+    right-same table pattern a (record a { cells = c.add_row.new.self; states = c.reserve.new.self }) cells c.reserve.ensures.items right
 
 pub returns-clause-number : goal.returns-clause-number
 returns-clause-number c =
@@ -32,20 +39,11 @@ pub returns-clause-grows : goal.returns-clause-grows
 returns-clause-grows c = λ other state h.
     let a = c.args.self.now in
     let states : c.push_reserved.new.self.items ≡ a.states.items ++ c.args.state ∷ [] = c.push_reserved.ensures.items ∙ ap (λ (l : List State). l ++ c.args.state ∷ []) c.reserve.ensures.items in
-    row-more a (record a { cells = c.resize.new.self; states = c.push_reserved.new.self }) (c.args.state ∷ []) states other state h
+    row-more a (record a { cells = c.add_row.new.self; states = c.push_reserved.new.self }) (c.args.state ∷ []) states other state h
 
 pub returns-clause-right : goal.returns-clause-right
 returns-clause-right c = λ table pattern right.
     let a = c.args.self.now in
-    let n = 258 * (c.len-number.result + 1) in
-    let done : is_ok c.resize.result ≡ true = c.is_err-2.ensures.negation ∙ ap not c.if-is_err-2.false in
     let states : c.push_reserved.new.self.items ≡ a.states.items ++ c.args.state ∷ [] = c.push_reserved.ensures.items ∙ ap (λ (l : List State). l ++ c.args.state ∷ []) c.reserve.ensures.items in
-    let many : c.len-number.result ≡ length a.states.items = omega (arith, c.len-number.ensures, a.states.ok.0) in
-    let cells_len : vec_len a.cells ≡ length a.cells.items = omega (arith, a.cells.ok.0) in
-    let resized : vec_len c.resize.new.self ≡ n = c.resize.ensures.len ∙ ap (λ b. if b then n else vec_len a.cells) done in
-    let long : length c.resize.new.self.items ≡ n = omega (arith, resized, c.resize.new.self.ok.0) in
-    let old = right.len in
-    right-added table pattern a (record a { cells = c.resize.new.self; states = c.push_reserved.new.self }) c.args.state right states
-    (omega (arith, long, many))
-    (λ i less. c.resize.ensures.by_index.0 i 0 (omega (arith, less, old, many)) (omega (arith, less, cells_len)))
-    (λ i past less. let is = c.resize.ensures.by_index.1 i 0 done (omega (arith, past, cells_len)) (omega (arith, less, long)) in omega (arith, is))
+    let cells = done c.add_row.result (sym c.is_err-2.ensures.value ∙ c.if-is_err-2.false) c.add_row.ensures.ok in
+    right-added table pattern a (record a { cells = c.add_row.new.self; states = c.push_reserved.new.self }) c.args.state right states cells

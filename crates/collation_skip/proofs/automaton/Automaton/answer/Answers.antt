@@ -12,10 +12,10 @@ returns-clause-text g c =
     let table = g.W.Weights.table c.args.table.now in
     let pattern = c.args.pattern.now in
     let piece = c.args.piece.now in
-    let at = c.args.cursor.passed_at in
+    let at = c.args.cursor.accepted_at in
     let s = c.in_ok-state.state in
     let stands = c.requires.passed (omega (arith, c.if-cursor-eq0.false)) in
-    let text = text-passed c.laws_of_points.ensures.bytes_of_parts table pattern piece at s stands.0 (omega (arith, c.if-state-eq0.false)) (stands-state table pattern c.args.self.now piece at c.args.cursor.passed_row s c.in_ok-state.ensures stands.1 0) in
+    let text = text-passed c.laws_of_points.ensures.bytes_of_parts table pattern piece at s stands.0 (omega (arith, c.if-state-eq0.false)) (stands-state table pattern c.args.self.now piece at c.args.cursor.accepted_row s c.in_ok-state.ensures stands.1 0) in
     let end : at - s.len ≡ c.in_ok-end.end = let e = c.in_ok-end.ensures in omega (arith, e) in
     subst (λ n. IsUtf8 (take n piece)) end text
 
@@ -24,7 +24,7 @@ returns-clause-passed g c = λ start.
     let table = g.W.Weights.table c.args.table.now in
     let pattern = c.args.pattern.now in
     let piece = c.args.piece.now in
-    let at = c.args.cursor.passed_at in
+    let at = c.args.cursor.accepted_at in
     let s = c.in_ok-state.state in
     let stands = c.requires.passed (omega (arith, c.if-cursor-eq0.false)) in
     let end : at - s.len ≡ c.in_ok-end.end = let e = c.in_ok-end.ensures in omega (arith, e) in
@@ -35,4 +35,4 @@ returns-clause-passed g c = λ start.
     subst (λ n. IsPassed table pattern start (start + n) (chars (take c.in_ok-end.end piece)) next) begin
     (subst (λ n. IsPassed table pattern start (start + (at - s.len - s.before)) (chars (take n piece)) next) end
     (is-passed c.laws_of_points.ensures.bytes_of_parts table pattern piece at s start next stands.0 (omega (arith, c.if-state-eq0.false)) spelled
-    (stands-state table pattern c.args.self.now piece at c.args.cursor.passed_row s c.in_ok-state.ensures stands.1 start)))
+    (stands-state table pattern c.args.self.now piece at c.args.cursor.accepted_row s c.in_ok-state.ensures stands.1 start)))

@@ -28,4 +28,4 @@ pub returns-clause-right : goal.returns-clause-right
 returns-clause-right g c = c.row_of.ensures.right (g.W.Weights.table c.args.table.now) c.args.pattern.now c.requires.right
 
 pub returns-clause-row : goal.returns-clause-row
-returns-clause-row g c = if-some c.row_of.result _ _ (λ row is. ∣ (c.behind.result, is) ∣₁) c.row_of.ensures.row
+returns-clause-row g c = if-some c.row_of.result _ _ (λ row is. (c.behind.result, is)) c.row_of.ensures.row

@@ -1,21 +1,26 @@
-use Rattle.std.proofs.Common.{◌<◌, ◌+◌, refl, sym, subst, arith}
-use Rattle.std.specs.Vec.{with_item}
+use Rattle.std.proofs.Common.{◌<◌, ◌+◌, ◌∙◌, ℕ, List, length, refl, sym, ap, subst, arith}
 use Rattle.std.proofs.lemmas.List.{length-set}
-use Rattle.collation_skip.specs.declared.automaton.TheConstants.{STOP}
+use Rattle.byte_dfa.specs.declared.moves.TheConstants.{STOP}
+use Rattle.byte_dfa.specs.Moves.{HasRow}
 use Rattle.collation_skip.specs.declared.state.State.{State}
 use Rattle.collation_skip.specs.Reached.{IsMove}
 use Rattle.collation_skip.specs.Rows.{IsRow}
-use Rattle.collation_skip.proofs.RowLemmas.{right-set, row-within}
+use Rattle.collation_skip.proofs.RowLemmas.{right-set, row-had}
 use Rattle.collation_skip.proofs.automaton.Automaton.learn.Goals as goal
 use Rattle.collation_skip.proofs.automaton.Automaton.learn.Goals.{in-Some, in-None}
 
-pub index_mut-requires : goal.index_mut-requires
-index_mut-requires g c =
-    let table = g.W.Weights.table c.args.table.now in
+pub set_cell-requires-clause-row : goal.set_cell-requires-clause-row
+set_cell-requires-clause-row g c =
+    row-had (g.W.Weights.table c.args.table.now) c.args.pattern.now c.row_behind-to.new.self c.args.row c.in_ok-state.state c.row_behind-to.ensures.right
+    (c.row_behind-to.ensures.grows c.args.row c.in_ok-state.state c.in_ok-state.ensures)
+
+pub set_cell-requires-clause-cell : goal.set_cell-requires-clause-cell
+set_cell-requires-clause-cell g c =
     let a = c.row_behind-to.new.self in
-    let here = c.row_behind-to.ensures.grows c.args.row c.in_ok-state.state c.in_ok-state.ensures in
-    let within = row-within table c.args.pattern.now a c.args.row c.args.byte c.in_ok-state.state c.row_behind-to.ensures.right here c.ranges.byte.fits in
-    omega (arith, within, a.cells.ok.0)
+    elim c.match-to.branch [
+      | in-Some w ↦ λ below. let found = w.in-Some.ensures.moves in subst (HasRow a.cells) (sym w.cell-is) (row-had (g.W.Weights.table c.args.table.now) c.args.pattern.now a _ found.0 c.row_behind-to.ensures.right found.1)
+      | in-None w ↦ λ below. absurd (omega (arith, below, w.cell-is))
+    ]
 
 pub returns-clause-right : goal.returns-clause-right
 returns-clause-right g c =
@@ -29,5 +34,5 @@ returns-clause-right g c =
       | in-Some w ↦ λ below. let found = w.in-Some.ensures.moves in ∣ (found.0, subst (λ n. IsRow a n found.0) (sym w.cell-is) found.1, found.2) ∣₁
       | in-None w ↦ λ below. absurd (omega (arith, below, w.cell-is))
     ] in
-    right-set table pattern a (record a { cells = with_item a.cells (c.args.row + c.args.byte) c.match-to.cell }) c.args.row c.args.byte c.match-to.cell from c.row_behind-to.ensures.right
-    refl refl (length-set a.cells.items (c.args.row + c.args.byte) c.match-to.cell) here c.ranges.byte.fits move
+    right-set table pattern a (record a { cells = c.set_cell.new.self }) c.args.row c.args.byte c.match-to.cell from c.row_behind-to.ensures.right
+    refl c.set_cell.ensures (ap (λ (l : List ℕ). length l) c.set_cell.ensures ∙ length-set a.cells (c.args.row + c.args.byte) c.match-to.cell) here c.ranges.byte.fits move

@@ -9,4 +9,4 @@ answer-requires-clause-passed g c = λ some.
     let at = c.in_ok-cursor.cursor in
     let piece = c.args.piece.now in
     let passed = c.in_ok-cursor.ensures.passed some in
-    (omega (arith, passed.0, length-take c.min.result piece), stands-whole table c.args.pattern.now c.go.new.self piece c.min.result at.passed_at at.passed_row passed.0 passed.1)
+    (omega (arith, passed.0, length-take c.min.result piece), stands-whole table c.args.pattern.now c.go.new.self piece c.min.result at.accepted_at at.accepted_row passed.0 passed.1)
