@@ -54,6 +54,7 @@ impl Cells {
     }
 
     /// The cell of a byte in a row.
+    #[inline(always)]
     pub fn cell(&self, row: usize, byte: u8) -> u32
         requires { HasRow self.now row }
         ensures { result ≡ slice_index self.now (row + byte) }
@@ -62,6 +63,7 @@ impl Cells {
     }
 
     /// Writes the cell of a byte in a row: another row, or a stop.
+    #[inline(always)]
     pub fn set_cell(&mut self, row: usize, byte: u8, cell: u32)
         requires row { HasRow self.old row }
         requires cell { cell < STOP → HasRow self.old cell }
