@@ -9,7 +9,9 @@ use std::process::Abort;
 
 /// The row behind no letter of `ab`, the one behind its first, and the one behind both, which accepts.
 const NONE: usize = 0;
+
 const FIRST: usize = ROW;
+
 const BOTH: usize = 2 * ROW + 1;
 
 /// Fills the cells of the letters in a row, where a `b` leads to this row. The other cells are not known.
@@ -62,11 +64,12 @@ fn run_over(alloc: Global, cells: &Cells, piece: &[u8], by_four: bool) -> (usize
     (end.at, end.accepted_at)
 }
 
-/// Compares how far runs of both kinds go over a piece.
-fn runs_are(rt: &impl Abort, alloc: Global, piece: &[u8], at: usize, accepted_at: usize) {
+/// Compares how far runs of both kinds go over a piece, and where the one run and the four accepted last.
+fn runs_are(rt: &impl Abort, alloc: Global, piece: &[u8], at: usize, accepted_at: [usize; 2]) {
     let cells = table_of_rows(alloc).expect(rt, "memory");
-    assert_eq!(rt; run_over(alloc, &cells, piece, false), (at, accepted_at));
-    assert_eq!(rt; run_over(alloc, &cells, piece, true), (at, accepted_at));
+    let [one, four] = accepted_at;
+    assert_eq!(rt; run_over(alloc, &cells, piece, false), (at, one));
+    assert_eq!(rt; run_over(alloc, &cells, piece, true), (at, four));
 }
 
 /// Short pieces, which single moves go over: to the end, or to what is no letter.
@@ -81,22 +84,24 @@ fn short_pieces_are_gone_over(rt: HostRuntime) {
         ("aab mab", 3, 3),
         (" ab", 0, 0),
     ] {
+        let accepted_at = [accepted_at, accepted_at];
         runs_are(&rt, rt.alloc(), piece.as_bytes(), at, accepted_at);
     }
 }
 
 /// Long pieces, with `ab` at a place and a space at another one: in each of four runs, in a window, and in the bytes behind the last one.
+/// Four runs note no place but where one goes on alone, before a stop and in the last bytes.
 #[test]
 fn long_pieces_are_gone_over(rt: HostRuntime) {
     for (letters, space, at, accepted_at) in [
-        (10, 3_000, 3_000, 12),
-        (2_990, 3_000, 3_000, 2_992),
-        (2_998, 3_000, 3_000, 3_000),
-        (10, 700, 700, 12),
-        (900, 1_000, 1_000, 902),
-        (900, 2_000, 2_000, 902),
-        (2_400, 2_500, 2_500, 2_402),
-        (2_600, 2_500, 2_500, 0),
+        (10, 3_000, 3_000, [12, 0]),
+        (2_990, 3_000, 3_000, [2_992, 2_992]),
+        (2_998, 3_000, 3_000, [3_000, 3_000]),
+        (10, 700, 700, [12, 0]),
+        (900, 1_000, 1_000, [902, 902]),
+        (900, 2_000, 2_000, [902, 0]),
+        (2_400, 2_500, 2_500, [2_402, 0]),
+        (2_600, 2_500, 2_500, [0, 0]),
     ] {
         let mut piece = [b'm'; 3_000];
         piece[letters] = b'a';
