@@ -38,6 +38,11 @@ pub record IsCursor (cells piece : List ℕ) (cursor : Cursor) : Type 0 where
   pub spot : IsSpot cells piece cursor.at cursor.row
   pub order : cursor.accepted_at ≤ cursor.at
 
+-- a run goes no further than this: the piece has no more bytes, or the cell of the next one is a stop
+abbrev pub HasEnded : List ℕ → List ℕ → Cursor → Type 0
+HasEnded cells piece cursor =
+    (length piece ≤ cursor.at) ⊎ (STOP ≤ slice_index cells (cursor.row + slice_index piece cursor.at))
+
 -- A run came from one cursor to the other by these moves. Where it last accepted is a place on the way, or is as it was.
 pub record Follows (cells piece : List ℕ) (from to : Cursor) : Type 0 where
   pub here : Leads cells piece from.at from.row to.at to.row

@@ -1,5 +1,5 @@
 //! A table of cells: how rows are added and cells filled, and the runs over it.
-ghost use Rattle.std.specs.Prelude.{◌≡◌, ◌+◌, ◌<◌, ◌++◌, length, replicate, slice_index, slice_set, OnOk, OnErr};
+ghost use Rattle.std.specs.Prelude.{◌≡◌, ◌+◌, ◌<◌, ◌++◌, replicate, slice_index, slice_set, OnOk, OnErr};
 ghost use Rattle.byte_dfa.specs.Moves.{Follows, HasRow, IsCursor};
 
 use crate::four_runs::run_by_four;
@@ -32,8 +32,8 @@ impl Model for Cells {
 }
 
 impl Cells {
-    ghost use Rattle.std.specs.Prelude.{◌≡◌, ◌+◌, ◌<◌, ◌++◌, [], length, replicate, slice_index, slice_set, OnOk, OnErr};
-    ghost use Rattle.byte_dfa.specs.Moves.{Follows, HasRow, IsCursor};
+    ghost use Rattle.std.specs.Prelude.{◌≡◌, ◌+◌, ◌<◌, ◌++◌, [], replicate, slice_index, slice_set, OnOk, OnErr};
+    ghost use Rattle.byte_dfa.specs.Moves.{Follows, HasEnded, HasRow, IsCursor};
 
     /// There is no row yet. Takes no memory.
     pub fn new(alloc: Global) -> Cells
@@ -76,7 +76,8 @@ impl Cells {
     #[inline(always)]
     pub fn run_to_end(&self, piece: &[u8], guesses: &mut Guesses, from: Cursor) -> Cursor
         requires { IsCursor self.now piece.now from }
-        ensures { Follows self.now piece.now from result }
+        ensures follows { Follows self.now piece.now from result }
+        ensures end { HasEnded self.now piece.now result }
     {
         run_to_end(&self.cells, piece, &mut guesses.rows, from)
     }

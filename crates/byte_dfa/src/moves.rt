@@ -24,6 +24,7 @@ pub fn come_to(cursor: Cursor, at: usize, row: usize) -> Cursor
     ensures accepted { (result.accepted_at ≡ cursor.accepted_at)
         × (result.accepted_row ≡ cursor.accepted_row)
         ⊎ (result.accepted_at ≡ at) × (result.accepted_row ≡ row) × Accepts row }
+    ensures noted { Accepts row → (result.accepted_at ≡ at) × (result.accepted_row ≡ row) }
 {
     let (accepted_at, accepted_row) = if row % 2 == 1 {
         (at, row)
@@ -46,6 +47,8 @@ pub(crate) fn run(cells: &[u32], piece: &[u8], from: Cursor, to: usize) -> Curso
     requires to { to ≤ length piece.now }
     ensures follows { Follows cells.now piece.now from result }
     ensures to { from.at ≤ to → result.at ≤ to }
+    ensures end { (to ≤ result.at)
+        ⊎ (STOP ≤ slice_index cells.now (result.row + slice_index piece.now result.at)) }
 {
     let mut at = from.at;
     let mut row = from.row;

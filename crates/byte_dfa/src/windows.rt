@@ -2,7 +2,7 @@
 //! bytes, and the processor begins with the next window in the guessed row before it has come there. A guess counts where the run
 //! comes to it, and else only time is lost.
 ghost use Rattle.std.specs.Prelude.{◌≡◌, ◌⊎◌, ◌+◌, ◌<◌, ◌≤◌, length, IfSome};
-ghost use Rattle.byte_dfa.specs.Moves.{Follows, IsCursor, IsSpot, LeadToRows, Leads};
+ghost use Rattle.byte_dfa.specs.Moves.{Follows, HasEnded, IsCursor, IsSpot, LeadToRows, Leads};
 
 use crate::moves::{Cursor, STOP, cell_at, come_to, run};
 use std::alloc::Global;
@@ -47,7 +47,8 @@ impl Guesses {
 pub(crate) fn run_to_end(cells: &[u32], piece: &[u8], guesses: &mut [u32], from: Cursor) -> Cursor
     requires cells { LeadToRows cells.now }
     requires cursor { IsCursor cells.now piece.now from }
-    ensures { Follows cells.now piece.now from result }
+    ensures follows { Follows cells.now piece.now from result }
+    ensures end { HasEnded cells.now piece.now result }
 {
     let near = run_by_windows(cells, piece, guesses, from);
     let end = run(cells, piece, near, piece.len());

@@ -1,4 +1,5 @@
-use Rattle.std.proofs.Common.{◌+◌, inl, inr, refl, arith}
+use Rattle.std.proofs.Common.{◌+◌, ◌≤◌, inl, inr, refl, subst, arith}
+use Rattle.byte_dfa.specs.declared.moves.TheConstants.{STOP}
 use Rattle.byte_dfa.proofs.MoveLemmas.{cursor_at, follows-moved, follows-none, follows-on, leads-one}
 use Rattle.byte_dfa.proofs.moves.run.Goals as goal
 
@@ -46,6 +47,12 @@ returns-after-bytes-clause-follows c = c.bytes.invariant.follows
 
 pub returns-after-bytes-clause-to : goal.returns-after-bytes-clause-to
 returns-after-bytes-clause-to c = c.bytes.invariant.to
+
+pub returns-after-bytes-clause-end : goal.returns-after-bytes-clause-end
+returns-after-bytes-clause-end c = inl (let done = c.bytes-test.false in omega (arith, done))
+
+pub returns-then-cell-ge-STOP-clause-end : goal.returns-then-cell-ge-STOP-clause-end
+returns-then-cell-ge-STOP-clause-end c = inr (subst (λ cell. STOP ≤ cell) c.cell_at-cell.ensures c.if-cell-ge-STOP.true)
 
 pub returns-then-cell-ge-STOP-clause-follows : goal.returns-then-cell-ge-STOP-clause-follows
 returns-then-cell-ge-STOP-clause-follows c = c.bytes.invariant.follows
