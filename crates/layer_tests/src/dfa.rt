@@ -1,4 +1,5 @@
-//! How far the runs of `byte_dfa` go over a table of three rows, which no clause says: with and without guesses, by four runs and by one.
+//! How far the runs of `byte_dfa` go over a table of three rows, and where they accepted last, of which no clause says all: with and without
+//! guesses, by four runs and by one.
 
 ghost use Rattle.std.specs.Prelude.{◌≡◌, ◌*◌, ◌+◌, ◌≤◌, length, IfOk, OnOk};
 ghost use Rattle.byte_dfa.specs.Moves.{HasRow};
