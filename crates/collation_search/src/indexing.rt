@@ -213,18 +213,16 @@ fn bytes_by_steps(text: &[u8]) -> usize {
     if text.len() > SHORT_TEXT {
         return 0;
     }
-    let mut is_there = [false; 256];
-    let mut different = 0usize;
+    // one bit for each byte
+    let mut there = [0u64; 4];
     let mut characters = 0usize;
     for byte in text {
-        let there = &mut is_there[usize::from(*byte)];
-        if !*there {
-            *there = true;
-            different = different.saturating_add(1);
-        }
-        if *byte < 0x80 || *byte >= 0xC0 {
-            characters = characters.saturating_add(1);
-        }
+        there[usize::from(*byte / 64)] |= 1u64.wrapping_shl(u32::from(*byte));
+        characters = characters.wrapping_add(usize::from(*byte < 0x80 || *byte >= 0xC0));
+    }
+    let mut different = 0usize;
+    for bits in &there {
+        different = different.wrapping_add(bits.count_ones() as usize);
     }
     if characters.saturating_add(text.len()) > different.saturating_mul(FOR_EACH) {
         return 0;
