@@ -1,5 +1,6 @@
--- Runs of four: where they are after some moves, and one move more.
-use Rattle.std.proofs.Common.{◌≡◌, ℕ, ◌+◌, ◌<◌, List, length, slice_index, refl, arith}
+-- Runs of four: where they are after some moves, one move more, and cells taken together.
+use Rattle.std.proofs.Common.{◌≡◌, ℕ, ◌+◌, ◌<◌, List, length, slice_index, bit_or, refl, arith}
+use Rattle.std.proofs.lemmas.Nat.{le_or_l, le_or_r}
 use Rattle.byte_dfa.specs.declared.four_runs.Spot.{Spot}
 use Rattle.byte_dfa.specs.declared.four_runs.Spots.{Spots}
 use Rattle.byte_dfa.specs.declared.moves.TheConstants.{STOP}
@@ -28,3 +29,16 @@ pub run-more : (cells piece : List ℕ) (from : Spot) (n row cell : ℕ) → Lea
     HasRun cells piece from (spot_at (from.at + n) row) → HasRun cells piece from (spot_at (from.at + (n + 1)) cell)
 run-more cells piece from n row cell rows within byte is below h =
     leads-same cells piece from.at from.row (from.at + n + 1) cell (from.at + (n + 1)) cell (omega arith) refl (leads-more cells piece from.at from.row (from.at + n) row cell rows within byte is below h)
+
+-- cells that are small together are small each
+pub each-below : (a b c d limit : ℕ) → bit_or (bit_or (bit_or a b) c) d < limit → (a < limit) × ((b < limit) × ((c < limit) × (d < limit)))
+each-below a b c d limit all =
+    let ab = bit_or a b in
+    let abc = bit_or ab c in
+    let in_a = le_or_l a b in
+    let in_b = le_or_r a b in
+    let in_ab = le_or_l ab c in
+    let in_c = le_or_r ab c in
+    let in_abc = le_or_l abc d in
+    let in_d = le_or_r abc d in
+    (omega (arith, all, in_a, in_ab, in_abc), (omega (arith, all, in_b, in_ab, in_abc), (omega (arith, all, in_c, in_abc), omega (arith, all, in_d))))

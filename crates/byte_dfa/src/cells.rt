@@ -72,7 +72,7 @@ impl Cells {
         self.cells[row + byte as usize] = cell;
     }
 
-    /// Goes up to the end of the piece, by windows, or to a stop.
+    /// Goes up to the end of the piece, by windows and by single moves, or to a stop.
     #[inline(always)]
     pub fn run_to_end(&self, piece: &[u8], guesses: &mut Guesses, from: Cursor) -> Cursor
         requires { IsCursor self.now piece.now from }

@@ -135,19 +135,19 @@ fn move_all(cells: &[u32], piece: &[u8], from: Spots, len: usize) -> Option<Spot
     let mut fourth = from.fourth.row;
     let mut moves = 0;
     'moves: while moves < len {
-        let one = cell_at(cells, first, piece[from.first.at + moves]) as usize;
-        let two = cell_at(cells, second, piece[from.second.at + moves]) as usize;
-        let three = cell_at(cells, third, piece[from.third.at + moves]) as usize;
-        let four = cell_at(cells, fourth, piece[from.fourth.at + moves]) as usize;
-        // rows are small, so the sum is that large only where one of them is no row
-        let all = one + two + three + four;
-        if all >= STOP as usize {
+        let one = cell_at(cells, first, piece[from.first.at + moves]);
+        let two = cell_at(cells, second, piece[from.second.at + moves]);
+        let three = cell_at(cells, third, piece[from.third.at + moves]);
+        let four = cell_at(cells, fourth, piece[from.fourth.at + moves]);
+        // the highest bit of a cell is set where it is no row, and then it is set in the `or` of all four
+        let all = one | two | three | four;
+        if all >= STOP {
             return None;
         }
-        first = one;
-        second = two;
-        third = three;
-        fourth = four;
+        first = one as usize;
+        second = two as usize;
+        third = three as usize;
+        fourth = four as usize;
         moves += 1;
     }
     Some(Spots {

@@ -1,7 +1,7 @@
 //! A run by windows of a few bytes. A move waits for the one before it, so the row behind a window is guessed by the window's last
 //! bytes, and the processor begins with the next window in the guessed row before it has come there. A guess counts where the run
 //! comes to it, and else only time is lost.
-ghost use Rattle.std.specs.Prelude.{◌≡◌, ◌⊎◌, ◌+◌, ◌<◌, ◌≤◌, length, IfSome};
+ghost use Rattle.std.specs.Prelude.{◌≡◌, ◌⊎◌, ◌+◌, ◌<◌, ◌≤◌, length, slice_index, IfSome};
 ghost use Rattle.byte_dfa.specs.Moves.{Follows, HasEnded, IsCursor, IsSpot, LeadToRows, Leads};
 
 use crate::moves::{Cursor, STOP, cell_at, come_to, run};
@@ -15,6 +15,9 @@ const GUESSES: usize = 4_096;
 
 /// The fewest bytes of a piece for which guesses are made.
 const WORTH_GUESSES: usize = 2_048;
+
+/// How many bytes a leg has, behind which it is seen whether a row accepts.
+const LEG: usize = 8_192;
 
 /// At a place of some bytes the row that was met last behind such bytes, or anything: a wrong one costs time alone.
 #[derive(Drop)]
@@ -42,20 +45,48 @@ impl Guesses {
     }
 }
 
-/// Goes up to the end of the piece: by windows, and by single moves where they end. Where these come to no row that accepts, the last one
-/// before them is looked for.
+/// Goes up to the end of the piece: by windows, and by single moves where they end. Single moves see all rows that they come to, windows
+/// those at their ends. So behind a leg in which windows come to no row that accepts, single moves go on until they come to one.
 pub(crate) fn run_to_end(cells: &[u32], piece: &[u8], guesses: &mut [u32], from: Cursor) -> Cursor
     requires cells { LeadToRows cells.now }
     requires cursor { IsCursor cells.now piece.now from }
     ensures follows { Follows cells.now piece.now from result }
     ensures end { HasEnded cells.now piece.now result }
 {
-    let near = run_by_windows(cells, piece, guesses, from);
-    let end = run(cells, piece, near, piece.len());
-    if end.accepted_at >= near.at || near.at == from.at {
+    let mut begun = from;
+    let mut near = run_by_windows(cells, piece, guesses, from);
+    let mut cursor = near;
+    'legs: loop {
+        let to = cursor.at + LEG.min(piece.len() - cursor.at);
+        cursor = run(cells, piece, cursor, to);
+        if cursor.at < to || to == piece.len() {
+            break;
+        }
+        if cursor.accepted_at >= near.at {
+            begun = cursor;
+            near = run_by_windows(cells, piece, guesses, cursor);
+            cursor = near;
+        }
+    }
+    noted(cells, piece, begun, near, cursor)
+}
+
+/// The same cursor, behind windows and single moves. Where these came to no row that accepts, the last one is looked for that windows went
+/// over: at most two legs of them are gone over again.
+#[inline(always)]
+fn noted(cells: &[u32], piece: &[u8], begun: Cursor, near: Cursor, end: Cursor) -> Cursor
+    requires cells { LeadToRows cells.now }
+    requires begun { IsCursor cells.now piece.now begun }
+    requires near { Follows cells.now piece.now begun near }
+    requires end { Follows cells.now piece.now near end }
+    ensures follows { Follows cells.now piece.now begun result }
+    ensures at { result.at ≡ end.at }
+    ensures row { result.row ≡ end.row }
+{
+    if end.accepted_at >= near.at || near.at == begun.at {
         return end;
     }
-    let back = back_to_accepted(from, near);
+    let back = back_to_accepted(begun, near);
     let before = run(cells, piece, back, piece.len().min(near.at));
     Cursor {
         at: end.at,
@@ -65,7 +96,8 @@ pub(crate) fn run_to_end(cells: &[u32], piece: &[u8], guesses: &mut [u32], from:
     }
 }
 
-/// Goes by whole windows, up to one that is cut off by the end of the piece or by a stop.
+/// Goes by whole windows, up to one that is cut off by the end of the piece or by a stop, or to the end of a leg in which none came to a
+/// row that accepts.
 #[inline(never)]
 fn run_by_windows(cells: &[u32], piece: &[u8], guesses: &mut [u32], from: Cursor) -> Cursor
     requires cells { LeadToRows cells.now }
@@ -77,18 +109,25 @@ fn run_by_windows(cells: &[u32], piece: &[u8], guesses: &mut [u32], from: Cursor
     }
     let last = piece.len() - WINDOW;
     let mut cursor = from;
-    'windows: while cursor.at <= last {
-        let place = place_of(&piece[cursor.at..cursor.at + WINDOW]);
-        let guess = guesses[place] as usize;
-        let Some(row) = move_window(cells, piece, cursor.at, cursor.row) else {
+    'legs: while cursor.at <= last {
+        let begun = cursor.at;
+        let end = last.min(begun + LEG);
+        'windows: while cursor.at <= end {
+            let place = place_of(&piece[cursor.at..cursor.at + WINDOW]);
+            let guess = guesses[place] as usize;
+            let Some(row) = move_window(cells, piece, cursor.at, cursor.row) else {
+                return cursor;
+            };
+            // where the two are equal the processor has gone on from the guess before it knew the row
+            if row == guess {
+                cursor = come_to(cursor, cursor.at + WINDOW, guess);
+            } else {
+                guesses[place] = row as u32;
+                cursor = come_to(cursor, cursor.at + WINDOW, row);
+            }
+        }
+        if cursor.accepted_at <= begun {
             break;
-        };
-        // where the two are equal the processor has gone on from the guess before it knew the row
-        if row == guess {
-            cursor = come_to(cursor, cursor.at + WINDOW, guess);
-        } else {
-            guesses[place] = row as u32;
-            cursor = come_to(cursor, cursor.at + WINDOW, row);
         }
     }
     cursor

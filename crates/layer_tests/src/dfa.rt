@@ -113,3 +113,103 @@ fn long_pieces_are_gone_over(rt: HostRuntime) {
         runs_are(&rt, rt.alloc(), &piece, at, accepted_at);
     }
 }
+
+/// The end of a run that begins at an offset, in a row that accepts, and where it accepted last.
+fn run_behind(
+    alloc: Global,
+    cells: &Cells,
+    piece: &[u8],
+    at: usize,
+    with_guesses: bool,
+) -> (usize, usize)
+    requires cells { length cells.now ≡ 3 * ROW }
+    requires at { at ≤ length piece.now }
+{
+    let mut guesses = Guesses::new(alloc);
+    if with_guesses {
+        guesses.make(alloc, piece.len());
+    }
+    let begun = Cursor {
+        at,
+        row: BOTH,
+        accepted_at: at,
+        accepted_row: BOTH,
+    };
+    let end = cells.run_to_end(piece, &mut guesses, begun);
+    (end.at, end.accepted_at)
+}
+
+/// Writes `ab` at a place, as far as the piece has it.
+fn put_both(piece: &mut [u8], place: usize) {
+    for (at, letter) in [(place, b'a'), (place.saturating_add(1), b'b')] {
+        if let Some(byte) = piece.get_mut(at) {
+            *byte = letter;
+        }
+    }
+}
+
+/// Pieces of several legs of 8,192 bytes, with `ab` twice near the beginning and at one other place, and a space: on both sides of the ends
+/// of the first two legs, where windows end and within them, and in legs that are gone over by windows or by single moves.
+#[test]
+fn legs_are_gone_over(rt: HostRuntime) {
+    let cells = table_of_rows(rt.alloc()).expect(&rt, "memory");
+    for letters in [
+        8_189, 8_190, 8_191, 8_192, 8_790, 9_000, 16_382, 16_383, 16_384, 24_000, 39_998,
+    ] {
+        for space in [
+            8_191, 8_192, 8_193, 10_000, 16_383, 16_384, 16_385, 30_000, 40_000,
+        ] {
+            let mut piece = [b'm'; 40_000];
+            for place in [10, 100, letters] {
+                put_both(&mut piece, place);
+            }
+            if let Some(byte) = piece.get_mut(space) {
+                *byte = b' ';
+            }
+            let accepted_at = if letters + 2 <= space {
+                letters + 2
+            } else {
+                102
+            };
+            let ended = run_over(rt.alloc(), &cells, &piece, false);
+            assert_eq!(&rt; ended, (space, accepted_at));
+        }
+    }
+}
+
+/// Pieces that end with a leg, or next to its end, with `ab` as their last bytes.
+#[test]
+fn pieces_end_with_a_leg(rt: HostRuntime) {
+    let cells = table_of_rows(rt.alloc()).expect(&rt, "memory");
+    let long = [b'm'; 40_000];
+    for len in [
+        8_191, 8_192, 8_193, 8_204, 16_383, 16_384, 16_385, 24_576, 24_577,
+    ] {
+        let mut piece = long;
+        put_both(&mut piece, len - 2);
+        let ended = run_over(rt.alloc(), &cells, &piece[..len], false);
+        assert_eq!(&rt; ended, (len, len));
+        let before = run_over(rt.alloc(), &cells, &piece[..len - 1], false);
+        assert_eq!(&rt; before, (len - 1, 0));
+    }
+}
+
+/// Rows that accept far from one another, in runs that begin behind one, with guesses and without.
+#[test]
+fn rows_accept_far_apart(rt: HostRuntime) {
+    let cells = table_of_rows(rt.alloc()).expect(&rt, "memory");
+    for step in [50, 200, 1_000, 3_000, 9_000, 17_000, 40_000] {
+        let mut piece = [b'm'; 40_000];
+        let mut accepted_at = 50;
+        for place in (57..40_000).step_by(step) {
+            put_both(&mut piece, place);
+            if place + 2 <= 40_000 {
+                accepted_at = place + 2;
+            }
+        }
+        for with_guesses in [false, true] {
+            let ended = run_behind(rt.alloc(), &cells, &piece, 50, with_guesses);
+            assert_eq!(&rt; ended, (40_000, accepted_at));
+        }
+    }
+}

@@ -1,6 +1,7 @@
 use Rattle.std.proofs.Common.{◌≡◌, ◌+◌, subst, arith}
 use Rattle.byte_dfa.specs.Runs.{HaveRun}
-use Rattle.byte_dfa.proofs.RunLemmas.{moved, run-more, run-none}
+use Rattle.byte_dfa.specs.declared.moves.TheConstants.{STOP}
+use Rattle.byte_dfa.proofs.RunLemmas.{each-below, moved, run-more, run-none}
 use Rattle.byte_dfa.proofs.four_runs.move_all.Goals as goal
 
 pub moves-init : goal.moves-init
@@ -42,16 +43,17 @@ moves-preserved c =
     let run = c.moves.invariant.run in
     let more = run-more c.args.cells.now c.args.piece.now in
     let going = c.moves-test.true in
-    let all = c.if-all.false in
+    let all = c.if-all-ge-STOP.false in
+    let below = each-below c.cell_at-one.result c.cell_at-two.result c.cell_at-three.result c.cell_at-four.result STOP all in
     record {
       within = omega (arith, going);
       run = (
-        more from.first n c.moves.first c.cell_at-one.result rows (omega (arith, going, c.requires.first)) (c.type_inv.piece (from.first.at + n)).fits c.cell_at-one.ensures (omega (arith, all)) run.0,
+        more from.first n c.moves.first c.cell_at-one.result rows (omega (arith, going, c.requires.first)) (c.type_inv.piece (from.first.at + n)).fits c.cell_at-one.ensures below.0 run.0,
         (
-          more from.second n c.moves.second c.cell_at-two.result rows (omega (arith, going, c.requires.second)) (c.type_inv.piece (from.second.at + n)).fits c.cell_at-two.ensures (omega (arith, all)) run.1.0,
+          more from.second n c.moves.second c.cell_at-two.result rows (omega (arith, going, c.requires.second)) (c.type_inv.piece (from.second.at + n)).fits c.cell_at-two.ensures below.1.0 run.1.0,
           (
-            more from.third n c.moves.third c.cell_at-three.result rows (omega (arith, going, c.requires.third)) (c.type_inv.piece (from.third.at + n)).fits c.cell_at-three.ensures (omega (arith, all)) run.1.1.0,
-            more from.fourth n c.moves.fourth c.cell_at-four.result rows (omega (arith, going, c.requires.fourth)) (c.type_inv.piece (from.fourth.at + n)).fits c.cell_at-four.ensures (omega (arith, all)) run.1.1.1,
+            more from.third n c.moves.third c.cell_at-three.result rows (omega (arith, going, c.requires.third)) (c.type_inv.piece (from.third.at + n)).fits c.cell_at-three.ensures below.1.1.0 run.1.1.0,
+            more from.fourth n c.moves.fourth c.cell_at-four.result rows (omega (arith, going, c.requires.fourth)) (c.type_inv.piece (from.fourth.at + n)).fits c.cell_at-four.ensures below.1.1.1 run.1.1.1,
           ),
         ),
       );

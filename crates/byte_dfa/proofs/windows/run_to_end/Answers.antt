@@ -1,42 +1,33 @@
-use Rattle.std.proofs.Common.{◌≤◌, arith}
-use Rattle.byte_dfa.proofs.MoveLemmas.{come-cursor, follows-back, follows-on}
+use Rattle.byte_dfa.proofs.MoveLemmas.{come-cursor, follows-none, follows-on}
 use Rattle.byte_dfa.proofs.windows.run_to_end.Goals as goal
 
-pub run-end-requires-clause-cursor : goal.run-end-requires-clause-cursor
-run-end-requires-clause-cursor c = come-cursor c.args.cells.now c.args.piece.now c.args.from c.run_by_windows-near.result c.run_by_windows-near.ensures
-
-pub returns-then-end-near-clause-follows : goal.returns-then-end-near-clause-follows
-returns-then-end-near-clause-follows c = follows-on c.args.cells.now c.args.piece.now c.args.from c.run_by_windows-near.result c.run-end.result c.run_by_windows-near.ensures c.run-end.ensures.follows
-
-pub run-before-requires-clause-cursor : goal.run-before-requires-clause-cursor
-run-before-requires-clause-cursor c =
+-- windows go on from where single moves came
+pub legs-preserved-then-cursor-near : goal.legs-preserved-then-cursor-near
+legs-preserved-then-cursor-near c =
     let cells = c.args.cells.now in
     let piece = c.args.piece.now in
     let from = c.args.from in
-    let back = c.back_to_accepted-back.result in
-    come-cursor cells piece from back (follows-back cells piece from c.run_by_windows-near.result back c.requires.cursor c.run_by_windows-near.ensures c.back_to_accepted-back.ensures).0
-
-pub returns-clause-follows : goal.returns-clause-follows
-returns-clause-follows c =
-    let cells = c.args.cells.now in
-    let piece = c.args.piece.now in
-    let from = c.args.from in
-    let near = c.run_by_windows-near.result in
-    let back = c.back_to_accepted-back.result in
-    let before = c.run-before.result in
-    let went_back = follows-back cells piece from near back c.requires.cursor c.run_by_windows-near.ensures c.back_to_accepted-back.ensures in
-    let within = went_back.0.here.spot.within in
-    let up_to : before.at ≤ c.min.result = c.run-before.ensures.to (omega (arith, within, went_back.1, c.min.ensures)) in
-    let order = c.run-before.ensures.follows.order in
-    let on = c.run-end.ensures.follows.here.on in
+    let l = c.legs in
+    let i = l.invariant in
+    let come = c.run-cursor.result in
+    let near = c.run_by_windows-near-then-cursor-near in
     record {
-      here = (follows-on cells piece from near c.run-end.result c.run_by_windows-near.ensures c.run-end.ensures.follows).here;
-      order = omega (arith, order, up_to, on, c.min.ensures);
-      accepted = (follows-on cells piece from back before went_back.0 c.run-before.ensures.follows).accepted;
+      begun = follows-on cells piece from l.begun come i.begun (follows-on cells piece l.begun l.near come i.near (follows-on cells piece l.near l.cursor come i.moves c.run-cursor.ensures.follows));
+      near = near.ensures;
+      moves = follows-none cells piece near.result (come-cursor cells piece come near.result near.ensures);
     }
 
-pub returns-then-end-near-clause-end : goal.returns-then-end-near-clause-end
-returns-then-end-near-clause-end c = c.run-end.ensures.end
+pub legs-preserved : goal.legs-preserved
+legs-preserved c =
+    let l = c.legs in
+    record {
+      begun = l.invariant.begun;
+      near = l.invariant.near;
+      moves = follows-on c.args.cells.now c.args.piece.now l.near l.cursor c.run-cursor.result l.invariant.moves c.run-cursor.ensures.follows;
+    }
 
-pub returns-clause-end : goal.returns-clause-end
-returns-clause-end c = c.run-end.ensures.end
+pub noted-requires-clause-end : goal.noted-requires-clause-end
+noted-requires-clause-end c = follows-on c.args.cells.now c.args.piece.now c.legs.near c.legs.cursor c.run-cursor.result c.legs.invariant.moves c.run-cursor.ensures.follows
+
+pub returns-clause-follows : goal.returns-clause-follows
+returns-clause-follows c = follows-on c.args.cells.now c.args.piece.now c.args.from c.legs.begun c.noted.result c.legs.invariant.begun c.noted.ensures.follows
