@@ -10,7 +10,7 @@ use Rattle.nfd_points.specs.Laws.{DecompositionsAreShort}
 use Rattle.collation_table.specs.Table.{TableMap}
 use Rattle.collation_elements.specs.Units.{units}
 use Rattle.collation_letters.specs.Apart.{EndsBefore, IsNext}
-use Rattle.collation_letters.proofs.ApartLaws.{Laws}
+use Rattle.collation_letters.specs.Laws.{LetterLaws}
 
 -- ---- where units end
 
@@ -90,7 +90,7 @@ ends_here table ps at c b ends = ends b.first (ap (λ t. slice_get t 0) b.is)
 pub ends_there : (table : TableMap) (ps : List Point) (at c : ℕ) (b : IsBegun (points_of at c)) → Splits table ps b.first → EndsBefore table ps at c
 ends_there table ps at c b splits = λ x is. subst (Splits table ps) (same_Some b.first x (sym (ap (λ t. slice_get t 0) b.is) ∙ is)) splits
 
-one_good : Laws → (c : ℕ) → point_fault (c ∷ []) ≡ None
+one_good : LetterLaws → (c : ℕ) → point_fault (c ∷ []) ≡ None
 one_good laws c =
     let few = (laws.short c).1 in
     let one : flat_map decomposition (c ∷ []) ≡ decomposition c = append-nil (decomposition c) in
@@ -109,7 +109,7 @@ begun_append [] ys b zs same = record { first = b.first; others = b.others; is =
 begun_append (x ∷ xs) ys b zs same = record { first = x; others = xs ++ ys; is = same }
 
 -- the points of characters in a row begin with those of the first
-pub begun_from : Laws → (at c : ℕ) (cs all : List ℕ) → all ≡ c ∷ cs → IsBegun (points_from at all)
+pub begun_from : LetterLaws → (at c : ℕ) (cs all : List ℕ) → all ≡ c ∷ cs → IsBegun (points_from at all)
 begun_from laws at c cs all same =
     let b = begun laws.short at c in
     record {
@@ -118,11 +118,11 @@ begun_from laws at c cs all same =
       is = ap (points_from at) same ∙ from_first at c cs ∙ ap (λ (t : List Point). t ++ points_from (at + len_utf8 c) cs) b.is;
     }
 
-pub ends_first : (laws : Laws) (table : TableMap) (ps : List Point) (at c : ℕ) (cs all : List ℕ) (same : all ≡ c ∷ cs) → EndsBefore table ps at c → Splits table ps (begun_from laws at c cs all same).first
+pub ends_first : (laws : LetterLaws) (table : TableMap) (ps : List Point) (at c : ℕ) (cs all : List ℕ) (same : all ≡ c ∷ cs) → EndsBefore table ps at c → Splits table ps (begun_from laws at c cs all same).first
 unfolding begun_from begun
 ends_first laws table ps at c cs all same ends = ends_here table ps at c (begun laws.short at c) ends
 
-pub begins_all : Laws → (at other c : ℕ) (cs all : List ℕ) → all ≡ c ∷ cs → begins_with_starter (points_of at c) ≡ true → begins_with_starter (points_from other all) ≡ true
+pub begins_all : LetterLaws → (at other c : ℕ) (cs all : List ℕ) → all ≡ c ∷ cs → begins_with_starter (points_of at c) ≡ true → begins_with_starter (points_from other all) ≡ true
 begins_all laws at other c cs all same h =
     ap begins_with_starter (ap (points_from other) same ∙ from_first other c cs)
     ∙ begins-append (points_of other c) (points_from (other + len_utf8 c) cs) (begun laws.short other c) (begins_anywhere at other c h)
@@ -139,7 +139,7 @@ next-none table start next begins =
     }
 
 -- more characters after some
-pub next-more : Laws → (table : TableMap) (start c next : ℕ) (cs others more : List ℕ) → more ≡ c ∷ others → IsNext table start cs c → IsNext table (start + byte_len cs) more next → IsNext table start (cs ++ more) next
+pub next-more : LetterLaws → (table : TableMap) (start c next : ℕ) (cs others more : List ℕ) → more ≡ c ∷ others → IsNext table start cs c → IsNext table (start + byte_len cs) more next → IsNext table start (cs ++ more) next
 next-more laws table start c next cs others more same h n =
     let at = start + byte_len cs in
     let A = points_from start cs in
@@ -159,7 +159,7 @@ next-more laws table start c next cs others more same h n =
     }
 
 -- their units are their own
-pub units-next : Laws → (table : TableMap) (start c : ℕ) (cs others more : List ℕ) → more ≡ c ∷ others → EndsBefore table (points_from start cs) (start + byte_len cs) c →
+pub units-next : LetterLaws → (table : TableMap) (start c : ℕ) (cs others more : List ℕ) → more ≡ c ∷ others → EndsBefore table (points_from start cs) (start + byte_len cs) c →
     units table (points_from start (cs ++ more)) ≡ units table (points_from start cs) ++ units table (points_from (start + byte_len cs) more)
 units-next laws table start c cs others more same ends =
     let at = start + byte_len cs in
@@ -168,7 +168,7 @@ units-next laws table start c cs others more same ends =
     ap (units table) (laws.parts start cs more) ∙ units-more table A (points_from at more) b.others b.first b.is (ends_first laws table A at c others more same ends)
 
 -- a character by itself
-pub next_of_one : Laws → (table : TableMap) (at c next : ℕ) → begins_with_starter (points_of (at + len_utf8 c) next) ≡ true → EndsBefore table (points_of at c) (at + len_utf8 c) next →
+pub next_of_one : LetterLaws → (table : TableMap) (at c next : ℕ) → begins_with_starter (points_of (at + len_utf8 c) next) ≡ true → EndsBefore table (points_of at c) (at + len_utf8 c) next →
     IsNext table at (c ∷ []) next
 next_of_one laws table at c next begins ends =
     let one = len_one c in

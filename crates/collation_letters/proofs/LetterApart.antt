@@ -15,7 +15,7 @@ use Rattle.collation_letters.specs.declared.letter.Role.{Role}
 use Rattle.collation_letters.specs.declared.letter.Role.TheVariants.{Steps, Plain, Base, VariableBase, Silent, PrimaryMark, Mark}
 use Rattle.collation_letters.specs.Letters.{is_mark, counted, IsLetter}
 use Rattle.collation_letters.specs.Apart.{IsNext}
-use Rattle.collation_letters.proofs.ApartLaws.{Laws}
+use Rattle.collation_letters.specs.Laws.{LetterLaws}
 use Rattle.collation_letters.proofs.ApartLemmas.{begins_anywhere, from_one, many_at}
 use Rattle.collation_letters.proofs.CharacterLemmas.{apart-at, points_are_shifted}
 
@@ -61,7 +61,7 @@ abbrev pub BeforeLaw : Type 0
 BeforeLaw =
     (table : TableMap) (ps : List Point) (d : Point) (more : List Point) → is_starter d ≡ true → ContinuesNoString table d.cp → units table (ps ++ d ∷ more) ≡ units table ps ++ units table (d ∷ more)
 
-pub next-of_letter : Laws → OrderingIsShifted → PointsAreShifted → BeforeLaw → (table : TableMap) (pattern : Compiled) (at : ℕ) (cs : List ℕ) (next : ℕ) (letter following : Letter) → letter.role ≢ Steps →
+pub next-of_letter : LetterLaws → OrderingIsShifted → PointsAreShifted → BeforeLaw → (table : TableMap) (pattern : Compiled) (at : ℕ) (cs : List ℕ) (next : ℕ) (letter following : Letter) → letter.role ≢ Steps →
     begins_with_starter (points_from 0 (next ∷ [])) ≡ true → (letter.is_closed ≡ true ⊎ following.is_apart ≡ true) → IsLetter table pattern cs letter → IsLetter table pattern (next ∷ []) following →
     IsNext table at cs next
 next-of_letter laws ordering shift before table pattern at cs next letter following known starter which h f =

@@ -2,7 +2,6 @@ pub mod SymbolLemmas
 pub mod LetterLemmas
 pub mod JoiningLemmas
 pub mod PairLemmas
-pub mod ApartLaws
 pub mod ApartLemmas
 pub mod CharacterLemmas
 pub mod LetterApart

@@ -1,4 +1,5 @@
 pub mod Symbols
+pub mod Laws
 pub mod Letters
 pub mod Finding
 pub mod Joining

@@ -6,9 +6,9 @@ ghost use Rattle.collation_letters.specs.Apart.{IsNext};
 ghost use Rattle.collation_letters.specs.Letters.{IsLetter, is_mark};
 ghost use Rattle.collation_letters.specs.declared.letter.Role.TheVariants.{Steps};
 
+use crate::laws::laws_of_characters;
 use crate::letter::{Letter, Role};
 use collation_elements::units_stay_apart;
-use nfd_points::laws::{laws_of_decompositions, laws_of_faults, laws_of_ordering, laws_of_points};
 
 /// Whether no unit reaches from the characters of a letter, which is not left to the steps, to the character that follows, and that
 /// begins with a starter, as far as is known.
@@ -21,10 +21,7 @@ pub fn is_next(letter: &Letter, following: &Letter) -> bool
     ensures known { result ≡ true → (letter.now.role ≢ Steps) × (is_mark letter.now.role ≡ false) }
 {
     units_stay_apart();
-    laws_of_points();
-    laws_of_ordering();
-    laws_of_faults();
-    laws_of_decompositions();
+    laws_of_characters();
     match letter.role {
         // of most letters one question is enough
         Role::Plain => following.is_starter(),

@@ -22,7 +22,7 @@ mod symbols;
 
 pub use crate::apart::is_next;
 pub use crate::finding::letter_of;
-pub use crate::laws::laws_of_symbols;
+pub use crate::laws::{laws_of_characters, laws_of_symbols};
 pub use crate::letter::{Letter, Role, UNKNOWN};
 pub use crate::pairs::letter_of_pair;
 pub use crate::store::Letters;

@@ -18,7 +18,6 @@ pub mod SavedState
 pub mod RestoredState
 pub mod ResumeLemmas
 pub mod CharactersTaken
-pub mod ApartLaws
 pub mod ApartLemmas
 pub mod PauseLemmas
 pub mod EarlyLemmas

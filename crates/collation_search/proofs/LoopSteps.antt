@@ -14,12 +14,12 @@ use Rattle.collation_search.specs.declared.matching.Matcher.{Matcher}
 use Rattle.collation_search.specs.Apart.{AreApart}
 use Rattle.collation_search.specs.Matching.{HasWalkedOn}
 use Rattle.collation_search.specs.LetterRun.{AreNext, HasComeTo}
-use Rattle.collation_search.proofs.ApartLaws.{Laws}
+use Rattle.collation_letters.specs.Laws.{LetterLaws}
 use Rattle.collation_search.proofs.ApartLemmas.{apart-none, apart-more, units-apart, from_none}
 use Rattle.collation_search.proofs.CharacterLemmas.{on-none, on-more, text-part, chars-len, spells-after}
 
 -- nothing so far
-pub come-none : Laws → (table : TableMap) (pattern : Compiled) (piece : List ℕ) (offset reach first : ℕ) (matcher : Matcher) → len_utf8 first ≤ length piece → SpellsCharacter (take (len_utf8 first) piece) first →
+pub come-none : LetterLaws → (table : TableMap) (pattern : Compiled) (piece : List ℕ) (offset reach first : ℕ) (matcher : Matcher) → len_utf8 first ≤ length piece → SpellsCharacter (take (len_utf8 first) piece) first →
     begins_with_starter (points_of offset first) ≡ true → HasComeTo table pattern piece offset reach first matcher matcher 0 first []
 come-none laws table pattern piece offset reach first matcher within spelled begins =
     let none : points_from offset (chars (take 0 piece)) ≡ [] = ap (points_from offset) chars-nil ∙ from_none offset in
@@ -37,7 +37,7 @@ joined : (cs others : List ℕ) (c next : ℕ) → (cs ++ c ∷ others) ++ next 
 joined cs others c next = append_assoc cs (c ∷ others) (next ∷ []) ∙ sym (append_assoc cs (c ∷ []) (others ++ next ∷ []))
 
 -- and the next characters
-pub come-further : Laws → (table : TableMap) (pattern : Compiled) (piece : List ℕ) (offset reach first at to c next : ℕ) (m m₁ m₂ : Matcher) (ranges found : List (ℕ × ℕ)) →
+pub come-further : LetterLaws → (table : TableMap) (pattern : Compiled) (piece : List ℕ) (offset reach first at to c next : ℕ) (m m₁ m₂ : Matcher) (ranges found : List (ℕ × ℕ)) →
     HasComeTo table pattern piece offset reach first m m₁ at c ranges → AreNext table piece offset reach at to c next →
     HasWalkedOn table pattern m₁ m₂ (units table (points_from (offset + at) (chars (take (to - at) (drop at piece))))) found →
     HasComeTo table pattern piece offset reach first m m₂ to next (ranges ++ found)

@@ -17,7 +17,7 @@ use Rattle.collation_search.specs.declared.matching.Matcher.{Matcher}
 use Rattle.collation_search.specs.Apart.{EndsBefore, AreApart, IsPausedBefore}
 use Rattle.collation_search.specs.Matching.{HasWalked, HasWalkedOn, HasMatched}
 use Rattle.collation_search.specs.Walks.{WalksOver}
-use Rattle.collation_search.proofs.ApartLaws.{Laws}
+use Rattle.collation_letters.specs.Laws.{LetterLaws}
 use Rattle.collation_search.proofs.ApartLemmas.{Splits, begun, begins_anywhere, from_first, from_none, len_none, units-more, splits-more, ends_here, ends_there}
 
 not_both : (b rest : Bool) → b ≡ true → (not b && rest) ≡ true → ⊥
@@ -39,11 +39,11 @@ begins-prefix (p ∷ ps) qs h = h
 head-same : (x y : ℕ) (xs ys : List ℕ) → x ∷ xs ≡ y ∷ ys → x ≡ y
 head-same x y xs ys h = cc
 
-run_begins : Laws → (table : TableMap) (start : ℕ) (cs : List ℕ) (next : ℕ) → AreApart table start cs next → begins_with_starter (points_from start cs) ≡ true
+run_begins : LetterLaws → (table : TableMap) (start : ℕ) (cs : List ℕ) (next : ℕ) → AreApart table start cs next → begins_with_starter (points_from start cs) ≡ true
 run_begins laws table start cs next h =
     begins-prefix (points_from start cs) (points_from (start + byte_len cs) (next ∷ [])) (ap begins_with_starter (sym (laws.parts start cs (next ∷ []))) ∙ h.begins)
 
-run_begins_anywhere : Laws → (start other : ℕ) (cs : List ℕ) → begins_with_starter (points_from start cs) ≡ true → begins_with_starter (points_from other cs) ≡ true
+run_begins_anywhere : LetterLaws → (start other : ℕ) (cs : List ℕ) → begins_with_starter (points_from start cs) ≡ true → begins_with_starter (points_from other cs) ≡ true
 run_begins_anywhere laws start other [] h = ap begins_with_starter (from_none other)
 run_begins_anywhere laws start other (c ∷ cs) h =
     let here = begun laws.short other c in
@@ -52,7 +52,7 @@ run_begins_anywhere laws start other (c ∷ cs) h =
     ap begins_with_starter (from_first other c cs) ∙ ap (λ (t : List Point). begins_with_starter (t ++ points_from (other + len_utf8 c) cs)) here.is
     ∙ ap begins_with_starter (sym here.is) ∙ begins_anywhere start other c one
 
-pub points-on : Laws → (table : TableMap) (taken cs : List ℕ) (next : ℕ) → AreApart table (byte_len taken) cs next →
+pub points-on : LetterLaws → (table : TableMap) (taken cs : List ℕ) (next : ℕ) → AreApart table (byte_len taken) cs next →
     points (taken ++ cs) ≡ points taken ++ points_from (byte_len taken) cs
 points-on laws table taken cs next h =
     let same : 0 + byte_len taken ≡ byte_len taken = omega arith in
@@ -65,7 +65,7 @@ points-on laws table taken cs next h =
 units_none : (table : TableMap) → units table [] ≡ []
 units_none table = refl
 
-units-on : Laws → (table : TableMap) (ps : List Point) (start first : ℕ) (others cs : List ℕ) (next : ℕ) → cs ++ next ∷ [] ≡ first ∷ others → EndsBefore table ps start first →
+units-on : LetterLaws → (table : TableMap) (ps : List Point) (start first : ℕ) (others cs : List ℕ) (next : ℕ) → cs ++ next ∷ [] ≡ first ∷ others → EndsBefore table ps start first →
     units table (ps ++ points_from start cs) ≡ units table ps ++ units table (points_from start cs)
 units-on laws table ps start first others [] next same ends =
     let nothing = from_none start in
@@ -77,7 +77,7 @@ units-on laws table ps start first others (c ∷ cs) next same ends =
     units-more table ps (points_from start (c ∷ cs)) (b.others ++ points_from (start + len_utf8 c) cs) b.first
     (from_first start c cs ∙ ap (λ (t : List Point). t ++ points_from (start + len_utf8 c) cs) b.is) (ends_here table ps start c b here)
 
-ends-on : Laws → (table : TableMap) (ps : List Point) (start first : ℕ) (others cs : List ℕ) (next : ℕ) → cs ++ next ∷ [] ≡ first ∷ others → EndsBefore table ps start first →
+ends-on : LetterLaws → (table : TableMap) (ps : List Point) (start first : ℕ) (others cs : List ℕ) (next : ℕ) → cs ++ next ∷ [] ≡ first ∷ others → EndsBefore table ps start first →
     AreApart table start cs next → EndsBefore table (ps ++ points_from start cs) (start + byte_len cs) next
 ends-on laws table ps start first others [] next same ends h =
     let nothing = from_none start in
@@ -97,7 +97,7 @@ ends-on laws table ps start first others (c ∷ cs) next same ends h =
 
 -- ---- both
 
-pub paused-on : Laws → (table : TableMap) (pattern : Compiled) (waiting : Waiting) (window : Held) (matcher matcher' : Matcher) (taken cs : List ℕ) (first next : ℕ)
+pub paused-on : LetterLaws → (table : TableMap) (pattern : Compiled) (waiting : Waiting) (window : Held) (matcher matcher' : Matcher) (taken cs : List ℕ) (first next : ℕ)
     (others : List ℕ) (ranges found : List (ℕ × ℕ)) → cs ++ next ∷ [] ≡ first ∷ others → IsPausedBefore table pattern waiting window matcher taken ranges first →
     AreApart table (byte_len taken) cs next → HasWalkedOn table pattern matcher matcher' (units table (points_from (byte_len taken) cs)) found →
     IsPausedBefore table pattern waiting window matcher' (taken ++ cs) (ranges ++ found) next

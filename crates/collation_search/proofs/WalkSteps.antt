@@ -9,17 +9,23 @@ use Rattle.collation_elements.specs.declared.keys.Item.{Item}
 use Rattle.collation_elements.specs.declared.keys.Item.TheVariants.{ClusterStart, Element}
 use Rattle.collation_elements.specs.Clusters.{Cluster, clusters_from}
 use Rattle.collation_pattern.specs.Border.{same_keys, ends_with_prefix, border_up_to, border}
+use Rattle.collation_pattern.specs.Compiled.{Compiled}
 use Rattle.collation_search.specs.declared.walk.Walk.{Walk}
 use Rattle.collation_search.specs.declared.walk.KeyPlace.{KeyPlace}
 use Rattle.collation_matches.specs.ByClusters.{PlacedKey}
 use Rattle.collation_matches.specs.ByClusters.{text_begin, has_keys, last_has_keys, ended, found, found_before_last, placed, placed_at, range_from, ended_by_keys}
 use Rattle.collation_matches.specs.Selecting.{selected, remembered}
-use Rattle.collation_search.specs.Walks.{place_of, WalksOver}
+use Rattle.collation_search.specs.Walks.{KeepsWalk, place_of, WalksOver}
 use Rattle.collation_pattern.proofs.KeyEquality.{same_keys-same}
 use Rattle.collation_matches.proofs.SelectingLemmas.{selected_after, selected-append, selected-nil, remembered-nil}
 use Rattle.collation_matches.proofs.BridgeGrowing.{found-more, found-begins, before_last-prefix, before_last-begins}
 use Rattle.collation_matches.proofs.BridgeFlat.{ended-by_keys}
 use Rattle.collation_matches.proofs.BridgeBorder.{ended-by_border, border_up_to-le}
+
+-- ---- what a walk keeps
+
+pub keeps-on : (pattern : Compiled) (a b c : Walk) → KeepsWalk pattern a b → KeepsWalk pattern b c → KeepsWalk pattern a c
+keeps-on pattern a b c first second = record { state = second.state; select = second.select ∙ first.select; room = second.room ∙ first.room }
 
 -- ---- clusters and their keys
 

@@ -12,6 +12,10 @@ use Rattle.collation_search.specs.declared.matching.Matcher.{Matcher}
 use Rattle.collation_search.specs.Matching.{HasWalkedOn}
 use Rattle.collation_search.specs.Apart.{AreApart}
 
+-- a character stands at the front of a piece
+abbrev pub StandsInFront : List ℕ → ℕ → Type 0
+StandsInFront piece c = (len_utf8 c ≤ length piece) × SpellsCharacter (take (len_utf8 c) piece) c
+
 -- A matcher that went over characters at the front of a piece, which stands at an offset, stands before the character c: these
 -- have so many bytes, and no unit reaches from them to c.
 pub record HasComeTo (table : TableMap) (pattern : Compiled) (piece : List ℕ) (offset reach first : ℕ) (matcher now : Matcher) (at c : ℕ) (ranges : List (ℕ × ℕ)) : Type 0 where

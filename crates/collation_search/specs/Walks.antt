@@ -7,6 +7,7 @@ use Rattle.collation_elements.specs.declared.keys.Item.{Item}
 use Rattle.collation_elements.specs.declared.keys.Item.TheVariants.{ClusterStart, Element}
 use Rattle.collation_elements.specs.Clusters.{Cluster, clusters_from}
 use Rattle.collation_pattern.specs.Border.{border}
+use Rattle.collation_pattern.specs.Compiled.{Compiled}
 use Rattle.collation_letters.specs.declared.letter.Role.{Role}
 use Rattle.collation_letters.specs.Letters.{begins_cluster}
 use Rattle.collation_matches.specs.ByClusters.{PlacedKey}
@@ -26,6 +27,12 @@ letter_items role start keys = (if begins_cluster role then ClusterStart start �
 -- a walk that has passed text by: it stands in a cluster with a key, which starts at this offset, and no key waits
 abbrev pub passed_to : Walk → ℕ → Walk
 passed_to walk start = record walk { state = 0; start = start; has_keys = true }
+
+-- what a walk keeps while it goes on: no more keys wait than the pattern has, and the kind of ranges and the room for places are as before
+pub record KeepsWalk (pattern : Compiled) (old new : Walk) : Type 0 where
+  pub state : new.state ≤ length pattern.keys
+  pub select : new.select ≡ old.select
+  pub room : new.places.capacity ≡ old.places.capacity
 
 -- A walk over these items by this pattern, which has handed out these ranges: with any items that follow, the clusters are
 -- those `before`, which have ended, and those from the current one on. The ranges are those that end with one of the former, or

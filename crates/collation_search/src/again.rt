@@ -42,7 +42,7 @@ impl Finder {
     ghost use Rattle.collation_elements.specs.Units.{units};
     ghost use Rattle.collation_elements.specs.Items.{items as items_of_units};
     ghost use Rattle.collation_search.specs.Walks.{WalksOver};
-    ghost use Rattle.collation_search.specs.Finding.{FinderStandsFor};
+    ghost use Rattle.collation_search.specs.Finding.{FinderStandsFor, IsMadeFor, KeepsSetup};
 
     /// Goes back to the beginning of a text.
     fn begin_again(&mut self, alloc: Global, pattern: &Pattern)
@@ -50,9 +50,7 @@ impl Finder {
         ensures stands { (table : TableMap) → FinderStandsFor table pattern.now self.new [] [] }
         ensures open { self.new.window.has_ended ≡ false }
         ensures empty { self.new.window.points ≡ [] }
-        ensures longest { self.new.longest_key ≡ self.old.longest_key }
-        ensures pattern_len { self.new.pattern_len ≡ self.old.pattern_len }
-        ensures select { self.new.matcher.walk.select ≡ self.old.matcher.walk.select }
+        ensures setup { KeepsSetup self.old self.new }
     {
         self.reorder = Reorder::new(alloc);
         self.window.clear();
@@ -63,8 +61,7 @@ impl Finder {
     /// Ends the text here, as `end` does. Nothing is asked of it then but its last range, and to begin again.
     pub(crate) fn end_text<W: Weights>(&mut self, table: &W, pattern: &Pattern, found: &mut Found)
         requires open { self.old.window.has_ended ≡ false }
-        requires longest { self.old.longest_key ≡ longest_key_of (W.table table.now) }
-        requires pattern_len { self.old.pattern_len ≡ length pattern.now.keys }
+        requires made { IsMadeFor (W.table table.now) pattern.now self.old }
         requires empty { found.old.items ≡ [] }
         ensures ended { (taken : List ℕ) (ranges : List _)
             → FinderStandsFor (W.table table.now) pattern.now self.old taken ranges
@@ -74,9 +71,7 @@ impl Finder {
             (ranges ++ found.new.items) self.new.matcher.walk }
         ensures few { array_vec_len found.new ≤ longest_key_of (W.table table.now) + MOST_WAITING }
         ensures open { self.new.window.has_ended ≡ false }
-        ensures longest { self.new.longest_key ≡ self.old.longest_key }
-        ensures pattern_len { self.new.pattern_len ≡ self.old.pattern_len }
-        ensures select { self.new.matcher.walk.select ≡ self.old.matcher.walk.select }
+        ensures setup { KeepsSetup self.old self.new }
     {
         self.end(table, pattern, found);
         self.window.clear();

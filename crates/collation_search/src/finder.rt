@@ -55,7 +55,7 @@ impl Finder {
     ghost use Rattle.collation_search.specs.Apart.{IsPausedBefore};
     ghost use Rattle.collation_search.specs.Matching.{HasWalked};
     ghost use Rattle.collation_search.specs.Early.{IsCutUpTo};
-    ghost use Rattle.collation_search.specs.Finding.{FinderStandsFor};
+    ghost use Rattle.collation_search.specs.Finding.{FinderStandsFor, IsMadeFor, KeepsSetup};
     ghost use Rattle.collation_elements.specs.Clusters.{clusters_from};
     ghost use Rattle.collation_matches.specs.ByClusters.{text_begin, found as all_found};
     ghost use Rattle.collation_matches.specs.Selecting.{selected};
@@ -105,8 +105,7 @@ impl Finder {
         found: &mut Found,
     ) -> Result<(), PointFault>
         requires open { self.old.window.has_ended ≡ false }
-        requires longest { self.old.longest_key ≡ longest_key_of (W.table table.now) }
-        requires pattern_len { self.old.pattern_len ≡ length pattern.now.keys }
+        requires made { IsMadeFor (W.table table.now) pattern.now self.old }
         requires empty { found.old.items ≡ [] }
         ensures stands { (taken : List ℕ) (ranges : List _)
             → FinderStandsFor (W.table table.now) pattern.now self.old taken ranges
@@ -151,9 +150,7 @@ impl Finder {
         ensures none { OnErr result (found.new.items ≡ []) }
         ensures few { array_vec_len found.new ≤ longest_key_of (W.table table.now) + MOST_GIVEN }
         ensures open { self.new.window.has_ended ≡ false }
-        ensures longest { self.new.longest_key ≡ self.old.longest_key }
-        ensures pattern_len { self.new.pattern_len ≡ self.old.pattern_len }
-        ensures select { self.new.matcher.walk.select ≡ self.old.matcher.walk.select }
+        ensures setup { KeepsSetup self.old self.new }
     {
         closed_points_append();
         decided_units_stay();
@@ -178,8 +175,7 @@ impl Finder {
     /// Ends the text here: puts the ranges that end before its last cluster and were not handed out yet into `found`.
     pub(crate) fn end<W: Weights>(&mut self, table: &W, pattern: &Pattern, found: &mut Found)
         requires open { self.old.window.has_ended ≡ false }
-        requires longest { self.old.longest_key ≡ longest_key_of (W.table table.now) }
-        requires pattern_len { self.old.pattern_len ≡ length pattern.now.keys }
+        requires made { IsMadeFor (W.table table.now) pattern.now self.old }
         requires empty { found.old.items ≡ [] }
         ensures ended { (taken : List ℕ) (ranges : List _)
             → FinderStandsFor (W.table table.now) pattern.now self.old taken ranges
@@ -197,9 +193,7 @@ impl Finder {
         ensures none_waits { self.new.reorder.held ≡ [] }
         ensures none_left { self.new.window.points ≡ [] }
         ensures few { array_vec_len found.new ≤ longest_key_of (W.table table.now) + MOST_WAITING }
-        ensures longest { self.new.longest_key ≡ self.old.longest_key }
-        ensures pattern_len { self.new.pattern_len ≡ self.old.pattern_len }
-        ensures select { self.new.matcher.walk.select ≡ self.old.matcher.walk.select }
+        ensures setup { KeepsSetup self.old self.new }
     {
         self.reorder.finish(&mut self.given);
         push_points(&mut self.window, self.given.as_slice());

@@ -1,29 +1,26 @@
 //! The loop over letters: characters whose units, keys and cluster starts are their own, one after the other.
-ghost use Rattle.std.specs.Prelude.{◌≡◌, ◌≢◌, ℕ, ◌+◌, ◌<◌, ◌≤◌, List, [], ◌∷◌, ◌++◌, length, take, drop, true, false, IfSome, IfNone};
+ghost use Rattle.std.specs.Prelude.{◌≡◌, ◌≢◌, ℕ, ◌+◌, ◌<◌, ◌≤◌, List, [], ◌∷◌, ◌++◌, length, true, false, IfSome};
 ghost use Rattle.std.specs.Char.{len_utf8};
-ghost use Rattle.std.specs.Str.{chars, IsUtf8};
 ghost use Rattle.std.specs.List.{FoldsTo};
-ghost use Rattle.utf8_cut.specs.Sequences.{SpellsCharacter};
 ghost use Rattle.nfd_points.specs.Points.{points_of, points_from, begins_with_starter};
-ghost use Rattle.collation_table.specs.Table.{TableMap};
 ghost use Rattle.collation_elements.specs.Units.{units};
-ghost use Rattle.collation_pattern.specs.Compiled.{Compiled};
 ghost use Rattle.collation_letters.specs.Letters.{IsLetter, is_mark};
 ghost use Rattle.collation_letters.specs.Store.{AreLetters};
 ghost use Rattle.collation_letters.specs.declared.letter.Role.TheVariants.{Steps, Plain};
 ghost use Rattle.collation_matches.specs.GoodPrefix.{most_bytes};
 ghost use Rattle.collation_search.specs.Matching.{HasWalkedOn};
 ghost use Rattle.collation_search.specs.Caches.{AreRight};
-ghost use Rattle.collation_search.specs.LetterRun.{HasComeTo};
+ghost use Rattle.collation_search.specs.LetterRun.{StandsInFront, HasComeTo};
+ghost use Rattle.collation_search.specs.Walks.{KeepsWalk};
 
 use crate::feed::call;
 use crate::matching::Matcher;
 use crate::search::Query;
 use crate::skipping::Cache;
 use collation_elements::{Weigher, weighers_go_on};
-use collation_letters::{Letter, Letters, Role, is_next, laws_of_symbols};
+use collation_letters::{Letter, Letters, Role, is_next, laws_of_characters, laws_of_symbols};
 use collation_table::Weights;
-use nfd_points::laws::{laws_of_decompositions, laws_of_faults, laws_of_ordering, laws_of_points};
+use nfd_points::laws::laws_of_points;
 use utf8_cut::sized_character;
 
 /// A character and the marks behind it, or what was walked over.
@@ -57,8 +54,7 @@ pub(crate) fn walk_letters<W: Weights, F: FnMut(u64, u64)>(
     from: Walked,
     sink: &mut F,
 ) -> Walked
-    requires first { (len_utf8 from.next ≤ length front.piece.now)
-        × SpellsCharacter (take (len_utf8 from.next) front.piece.now) from.next }
+    requires first { StandsInFront front.piece.now from.next }
     requires letter { IsLetter (W.table query.now.table.now) query.now.pattern.now
         (from.next ∷ []) from.letter }
     requires begins { begins_with_starter (points_of front.offset from.next) ≡ true }
@@ -72,15 +68,10 @@ pub(crate) fn walk_letters<W: Weights, F: FnMut(u64, u64)>(
         front.entry.piece.now front.entry.offset front.entry.reach from.next matcher.old matcher.new
         result.len result.next ranges }
     ensures right { AreRight (W.table query.now.table.now) query.now.pattern.now cache.new }
-    ensures state { matcher.new.walk.state ≤ length query.now.pattern.now.keys }
-    ensures select { matcher.new.walk.select ≡ matcher.old.walk.select }
-    ensures room { matcher.new.walk.places.capacity ≡ matcher.old.walk.places.capacity }
+    ensures keeps { KeepsWalk query.now.pattern.now matcher.old.walk matcher.new.walk }
     ensures callable { F.IsAlwaysCallable sink.new }
 {
-    laws_of_points();
-    laws_of_ordering();
-    laws_of_faults();
-    laws_of_decompositions();
+    laws_of_characters();
     let Front {
         piece,
         offset,
@@ -196,9 +187,7 @@ fn walk_letter<W: Weights, F: FnMut(u64, u64)>(
         → HasWalkedOn (W.table query.now.table.now) query.now.pattern.now
         matcher.old matcher.new
         (units (W.table query.now.table.now) (points_from start cs)) ranges) }
-    ensures state { matcher.new.walk.state ≤ length query.now.pattern.now.keys }
-    ensures select { matcher.new.walk.select ≡ matcher.old.walk.select }
-    ensures room { matcher.new.walk.places.capacity ≡ matcher.old.walk.places.capacity }
+    ensures keeps { KeepsWalk query.now.pattern.now matcher.old.walk matcher.new.walk }
     ensures callable { F.IsAlwaysCallable sink.new }
 {
     match letter.role {
@@ -226,9 +215,7 @@ fn walk_plain<W: Weights, F: FnMut(u64, u64)>(
         → HasWalkedOn (W.table query.now.table.now) query.now.pattern.now
         matcher.old matcher.new
         (units (W.table query.now.table.now) (points_from start cs)) ranges) }
-    ensures state { matcher.new.walk.state ≤ length query.now.pattern.now.keys }
-    ensures select { matcher.new.walk.select ≡ matcher.old.walk.select }
-    ensures room { matcher.new.walk.places.capacity ≡ matcher.old.walk.places.capacity }
+    ensures keeps { KeepsWalk query.now.pattern.now matcher.old.walk matcher.new.walk }
     ensures callable { F.IsAlwaysCallable sink.new }
 {
     laws_of_points();
@@ -260,9 +247,7 @@ fn walk_any<W: Weights, F: FnMut(u64, u64)>(
         → HasWalkedOn (W.table query.now.table.now) query.now.pattern.now
         matcher.old matcher.new
         (units (W.table query.now.table.now) (points_from start cs)) ranges) }
-    ensures state { matcher.new.walk.state ≤ length query.now.pattern.now.keys }
-    ensures select { matcher.new.walk.select ≡ matcher.old.walk.select }
-    ensures room { matcher.new.walk.places.capacity ≡ matcher.old.walk.places.capacity }
+    ensures keeps { KeepsWalk query.now.pattern.now matcher.old.walk matcher.new.walk }
     ensures callable { F.IsAlwaysCallable sink.new }
 {
     laws_of_points();

@@ -1,16 +1,14 @@
 //! Goes over the letters at the front of a piece, as long as no unit reaches into or out of one of them: its units, keys and the
 //! start of its cluster are then its own, whatever stands around it. What the window holds is cut before, as if the text ended
 //! there, and none of the characters comes into the window but the last one, with which the steps go on.
-ghost use Rattle.std.specs.Prelude.{◌≡◌, ◌≢◌, ℕ, ◌+◌, ◌<◌, ◌≤◌, List, [], ◌∷◌, length, take, drop, true, false, IfSome, IfNone};
+ghost use Rattle.std.specs.Prelude.{◌≡◌, ℕ, ◌+◌, ◌<◌, ◌≤◌, List, [], ◌∷◌, length, take, drop, true, false, IfSome};
 ghost use Rattle.std.specs.Char.{len_utf8};
 ghost use Rattle.std.specs.Str.{chars, IsUtf8};
 ghost use Rattle.utf8_cut.specs.Sequences.{SpellsCharacter};
 ghost use Rattle.collation_letters.specs.Letters.{IsLetter, is_mark};
-ghost use Rattle.collation_letters.specs.declared.letter.Role.TheVariants.{Steps, Plain};
 ghost use Rattle.collation_letters.specs.Store.{AreLetters};
 ghost use Rattle.std.specs.List.{FoldsTo};
-ghost use Rattle.nfd_points.specs.Points.{points_from};
-ghost use Rattle.collation_elements.specs.Units.{units};
+ghost use Rattle.collation_search.specs.LetterRun.{StandsInFront};
 
 use crate::feed::hand_out;
 use crate::finder::Finder;
@@ -19,9 +17,8 @@ use crate::matching::Found;
 use crate::search::Query;
 use crate::skipping::Cache;
 use collation_elements::units_stay_apart;
-use collation_letters::{Letter, Letters, is_next};
+use collation_letters::{Letter, Letters, is_next, laws_of_characters};
 use collation_table::Weights;
-use nfd_points::laws::{laws_of_decompositions, laws_of_faults, laws_of_ordering, laws_of_points};
 use utf8_cut::first_character;
 
 /// The character `c` at the front of a piece, which has this letter, with the marks behind it: their letter, and the character that
@@ -34,7 +31,7 @@ fn read_letter<W: Weights>(
     c: char,
     letter: Letter,
 ) -> Option<(Letter, Walked)>
-    requires c { (len_utf8 c ≤ length piece.now) × SpellsCharacter (take (len_utf8 c) piece.now) c }
+    requires c { StandsInFront piece.now c }
     requires letter { IsLetter (W.table query.now.table.now) query.now.pattern.now (c ∷ []) letter }
     requires right { AreLetters (W.table query.now.table.now) query.now.pattern.now letters.old }
     ensures within { IfSome result (λ r. r.1.len + len_utf8 r.1.next ≤ length piece.now) }
@@ -78,7 +75,7 @@ fn next_apart<W: Weights>(
     c: char,
     letter: Letter,
 ) -> Option<Walked>
-    requires c { (len_utf8 c ≤ length piece.now) × SpellsCharacter (take (len_utf8 c) piece.now) c }
+    requires c { StandsInFront piece.now c }
     requires letter { IsLetter (W.table query.now.table.now) query.now.pattern.now (c ∷ []) letter }
     requires right { AreLetters (W.table query.now.table.now) query.now.pattern.now letters.old }
     ensures within { IfSome result (λ w. w.len + len_utf8 w.next ≤ length piece.now) }
@@ -107,8 +104,7 @@ fn can_begin<W: Weights>(
     letter: Letter,
     reach: usize,
 ) -> bool
-    requires first { (len_utf8 first ≤ length piece.now)
-        × SpellsCharacter (take (len_utf8 first) piece.now) first }
+    requires first { StandsInFront piece.now first }
     requires letter { IsLetter (W.table query.now.table.now) query.now.pattern.now
         (first ∷ []) letter }
     requires right { AreLetters (W.table query.now.table.now) query.now.pattern.now letters.old }
@@ -134,8 +130,7 @@ fn joins_next<W: Weights>(
     first: char,
     letter: Letter,
 ) -> bool
-    requires first { (len_utf8 first ≤ length piece.now)
-        × SpellsCharacter (take (len_utf8 first) piece.now) first }
+    requires first { StandsInFront piece.now first }
     requires right { AreLetters (W.table query.now.table.now) query.now.pattern.now letters.old }
     ensures right { AreLetters (W.table query.now.table.now) query.now.pattern.now letters.new }
 {
@@ -159,15 +154,13 @@ impl Finder {
     ghost use Rattle.std.specs.Str.{chars, IsUtf8};
     ghost use Rattle.std.specs.List.{FoldsTo};
     ghost use Rattle.utf8_cut.specs.Sequences.{SpellsCharacter};
-    ghost use Rattle.nfd_points.specs.Points.{byte_len, points_of, points_from, begins_with_starter};
-    ghost use Rattle.collation_table.specs.Table.{longest_mapped as longest_key_of};
-    ghost use Rattle.collation_elements.specs.Units.{units};
+    ghost use Rattle.nfd_points.specs.Points.{byte_len};
     ghost use Rattle.collation_letters.specs.Letters.{IsLetter};
     ghost use Rattle.collation_search.specs.Caches.{AreRight};
     ghost use Rattle.collation_matches.specs.GoodPrefix.{most_bytes};
     ghost use Rattle.collation_search.specs.Apart.{IsPaused};
     ghost use Rattle.collation_search.specs.Early.{IsCutUpTo};
-    ghost use Rattle.collation_search.specs.Finding.{FinderStandsFor};
+    ghost use Rattle.collation_search.specs.Finding.{FinderStandsFor, IsMadeFor, KeepsSetup};
 
     /// Takes characters at the front of a piece, which stands at a byte offset, and calls the sink once for each range that became
     /// known, in order. It answers how many bytes it took: those up to the first character that it can't take so, or that begins
@@ -181,8 +174,7 @@ impl Finder {
         sink: &mut F,
     ) -> usize
         requires open { self.old.window.has_ended ≡ false }
-        requires longest { self.old.longest_key ≡ longest_key_of (W.table query.now.table.now) }
-        requires pattern_len { self.old.pattern_len ≡ length query.now.pattern.now.keys }
+        requires made { IsMadeFor (W.table query.now.table.now) query.now.pattern.now self.old }
         requires right { AreRight (W.table query.now.table.now) query.now.pattern.now cache.old }
         requires fits { front.offset + length front.piece.now ≤ most_bytes }
         requires callable { F.IsAlwaysCallable sink.old }
@@ -206,15 +198,10 @@ impl Finder {
             (take result front.entry.piece.now)) self.new.window.points }
         ensures right { AreRight (W.table query.now.table.now) query.now.pattern.now cache.new }
         ensures open { self.new.window.has_ended ≡ false }
-        ensures longest { self.new.longest_key ≡ self.old.longest_key }
-        ensures pattern_len { self.new.pattern_len ≡ self.old.pattern_len }
-        ensures select { self.new.matcher.walk.select ≡ self.old.matcher.walk.select }
+        ensures setup { KeepsSetup self.old self.new }
         ensures callable { F.IsAlwaysCallable sink.new }
     {
-        laws_of_points();
-        laws_of_ordering();
-        laws_of_faults();
-        laws_of_decompositions();
+        laws_of_characters();
         units_stay_apart();
         let Some(first) = first_character(front.piece) else {
             return 0;
@@ -249,8 +236,7 @@ impl Finder {
     /// Cuts all that it holds, as if the text ended here, and puts the ranges that became known into `found`, which is emptied before.
     fn pause<W: Weights>(&mut self, query: &Query<'_, W>, found: &mut Found)
         requires open { self.old.window.has_ended ≡ false }
-        requires longest { self.old.longest_key ≡ longest_key_of (W.table query.now.table.now) }
-        requires pattern_len { self.old.pattern_len ≡ length query.now.pattern.now.keys }
+        requires made { IsMadeFor (W.table query.now.table.now) query.now.pattern.now self.old }
         ensures paused { (taken : List ℕ) (ranges : List (ℕ × ℕ))
             → FinderStandsFor (W.table query.now.table.now) query.now.pattern.now
             self.old taken ranges
@@ -259,9 +245,7 @@ impl Finder {
             taken (ranges ++ found.new.items) }
         ensures open { self.new.window.has_ended ≡ false }
         ensures none_waits { self.new.reorder.held ≡ [] }
-        ensures longest { self.new.longest_key ≡ self.old.longest_key }
-        ensures pattern_len { self.new.pattern_len ≡ self.old.pattern_len }
-        ensures select { self.new.matcher.walk.select ≡ self.old.matcher.walk.select }
+        ensures setup { KeepsSetup self.old self.new }
     {
         found.clear();
         self.end(query.table, query.pattern, found);

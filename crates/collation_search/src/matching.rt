@@ -1,5 +1,5 @@
 //! From points to ranges: the units that a window gives, their items, and the walk over these.
-ghost use Rattle.std.specs.Prelude.{◌≡◌, ℕ, ◌+◌, ◌≤◌, ◌<◌, List, [], ◌∷◌, ◌++◌, length, All, Contains, map, option_to_list, true, false};
+ghost use Rattle.std.specs.Prelude.{◌≡◌, ◌+◌, ◌≤◌, ◌<◌, List, [], ◌∷◌, ◌++◌, length, All, Contains, map, option_to_list, true, false};
 ghost use Rattle.arrayvec.specs.ArrayVec.{array_vec_len};
 ghost use Rattle.nfd_points.specs.declared.points.Point.{Point};
 ghost use Rattle.unicode_normalization.specs.StreamSafe.{has_short_runs};
@@ -12,7 +12,7 @@ ghost use Rattle.collation_elements.specs.UnitValues.{IsUnitOf};
 ghost use Rattle.collation_elements.specs.Weighing.{value_items, weigher_after, WeigherStandsFor};
 ghost use Rattle.collation_elements.specs.Windows.{WindowStandsFor, is_decided};
 ghost use Rattle.collation_search.specs.Matching.{HasMatched};
-ghost use Rattle.collation_search.specs.Walks.{WalksOver};
+ghost use Rattle.collation_search.specs.Walks.{KeepsWalk, WalksOver};
 
 use crate::walk::Walk;
 use arrayvec::ArrayVec;
@@ -75,9 +75,7 @@ fn walk_over(walk: &mut Walk, pattern: &Pattern, items: &[Item], found: &mut Fou
         → WalksOver pattern.now.keys (before ++ items.now) (ranges ++ found.new.items) walk.new }
     ensures few { array_vec_len found.new ≤ array_vec_len found.old + length
         (item_starts items.now) }
-    ensures state { walk.new.state ≤ length pattern.now.keys }
-    ensures select { walk.new.select ≡ walk.old.select }
-    ensures room { walk.new.places.capacity ≡ walk.old.places.capacity }
+    ensures keeps { KeepsWalk pattern.now walk.old walk.new }
 {
     for item in items {
         let range = walk.take(pattern, *item);
@@ -96,9 +94,7 @@ fn walk_start(walk: &mut Walk, pattern: &Pattern, start: Option<u64>, found: &mu
         (before ++ map (λ at. Item.ClusterStart at) (option_to_list start))
         (ranges ++ found.new.items) walk.new }
     ensures few { array_vec_len found.new ≤ array_vec_len found.old + 1 }
-    ensures state { walk.new.state ≤ length pattern.now.keys }
-    ensures select { walk.new.select ≡ walk.old.select }
-    ensures room { walk.new.places.capacity ≡ walk.old.places.capacity }
+    ensures keeps { KeepsWalk pattern.now walk.old walk.new }
 {
     if let Some(start) = start {
         let range = walk.take(pattern, Item::ClusterStart(start));
@@ -114,9 +110,7 @@ fn walk_key(walk: &mut Walk, pattern: &Pattern, key: Option<Key>)
         → WalksOver pattern.now.keys before ranges walk.old
         → WalksOver pattern.now.keys
         (before ++ map (λ k. Item.Element k) (option_to_list key)) ranges walk.new }
-    ensures state { walk.new.state ≤ length pattern.now.keys }
-    ensures select { walk.new.select ≡ walk.old.select }
-    ensures room { walk.new.places.capacity ≡ walk.old.places.capacity }
+    ensures keeps { KeepsWalk pattern.now walk.old walk.new }
 {
     if let Some(key) = key {
         walk.take(pattern, Item::Element(key));
@@ -146,9 +140,7 @@ fn take_long(
         → WalksOver pattern.now.keys (before ++ value_items matcher.old.weigher unit.entry)
         (ranges ++ found.new.items) matcher.new.walk }
     ensures few { array_vec_len found.new ≤ array_vec_len found.old + 1 }
-    ensures state { matcher.new.walk.state ≤ length pattern.now.keys }
-    ensures select { matcher.new.walk.select ≡ matcher.old.walk.select }
-    ensures room { matcher.new.walk.places.capacity ≡ matcher.old.walk.places.capacity }
+    ensures keeps { KeepsWalk pattern.now matcher.old.walk matcher.new.walk }
 {
     matcher.weigher.take(&unit, items);
     walk_over(&mut matcher.walk, pattern, items.as_slice(), found);
@@ -176,9 +168,7 @@ fn take_unit(
         → WalksOver pattern.now.keys (before ++ value_items matcher.old.weigher unit.entry)
         (ranges ++ found.new.items) matcher.new.walk }
     ensures few { array_vec_len found.new ≤ array_vec_len found.old + 1 }
-    ensures state { matcher.new.walk.state ≤ length pattern.now.keys }
-    ensures select { matcher.new.walk.select ≡ matcher.old.walk.select }
-    ensures room { matcher.new.walk.places.capacity ≡ matcher.old.walk.places.capacity }
+    ensures keeps { KeepsWalk pattern.now matcher.old.walk matcher.new.walk }
 {
     match matcher.weigher.take_short(&unit) {
         Some(short) => {
@@ -221,9 +211,7 @@ pub(crate) fn cut_units<W: Weights>(
     ensures undecided { is_decided (W.table table.now) window.new ≡ false }
     ensures left { window.old.has_ended ≡ false
         → window.new.points ≡ left_points (W.table table.now) window.old.points }
-    ensures state { matcher.new.walk.state ≤ length pattern.now.keys }
-    ensures select { matcher.new.walk.select ≡ matcher.old.walk.select }
-    ensures room { matcher.new.walk.places.capacity ≡ matcher.old.walk.places.capacity }
+    ensures keeps { KeepsWalk pattern.now matcher.old.walk matcher.new.walk }
 {
     decided_units_stay();
     while let Some(unit) = window.next_unit(table) {

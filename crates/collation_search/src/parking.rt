@@ -1,7 +1,7 @@
 //! A search put away between two pieces, without its table and its pattern, and taken up again. A program that can't keep a value which
 //! borrows from another, as a library for C, keeps the three apart.
 
-ghost use Rattle.std.specs.Prelude.{◌≡◌, ◌≤◌, length, None, false};
+ghost use Rattle.std.specs.Prelude.{◌≡◌, ◌≤◌, None, false};
 ghost use Rattle.std.specs.Option.{ForSome};
 ghost use Rattle.collation_matches.specs.GoodPrefix.{most_bytes};
 
@@ -58,7 +58,7 @@ impl<'a, W: Weights> Search<'a, W> {
 
 impl Parked {
     ghost use Rattle.std.specs.Prelude.{◌≡◌, ℕ, List};
-    ghost use Rattle.collation_matches.specs.Sought.{Sought, seeking};
+    ghost use Rattle.collation_matches.specs.Sought.{seeking};
     ghost use Rattle.collation_search.specs.Search.{sought, HasSearched};
     ghost use Rattle.collation_search.specs.State.{words_of};
     ghost use Rattle.collation_search.specs.Parking.{IsFor, HasParked, parked_select, parked_fault, parked_words};

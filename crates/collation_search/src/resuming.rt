@@ -18,6 +18,7 @@ impl Finder {
     ghost use Rattle.std.specs.Prelude.{◌≡◌, ◌*◌, ◌≤◌, [], length, false};
     ghost use Rattle.collation_elements.specs.Weighing.{weigher};
     ghost use Rattle.collation_states.specs.Reading.{places_in};
+    ghost use Rattle.collation_search.specs.Finding.{KeepsSetup};
     ghost use Rattle.collation_search.specs.State.{saved_places};
 
     /// Goes on from what a state says, in the room of a new finder.
@@ -43,10 +44,8 @@ impl Finder {
             ≡ places_in state.now.places.now }
         ensures capacity { self.new.matcher.walk.places.capacity
             ≡ self.old.matcher.walk.places.capacity }
-        ensures select { self.new.matcher.walk.select ≡ self.old.matcher.walk.select }
         ensures last_end { self.new.matcher.walk.last_end ≡ state.now.last_end }
-        ensures longest { self.new.longest_key ≡ self.old.longest_key }
-        ensures pattern_len { self.new.pattern_len ≡ self.old.pattern_len }
+        ensures setup { KeepsSetup self.old self.new }
     {
         self.reorder = Reorder::restore(alloc, state.waiting.as_slice());
         self.window.restore(state.window.as_slice());

@@ -42,21 +42,21 @@ pub(crate) struct Cache {
 }
 
 impl Cache {
-    ghost use Rattle.std.specs.Prelude.{◌≡◌, ℕ, ◌+◌, ◌<◌, ◌≤◌, List, [], ◌∷◌, length, take, drop, true, false, IfOk, IfSome};
+    ghost use Rattle.std.specs.Prelude.{◌≡◌, ℕ, ◌+◌, ◌<◌, ◌≤◌, List, [], ◌∷◌, length, take, true, false, IfOk, IfSome};
     ghost use Rattle.std.specs.Char.{len_utf8};
-    ghost use Rattle.std.specs.Str.{chars, IsUtf8};
-    ghost use Rattle.utf8_cut.specs.Sequences.{SpellsCharacter};
+    ghost use Rattle.std.specs.Str.{chars};
     ghost use Rattle.nfd_points.specs.Points.{points_of, points_from, begins_with_starter};
     ghost use Rattle.collation_table.specs.Table.{TableMap};
     ghost use Rattle.collation_elements.specs.Units.{units};
     ghost use Rattle.collation_pattern.specs.Compiled.{Compiled};
     ghost use Rattle.collation_letters.specs.Apart.{IsNext};
-    ghost use Rattle.collation_letters.specs.Letters.{IsLetter};
     ghost use Rattle.collation_elements.specs.Weighing.{is_after_variable};
+    ghost use Rattle.collation_skip.specs.Passed.{PassesTo};
     ghost use Rattle.collation_search.specs.declared.matching.Matcher.{Matcher};
     ghost use Rattle.collation_search.specs.declared.skipping.TheConstants.{MOST_KEYS};
     ghost use Rattle.collation_search.specs.Matching.{HasWalkedOn};
     ghost use Rattle.collation_search.specs.Caches.{AreRight};
+    ghost use Rattle.collation_search.specs.LetterRun.{StandsInFront};
     ghost use Rattle.collation_search.specs.Walks.{passed_to};
 
     /// Nothing is known yet.
@@ -97,20 +97,13 @@ impl Cache {
         reach: usize,
         offset: u64,
     ) -> Option<Passed>
-        requires first { (len_utf8 first ≤ length piece.now)
-            × SpellsCharacter (take (len_utf8 first) piece.now) first }
+        requires first { StandsInFront piece.now first }
         requires begins { begins_with_starter (points_of offset first) ≡ true }
         requires later { 0 < offset }
         requires right { AreRight (W.table query.now.table.now) query.now.pattern.now self.old }
         ensures some { IfSome result (λ s. len_utf8 first ≤ s.end) }
-        ensures last { IfSome result (λ s. s.start ≤ s.end) }
-        ensures reach { IfSome result (λ s. s.end ≤ reach) }
-        ensures within { IfSome result (λ s. s.end + len_utf8 s.next ≤ length piece.now) }
-        ensures next { IfSome result (λ s.
-            SpellsCharacter (take (len_utf8 s.next) (drop s.end piece.now)) s.next) }
-        ensures letter { IfSome result (λ s.
-            IsLetter (W.table query.now.table.now) query.now.pattern.now (s.next ∷ []) s.letter) }
-        ensures text { IfSome result (λ s. IsUtf8 (take s.end piece.now)) }
+        ensures passes { IfSome result (PassesTo (W.table query.now.table.now)
+            query.now.pattern.now piece.now reach) }
         ensures begun { IfSome result (λ s. (others : List ℕ)
             × (chars (take s.end piece.now) ≡ first ∷ others)) }
         ensures apart { IfSome result (λ s.

@@ -38,7 +38,7 @@ pub(crate) struct Walk {
 }
 
 impl Walk {
-    ghost use Rattle.std.specs.Prelude.{◌≡◌, ◌≢◌, ℕ, ◌<◌, ◌≤◌, List, [], ◌∷◌, ◌++◌, length, map, option_to_list, IfOk, IfSome, Some, if◌then◌else◌};
+    ghost use Rattle.std.specs.Prelude.{◌≡◌, ℕ, ◌<◌, ◌≤◌, List, [], ◌∷◌, ◌++◌, length, map, option_to_list, IfOk, IfSome, Some, if◌then◌else◌};
     ghost use Rattle.collation_elements.specs.declared.keys.Key.{Key};
     ghost use Rattle.collation_elements.specs.declared.keys.Item.{Item};
     ghost use Rattle.collation_elements.specs.declared.keys.Item.TheVariants.{ClusterStart};
@@ -46,7 +46,7 @@ impl Walk {
     ghost use Rattle.collation_matches.specs.ByClusters.{text_begin, found};
     ghost use Rattle.collation_matches.specs.Selecting.{selected, remembered};
     ghost use Rattle.collation_letters.specs.declared.letter.Role.TheVariants.{Plain};
-    ghost use Rattle.collation_search.specs.Walks.{WalksOver, letter_items, passed_to};
+    ghost use Rattle.collation_search.specs.Walks.{KeepsWalk, WalksOver, letter_items, passed_to};
     ghost use Rattle.collation_letters.specs.Symbols.{AreLastSymbols, listed, some_symbol};
 
     /// A walk at the beginning of a text.
@@ -79,9 +79,7 @@ impl Walk {
             → WalksOver pattern.now.keys (items ++ item ∷ [])
             (ranges ++ option_to_list result) self.new }
         ensures at_start { IfSome result (λ range. item ≡ ClusterStart range.1) }
-        ensures within { self.new.state ≤ length pattern.now.keys }
-        ensures select { self.new.select ≡ self.old.select }
-        ensures room { self.new.places.capacity ≡ self.old.places.capacity }
+        ensures keeps { KeepsWalk pattern.now self.old self.new }
     {
         match item {
             // The first cluster has begun with the text.
@@ -120,9 +118,7 @@ impl Walk {
             → WalksOver pattern.now.keys items ranges self.old
             → WalksOver pattern.now.keys (items ++ letter_items letter.now.role start keys)
             (ranges ++ option_to_list result) self.new }
-        ensures state { self.new.state ≤ length pattern.now.keys }
-        ensures select { self.new.select ≡ self.old.select }
-        ensures room { self.new.places.capacity ≡ self.old.places.capacity }
+        ensures keeps { KeepsWalk pattern.now self.old self.new }
     {
         laws_of_symbols();
         let range = self.take_start(pattern, letter.role.begins_cluster(), start);
@@ -147,9 +143,7 @@ impl Walk {
             → WalksOver pattern.now.keys items ranges self.old
             → WalksOver pattern.now.keys (items ++ letter_items Plain start keys)
             (ranges ++ option_to_list result) self.new }
-        ensures state { self.new.state ≤ length pattern.now.keys }
-        ensures select { self.new.select ≡ self.old.select }
-        ensures room { self.new.places.capacity ≡ self.old.places.capacity }
+        ensures keeps { KeepsWalk pattern.now self.old self.new }
     {
         let range = self.take(pattern, Item::ClusterStart(start));
         self.take_symbol(pattern, symbol);
@@ -164,9 +158,7 @@ impl Walk {
             → WalksOver pattern.now.keys items ranges self.old
             → WalksOver pattern.now.keys (items ++ (if begins then ClusterStart start ∷ [] else []))
             (ranges ++ option_to_list result) self.new }
-        ensures state { self.new.state ≤ length pattern.now.keys }
-        ensures select { self.new.select ≡ self.old.select }
-        ensures room { self.new.places.capacity ≡ self.old.places.capacity }
+        ensures keeps { KeepsWalk pattern.now self.old self.new }
     {
         if begins {
             self.take(pattern, Item::ClusterStart(start))
@@ -185,9 +177,7 @@ impl Walk {
             → WalksOver pattern.now.keys items ranges self.old
             → WalksOver pattern.now.keys (items ++ map (λ key.
             Item.Element key) keys) ranges self.new }
-        ensures state { self.new.state ≤ length pattern.now.keys }
-        ensures select { self.new.select ≡ self.old.select }
-        ensures room { self.new.places.capacity ≡ self.old.places.capacity }
+        ensures keeps { KeepsWalk pattern.now self.old self.new }
     {
         laws_of_symbols();
         if symbol == NO_SYMBOL {

@@ -26,7 +26,7 @@ use Rattle.collation_pattern.specs.Border.{border, border_up_to}
 use Rattle.collation_pattern.specs.Compiled.{Compiled}
 use Rattle.collation_letters.specs.Apart.{EndsBefore, IsNext}
 use Rattle.collation_letters.specs.Letters.{AreApart, AreClosed, IsPossible}
-use Rattle.collation_letters.proofs.ApartLaws.{Laws}
+use Rattle.collation_letters.specs.Laws.{LetterLaws}
 use Rattle.collation_letters.proofs.ApartLemmas.{from_one, from_none, ordered_none, good_none, next-more, units-next, next_of_one}
 use Rattle.collation_letters.proofs.CharacterLemmas.{points_are_shifted}
 use Rattle.collation_letters.proofs.JoiningLemmas.{after-plain}
@@ -42,9 +42,7 @@ GoesOnLaw =
     after_units table w.variable w.after_variable vs ≡ after → WeigherStandsFor table w us given → WeigherStandsFor table (weigher w.strength w.variable after) (us ++ vs) (given ++ more)
 
 pub record RunLaws : Type 0 where
-  pub points : Laws
-  pub shifted : PointsAreShifted
-  pub ascii : AsciiIsItself
+  pub points : LetterLaws
   pub before : BeforeLaw
   pub goes_on : GoesOnLaw
 
@@ -142,10 +140,10 @@ bytes-len (b ∷ bs) (suc n) within ascii =
 -- no unit reaches from one character to the next
 pub ends-one : RunLaws → (table : TableMap) (at end c d : ℕ) → d < 128 → (AreClosed table (points_from 0 (c ∷ [])) ⊎ AreApart table (points_from 0 (d ∷ []))) → EndsBefore table (points_of at c) end d
 ends-one laws table at end c d less (inl closed) = λ x is more.
-    subst (λ (ps : List Point). units table (ps ++ x ∷ more) ≡ units table ps ++ units table (x ∷ more)) (sym (points_are_shifted laws.shifted at (c ∷ [])) ∙ from_one at c) (closed at (x ∷ more))
+    subst (λ (ps : List Point). units table (ps ++ x ∷ more) ≡ units table ps ++ units table (x ∷ more)) (sym (points_are_shifted laws.points.shifted at (c ∷ [])) ∙ from_one at c) (closed at (x ∷ more))
 ends-one laws table at end c d less (inr apart) = λ x is more.
-    let same : ascii_point end d ≡ x = same_Some (ascii_point end d) x (sym (ap (λ (ps : List Point). slice_get ps 0) (laws.ascii end d less)) ∙ is) in
-    let first = apart (ascii_point 0 d) (ap (λ (ps : List Point). slice_get ps 0) (from_one 0 d ∙ laws.ascii 0 d less)) in
+    let same : ascii_point end d ≡ x = same_Some (ascii_point end d) x (sym (ap (λ (ps : List Point). slice_get ps 0) (laws.points.ascii end d less)) ∙ is) in
+    let first = apart (ascii_point 0 d) (ap (λ (ps : List Point). slice_get ps 0) (from_one 0 d ∙ laws.points.ascii 0 d less)) in
     laws.before table (points_of at c) x more (ap is_starter (sym same)) (subst (λ (p : Point). ContinuesNoString table p.cp) same first.1)
 
 -- ---- bytes that pass
@@ -185,7 +183,7 @@ run-none laws table pattern classes start bytes less =
       is_next = record {
         in_order = ap ordered nothing ∙ ordered_none ∙ sym nothing;
         good = good_none;
-        begins = begins-ascii laws.ascii (start + byte_len []) d less;
+        begins = begins-ascii laws.points.ascii (start + byte_len []) d less;
         ends = λ x is more. ap (λ (t : List Point). units table (t ++ x ∷ more)) nothing ∙ ap (λ (t : List Point). units table t ++ units table (x ∷ more)) (sym nothing);
       };
       quiet = subst (IsQuiet pattern.keys) (sym none) (λ before more at h. no_start at before more h);
@@ -258,7 +256,7 @@ run-more laws table pattern classes rights start bytes total n p less h =
       | inl none ↦ inl (right.closed none)
       | inr none ↦ inr ((rights.each d (ascii-at classes bytes total (suc n) p less)).apart none)
     ] in
-    let one : IsNext table at (c ∷ []) d = next_of_one laws.points table at c d (begins-ascii laws.ascii (at + len_utf8 c) d (ascii-at classes bytes total (suc n) p less)) (ends-one laws table at (at + len_utf8 c) c d (ascii-at classes bytes total (suc n) p less) ends) in
+    let one : IsNext table at (c ∷ []) d = next_of_one laws.points table at c d (begins-ascii laws.points.ascii (at + len_utf8 c) d (ascii-at classes bytes total (suc n) p less)) (ends-one laws table at (at + len_utf8 c) c d (ascii-at classes bytes total (suc n) p less) ends) in
     record {
       is_next = subst (λ (t : List ℕ). IsNext table start t d) (sym (take-suc bytes n 0 within)) (next-more laws.points table start c d cs [] (c ∷ []) refl h.is_next one);
       quiet = subst (IsQuiet pattern.keys) (sym all) (quiet-more pattern.keys at I J h.quiet (let state = h.state in omega (arith, state, bound)) (right.whole halt flag may at));

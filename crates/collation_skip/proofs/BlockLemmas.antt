@@ -77,18 +77,18 @@ passed-of laws listed table pattern classes rights bytes total i p here followed
     let keys = keys_alone table pattern (points_from 0 (c ∷ [])) flag in
     let counted = bytes-len bytes i (omega (arith, within)) (λ j lower. ascii-at classes bytes total j p (omega (arith, lower, here))) in
     let same : at ≡ start + i = omega (arith, counted) in
-    let items = letter-items laws.shifted table pattern c l flag at known may h ∙ ap (λ b. begun_items b at keys) (ap begins_cluster clean.0) ∙ ap (λ q. begun_items true q keys) same in
-    let one : IsNext table at (c ∷ []) d = next_of_one laws.points table at c d (begins-ascii laws.ascii (at + len_utf8 c) d ascii) (ends-one laws table at (at + len_utf8 c) c d ascii (inl (h.closed said.0))) in
+    let items = letter-items laws.points.shifted table pattern c l flag at known may h ∙ ap (λ b. begun_items b at keys) (ap begins_cluster clean.0) ∙ ap (λ q. begun_items true q keys) same in
+    let one : IsNext table at (c ∷ []) d = next_of_one laws.points table at c d (begins-ascii laws.points.ascii (at + len_utf8 c) d ascii) (ends-one laws table at (at + len_utf8 c) c d ascii (inl (h.closed said.0))) in
     let place = rights.place in
     let state = run.state in
     record {
-      begins = begins-first laws.ascii start bytes i (omega (arith, within)) (p.ascii (omega (arith, here)));
+      begins = begins-first laws.points.ascii start bytes i (omega (arith, within)) (p.ascii (omega (arith, here)));
       is_next = subst (λ (t : List ℕ). IsNext table start t d) (sym (take-suc bytes i 0 within)) (next-more laws.points table start c d cs [] (c ∷ []) refl run.is_next one);
       before = I;
       keys = keys;
       items = both.0 ∙ ap (λ (is : List Item). I ++ is) items;
       flag =
-          both.1 ∙ ap (λ (ps : List Point). after_units table pattern.variable flag (units table ps)) (points_are_shifted laws.shifted at (c ∷ []))
+          both.1 ∙ ap (λ (ps : List Point). after_units table pattern.variable flag (units table ps)) (points_are_shifted laws.points.shifted at (c ∷ []))
           ∙ ((h.known known).items flag may).flag_is at ∙ ap (λ r. flag_after r flag) clean.0;
       quiet = quiet-more pattern.keys (start + i) I (ClusterStart (start + i) ∷ []) run.quiet (omega (arith, state, place)) (front-one (start + i));
       later = run.later;

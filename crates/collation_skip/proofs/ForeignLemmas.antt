@@ -23,7 +23,7 @@ use Rattle.collation_letters.specs.Apart.{IsNext}
 use Rattle.collation_letters.specs.declared.letter.Letter.{Letter}
 use Rattle.collation_letters.specs.Letters.{begins_cluster, is_mark, not_mark, flag_after, IsLetter}
 use Rattle.collation_letters.specs.Symbols.{AreLastSymbols, is_symbol, NothingWaitsBehindForeignKeys, OneSymbolIsOfTheLastKey}
-use Rattle.collation_letters.proofs.ApartLaws.{Laws}
+use Rattle.collation_letters.specs.Laws.{LetterLaws}
 use Rattle.collation_letters.proofs.ApartLemmas.{from_none, next-more, next-none}
 use Rattle.collation_letters.proofs.LetterApart.{plain-known}
 use Rattle.collation_skip.specs.Blocks.{IsClean}
@@ -33,8 +33,7 @@ use Rattle.collation_skip.proofs.ItemLemmas.{letter_items, keys-append, keys-let
 use Rattle.collation_skip.proofs.ReachedLemmas.{begins-more, items-more, no-item, none-ends}
 
 pub record ForeignLaws : Type 0 where
-  pub points : Laws
-  pub shifted : PointsAreShifted
+  pub points : LetterLaws
   pub one : OneSymbolIsOfTheLastKey
   pub foreign : NothingWaitsBehindForeignKeys
 
@@ -97,7 +96,7 @@ passed-one laws table pattern start cs c next l q h clean apart =
     let at = start + byte_len cs in
     let known = plain-known l.role clean.0 in
     let plain = h.plain clean.0 in
-    let items = items-more laws.points laws.shifted table pattern start cs c [] l q.is_next known (ap is_mark clean.0) h in
+    let items = items-more laws.points laws.points.shifted table pattern start cs c [] l q.is_next known (ap is_mark clean.0) h in
     let I = items_from table pattern start cs in
     record {
       begins = begins-more laws.points table start cs c [] q.begins q.is_next;

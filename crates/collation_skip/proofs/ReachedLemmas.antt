@@ -26,7 +26,7 @@ use Rattle.collation_letters.specs.declared.letter.Letter.{Letter}
 use Rattle.collation_letters.specs.declared.letter.Role.TheVariants.{Steps}
 use Rattle.collation_letters.specs.Letters.{begins_cluster, is_mark, flag_after, keys_alone, IsPossible, IsLetter}
 use Rattle.collation_letters.specs.Symbols.{AreLastSymbols, listed}
-use Rattle.collation_letters.proofs.ApartLaws.{Laws}
+use Rattle.collation_letters.specs.Laws.{LetterLaws}
 use Rattle.collation_letters.proofs.ApartLemmas.{begins-append, begun_from, from_none, from_one, next-more, units-next, next-none}
 use Rattle.collation_letters.proofs.CharacterLemmas.{points_are_shifted}
 use Rattle.collation_letters.proofs.JoiningLemmas.{items-append, after-append, possible-after}
@@ -47,7 +47,7 @@ pub record MoreItems (table : TableMap) (pattern : Compiled) (at : ℕ) (before 
   pub flag : after_units table pattern.variable false (units table (points_from at (before ++ last))) ≡ flag_after l.role (after_units table pattern.variable false (units table (points_from at before)))
   pub symbols : AreLastSymbols pattern.keys keys (listed l.symbols)
 
-pub items-more : Laws → PointsAreShifted → (table : TableMap) (pattern : Compiled) (at : ℕ) (before : List ℕ) (first : ℕ) (others : List ℕ) (l : Letter) → IsNext table at before first → l.role ≢ Steps →
+pub items-more : LetterLaws → PointsAreShifted → (table : TableMap) (pattern : Compiled) (at : ℕ) (before : List ℕ) (first : ℕ) (others : List ℕ) (l : Letter) → IsNext table at before first → l.role ≢ Steps →
     is_mark l.role ≡ false → IsLetter table pattern (first ∷ others) l → MoreItems table pattern at before (first ∷ others) l
 items-more laws shift table pattern at before first others l next known starter h =
     let S : Strength = pattern.strength in
@@ -148,7 +148,7 @@ pub record IsClean (s t : State) : Type 0 where
   pub flag : (after : Bool) → flag_after s.letter.role after ≡ false
   pub symbols : listed s.letter.symbols ≡ 0 ∷ []
 
-pub begins-more : Laws → (table : TableMap) (at : ℕ) (before : List ℕ) (first : ℕ) (others : List ℕ) → begins_with_starter (points_from at before) ≡ true → IsNext table at before first →
+pub begins-more : LetterLaws → (table : TableMap) (at : ℕ) (before : List ℕ) (first : ℕ) (others : List ℕ) → begins_with_starter (points_from at before) ≡ true → IsNext table at before first →
     begins_with_starter (points_from at (before ++ first ∷ others)) ≡ true
 begins-more laws table at [] first others h next =
     let here : at ≡ at + byte_len [] = let none = laws.bytes [] [] in omega (arith, none) in
@@ -158,7 +158,7 @@ begins-more laws table at (b ∷ before) first others h next =
     ap begins_with_starter (laws.parts at (b ∷ before) (first ∷ others))
     ∙ begins-append (points_from at (b ∷ before)) (points_from (at + byte_len (b ∷ before)) (first ∷ others)) (begun_from laws at b before (b ∷ before) refl) h
 
-pub reached-next : Laws → PointsAreShifted → (table : TableMap) (pattern : Compiled) (s t : State) (at : ℕ) (bytes : List ℕ) (byte c : ℕ) → SpellsCharacter (begun_bytes s.begun ++ byte ∷ []) c →
+pub reached-next : LetterLaws → PointsAreShifted → (table : TableMap) (pattern : Compiled) (s t : State) (at : ℕ) (bytes : List ℕ) (byte c : ℕ) → SpellsCharacter (begun_bytes s.begun ++ byte ∷ []) c →
     s.letter.role ≢ Steps → is_mark s.letter.role ≡ false → ((start : ℕ) (cs : List ℕ) → IsLetter table pattern cs s.letter → IsNext table start cs c) →
     ((before keys : List Key) → AreLastSymbols pattern.keys keys (listed s.letter.symbols) → border pattern.keys before ≡ s.depth → border pattern.keys (before ++ keys) ≡ t.depth) →
     t.depth < length pattern.keys → IsLetter table pattern (c ∷ []) t.letter → t.len ≡ len_utf8 c → (t.letter.is_closed ≡ false → c ≡ t.character) → t.begun ≡ Whole → (0 < t.before → IsClean s t) →

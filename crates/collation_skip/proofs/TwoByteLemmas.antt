@@ -27,12 +27,13 @@ use Rattle.collation_letters.specs.declared.letter.Letter.{Letter}
 use Rattle.collation_letters.specs.Letters.{AreApart, IsLetter}
 use Rattle.collation_letters.proofs.ApartLemmas.{begins_anywhere, from_one, next-more, next_of_one}
 use Rattle.collation_letters.proofs.CharacterLemmas.{points_are_shifted}
+use Rattle.collation_skip.specs.declared.two_byte_blocks.Ending.{Ending}
 use Rattle.collation_skip.specs.declared.two_byte_sets.TwoByteSets.{TwoByteSets}
 use Rattle.collation_skip.specs.declared.two_byte_sets.TheConstants.{LEADS, TRAILS}
 use Rattle.collation_skip.specs.Blocks.{IsClean, Says, items_at, most}
 use Rattle.collation_skip.specs.Passed.{IsPassed, IsQuiet}
 use Rattle.collation_skip.specs.Reached.{items_from}
-use Rattle.collation_skip.specs.TwoBytes.{AreRightOf, AreSetsRight, DoesNotGoOn, GoesOn, Pass, StopsAt, character_of, is_in, leads, trails}
+use Rattle.collation_skip.specs.TwoBytes.{IsEnding, AreRightOf, AreSetsRight, DoesNotGoOn, GoesOn, Pass, StopsAt, character_of, is_in, leads, trails}
 use Rattle.collation_skip.proofs.AsciiLemmas.{RunLaws, contained, items-next, keys-append, possible, quiet-more}
 use Rattle.collation_skip.proofs.BlockLemmas.{spells-ascii}
 use Rattle.collation_skip.proofs.ForeignLemmas.{AreQuiet, ForeignLaws, chars-on, no-keys, passed-on, quiet-begin, text-on}
@@ -230,7 +231,7 @@ gone-more laws table pattern place start cs c next Before Passable Other NotLate
     let bound : most pattern.keys place < length pattern.keys = omega (arith, within) in
     let begins = begins_anywhere 0 (at + len_utf8 c) next (ap begins_with_starter (sym (from_one 0 next)) ∙ apart-begins table (points_from 0 (next ∷ [])) apart) in
     let one : IsNext table at (c ∷ []) next = next_of_one laws.points table at c next begins
-    (λ x is more. let first = apart-there laws.shifted table next (at + len_utf8 c) apart x is in laws.before table (points_of at c) x more first.0 first.1) in
+    (λ x is more. let first = apart-there laws.points.shifted table next (at + len_utf8 c) apart x is in laws.before table (points_of at c) x more first.0 first.1) in
     let state = subst (λ (ks : List Key). border pattern.keys ks ≤ most pattern.keys place) (sym keys) (elim which as (λ _. border pattern.keys (K ++ item_keys J) ≤ most pattern.keys place) [
       | inl before ↦ right.any going flag may at K (h.low before)
       | inr none ↦ right.behind going none flag may at K h.state
@@ -399,15 +400,15 @@ run-to laws table pattern sets rights bytes n p fits (suc (suc j)) next less beg
 
 -- ---- what was passed
 
-pub record IsEnding (table : TableMap) (pattern : Compiled) (bytes : List ℕ) (start end next : ℕ) : Type 0 where
-  pub text : IsUtf8 (take end bytes)
-  pub passed : (at : ℕ) → IsPassed table pattern at (at + start) (chars (take end bytes)) next
-
 -- up to behind a character with a key that the pattern does not have
-pub ending-of : RunLaws → ForeignLaws → (table : TableMap) (pattern : Compiled) (sets : TwoByteSets) → AreSetsRight table pattern sets → (bytes : List ℕ) (n : ℕ) → Pass sets bytes n → ((j : ℕ) → get_or bytes j 0 < 256) →
-    (start end c next : ℕ) (l : Letter) → trails (get_or bytes start 0) ≡ 0 → start < n → (128 ≤ get_or bytes start 0 → suc start < n) → end ≤ n → end ≡ start + len_utf8 c → SpellsCharacter (take (len_utf8 c) (drop start bytes)) c →
-    IsLetter table pattern (c ∷ []) l → IsClean l → ((at : ℕ) → IsNext table at (c ∷ []) next) → IsEnding table pattern bytes start end next
-ending-of laws foreign table pattern sets rights bytes n p fits start end c next l begins less whole within ends spelled h clean apart =
+pub ending-of : RunLaws → ForeignLaws → (table : TableMap) (pattern : Compiled) (sets : TwoByteSets) → AreSetsRight table pattern sets → (bytes : List ℕ) (n : ℕ) → Pass sets bytes n → ((j : ℕ) → get_or bytes j 0 < 256) → (it : Ending) →
+    IsEnding table pattern bytes n it → IsUtf8 (take it.end bytes) × ((at : ℕ) → IsPassed table pattern at (at + it.start) (chars (take it.end bytes)) it.next)
+ending-of laws foreign table pattern sets rights bytes n p fits it is =
+    let start = it.start in
+    let c = it.character in
+    let begins = is.begins in
+    let less = is.inside in
+    let spelled = is.character in
     let long = p.within in
     let b = get_or bytes start 0 in
     let into : AreApart table (points_from 0 (c ∷ [])) = elim (cases_lt b 128) [
@@ -416,7 +417,7 @@ ending-of laws foreign table pattern sets rights bytes n p fits start end c next
           let same : b ≡ c = same-character (drop start bytes) c b spelled (spells-ascii bytes start (omega (arith, less, long)) ascii) in
           subst (λ d. AreApart table (points_from 0 (d ∷ []))) same ((rights.one b ascii going).apart going)
       | inr not_ascii ↦
-          let more = whole (omega (arith, not_ascii)) in
+          let more = is.whole (omega (arith, not_ascii)) in
           let high : 192 ≤ b = elim (cases_lt b 192) [
             | inl lower ↦ absurd (let mid = trails-mid b (omega (arith, not_ascii)) lower in omega (arith, mid, begins))
             | inr higher ↦ omega (arith, higher)
@@ -427,8 +428,8 @@ ending-of laws foreign table pattern sets rights bytes n p fits start end c next
           subst (λ d. AreApart table (points_from 0 (d ∷ []))) same (r.right.apart (p.each start more).going)
     ] in
     let come = run-to laws table pattern sets rights bytes n p fits start c less begins into in
-    record {
-      text = subst (λ k. IsUtf8 (take k bytes)) (sym ends) (text-on bytes start (len_utf8 c) c refl come.text spelled);
-      passed = λ at. subst (λ k. IsPassed table pattern at (at + start) (chars (take k bytes)) next) (sym ends)
-          (passed-on foreign table pattern bytes start (len_utf8 c) c next at l (omega (arith, within, ends, long)) refl come.text spelled (come.gone at).quiet h clean (apart (at + start)));
-    }
+    let within = is.within in (
+      subst (λ k. IsUtf8 (take k bytes)) (sym is.end) (text-on bytes start (len_utf8 c) c refl come.text spelled),
+      λ at. subst (λ k. IsPassed table pattern at (at + start) (chars (take k bytes)) it.next) (sym is.end)
+          (passed-on foreign table pattern bytes start (len_utf8 c) c it.next at it.letter (omega (arith, within, is.end, long)) refl come.text spelled (come.gone at).quiet is.letter is.clean (is.apart (at + start))),
+    )

@@ -1,5 +1,8 @@
 -- Text that a search may pass by where no key waits: no match ends in it, and behind its last character no key waits again.
-use Rattle.std.specs.Prelude.{◌≡◌, ℕ, ◌<◌, ◌≤◌, false, true, List, [], ◌∷◌, ◌++◌, length, map, Contains}
+use Rattle.std.specs.Prelude.{◌≡◌, ℕ, ◌+◌, ◌<◌, ◌≤◌, false, true, List, [], ◌∷◌, ◌++◌, length, take, drop, map, Contains}
+use Rattle.std.specs.Char.{len_utf8}
+use Rattle.std.specs.Str.{chars, IsUtf8}
+use Rattle.utf8_cut.specs.Sequences.{SpellsCharacter}
 use Rattle.nfd_points.specs.Points.{points_from, begins_with_starter}
 use Rattle.collation_table.specs.Table.{TableMap}
 use Rattle.collation_elements.specs.declared.keys.Key.{Key}
@@ -12,6 +15,8 @@ use Rattle.collation_elements.specs.Weighing.{after_units}
 use Rattle.collation_pattern.specs.Border.{border}
 use Rattle.collation_pattern.specs.Compiled.{Compiled}
 use Rattle.collation_letters.specs.Apart.{IsNext}
+use Rattle.collation_letters.specs.Letters.{IsLetter}
+use Rattle.collation_skip.specs.declared.passed.Passed.{Passed}
 use Rattle.collation_letters.specs.Symbols.{AreLastSymbols}
 
 -- where a cluster starts among these items the whole pattern does not end the keys before it, so that no match ends there
@@ -33,3 +38,13 @@ pub record IsPassed (table : TableMap) (pattern : Compiled) (start last : ℕ) (
   pub later : (at : ℕ) → Contains before (ClusterStart at) → start ≤ at
   pub after_start : start ≤ last
   pub foreign : AreLastSymbols pattern.keys keys (0 ∷ [])
+
+-- A piece may be passed by up to a character that begins not after a limit: wherever the piece stands in a text.
+pub record PassesTo (table : TableMap) (pattern : Compiled) (piece : List ℕ) (limit : ℕ) (it : Passed) : Type 0 where
+  pub within : it.end + len_utf8 it.next ≤ length piece
+  pub order : it.start ≤ it.end
+  pub reach : it.end ≤ limit
+  pub next : SpellsCharacter (take (len_utf8 it.next) (drop it.end piece)) it.next
+  pub letter : IsLetter table pattern (it.next ∷ []) it.letter
+  pub text : IsUtf8 (take it.end piece)
+  pub passed : (at : ℕ) → IsPassed table pattern at (at + it.start) (chars (take it.end piece)) it.next

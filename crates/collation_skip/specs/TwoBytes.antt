@@ -1,10 +1,14 @@
 -- Text of characters of one and of two bytes that a search passes in blocks of bytes: the sets of bytes, and what they say of characters.
-use Rattle.std.specs.Prelude.{◌≡◌, ℕ, suc, ◌+◌, ◌-◌, ◌*◌, ◌/◌, ◌%◌, ◌<◌, ◌≤◌, ◌⊎◌, max, List, [], ◌∷◌, length, slice_index, bit_and, bit_or}
+use Rattle.std.specs.Prelude.{◌≡◌, ℕ, suc, ◌+◌, ◌-◌, ◌*◌, ◌/◌, ◌%◌, ◌<◌, ◌≤◌, ◌⊎◌, max, List, [], ◌∷◌, length, take, drop, slice_index, bit_and, bit_or}
+use Rattle.std.specs.Char.{len_utf8}
 use Rattle.std.specs.Option.{ForSome}
 use Rattle.utf8_cut.specs.Sequences.{SpellsCharacter}
 use Rattle.collation_table.specs.Table.{TableMap}
 use Rattle.collation_pattern.specs.Compiled.{Compiled}
-use Rattle.collation_skip.specs.Blocks.{Says, in_set}
+use Rattle.collation_letters.specs.Apart.{IsNext}
+use Rattle.collation_letters.specs.Letters.{IsLetter}
+use Rattle.collation_skip.specs.Blocks.{IsClean, Says, in_set}
+use Rattle.collation_skip.specs.declared.two_byte_blocks.Ending.{Ending}
 use Rattle.collation_skip.specs.declared.two_byte_sets.ByteSet.{ByteSet}
 use Rattle.collation_skip.specs.declared.two_byte_sets.TwoByteSets.{TwoByteSets}
 use Rattle.collation_skip.specs.declared.two_byte_sets.TheConstants.{HIGH_COLUMNS, LEADS, TRAILS}
@@ -76,3 +80,21 @@ pub record Pass (sets : TwoByteSets) (bytes : List ℕ) (n : ℕ) : Type 0 where
 -- no more than the first n bytes pass, where one byte alone counts for nothing
 abbrev pub StopsAt : TwoByteSets → List ℕ → ℕ → Type 0
 StopsAt sets bytes n = Pass sets bytes (max 2 (suc n)) → ⊥
+
+-- ---- where the text may be left
+
+-- A character whose last key the pattern does not have ends within the first `len` bytes of a piece, and the one that follows is there, to
+-- which no unit reaches.
+pub record IsEnding (table : TableMap) (pattern : Compiled) (piece : List ℕ) (len : ℕ) (it : Ending) : Type 0 where
+  pub begins : trails (slice_index piece it.start) ≡ 0
+  pub inside : it.start < len
+  pub whole : 128 ≤ slice_index piece it.start → suc it.start < len
+  pub within : it.end ≤ len
+  pub end : it.end ≡ it.start + len_utf8 it.character
+  pub character : SpellsCharacter (take (len_utf8 it.character) (drop it.start piece)) it.character
+  pub letter : IsLetter table pattern (it.character ∷ []) it.letter
+  pub clean : IsClean it.letter
+  pub room : it.end + len_utf8 it.next ≤ length piece
+  pub next : SpellsCharacter (take (len_utf8 it.next) (drop it.end piece)) it.next
+  pub following : IsLetter table pattern (it.next ∷ []) it.following
+  pub apart : (at : ℕ) → IsNext table at (it.character ∷ []) it.next

@@ -24,17 +24,14 @@ pub struct Automaton {
 }
 
 impl Automaton {
-    ghost use Rattle.std.specs.Prelude.{◌≡◌, ◌+◌, ◌<◌, ◌≤◌, ◌∷◌, [], ℕ, List, length, take, drop, IfSome};
+    ghost use Rattle.std.specs.Prelude.{◌+◌, ◌<◌, ◌≤◌, ℕ, List, length, take, IfSome};
     ghost use Rattle.std.specs.Char.{len_utf8};
-    ghost use Rattle.std.specs.Str.{chars, IsUtf8};
     ghost use Rattle.byte_dfa.specs.Moves.{IsCursor};
     ghost use Rattle.utf8_cut.specs.Sequences.{SpellsCharacter};
     ghost use Rattle.collation_table.specs.Table.{TableMap};
     ghost use Rattle.collation_pattern.specs.Compiled.{Compiled};
-    ghost use Rattle.collation_letters.specs.Letters.{IsLetter};
     ghost use Rattle.collation_letters.specs.Store.{AreLetters};
-    ghost use Rattle.collation_skip.specs.Passed.{IsPassed};
-    ghost use Rattle.collation_skip.specs.Reached.{HasReached, IsMove};
+    ghost use Rattle.collation_skip.specs.Passed.{PassesTo};
     ghost use Rattle.collation_skip.specs.declared.state.State.{State as StateValue};
     ghost use Rattle.collation_skip.specs.Rows.{AreRight, IsRow, Stands};
 
@@ -64,17 +61,8 @@ impl Automaton {
     ) -> Option<Passed>
         requires right { AreRight (W.table table.now) pattern.now self.old }
         requires letters { AreLetters (W.table table.now) pattern.now letters.old }
-        ensures within { IfSome result (λ it. it.end + len_utf8 it.next ≤ length piece.now) }
-        ensures order { IfSome result (λ it. it.start ≤ it.end) }
-        ensures reach { IfSome result (λ it. it.end ≤ reach) }
-        ensures next { IfSome result
-            (λ it. SpellsCharacter (take (len_utf8 it.next) (drop it.end piece.now)) it.next) }
-        ensures letter { IfSome result
-            (λ it. IsLetter (W.table table.now) pattern.now (it.next ∷ []) it.letter) }
-        ensures text { IfSome result (λ it. IsUtf8 (take it.end piece.now)) }
-        ensures passed { IfSome result (λ it. (at : ℕ)
-            → IsPassed (W.table table.now) pattern.now at (at + it.start)
-            (chars (take it.end piece.now)) it.next) }
+        ensures passes { IfSome result
+            (PassesTo (W.table table.now) pattern.now piece.now reach) }
         ensures right { AreRight (W.table table.now) pattern.now self.new }
         ensures letters { AreLetters (W.table table.now) pattern.now letters.new }
     {
@@ -97,17 +85,8 @@ impl Automaton {
             × Stands (W.table table.now) pattern.now self.now piece.now
             cursor.accepted_at cursor.accepted_row }
         requires letters { AreLetters (W.table table.now) pattern.now letters.old }
-        ensures within { IfSome result (λ it. it.end + len_utf8 it.next ≤ length piece.now) }
-        ensures order { IfSome result (λ it. it.start ≤ it.end) }
-        ensures reach { IfSome result (λ it. it.end ≤ cursor.accepted_at) }
-        ensures next { IfSome result
-            (λ it. SpellsCharacter (take (len_utf8 it.next) (drop it.end piece.now)) it.next) }
-        ensures letter { IfSome result
-            (λ it. IsLetter (W.table table.now) pattern.now (it.next ∷ []) it.letter) }
-        ensures text { IfSome result (λ it. IsUtf8 (take it.end piece.now)) }
-        ensures passed { IfSome result (λ it. (at : ℕ)
-            → IsPassed (W.table table.now) pattern.now at (at + it.start)
-            (chars (take it.end piece.now)) it.next) }
+        ensures passes { IfSome result
+            (PassesTo (W.table table.now) pattern.now piece.now cursor.accepted_at) }
         ensures letters { AreLetters (W.table table.now) pattern.now letters.new }
     {
         laws_of_points();

@@ -1,12 +1,9 @@
 //! Passes by text of ASCII sixteen bytes at a time, as long as no two neighbours may be part of a match.
-ghost use Rattle.std.specs.Prelude.{◌≡◌, ◌↔◌, ℕ, ◌+◌, ◌-◌, ◌<◌, ◌≤◌, ◌∷◌, [], length, suc, take, drop, true, IfSome, slice_index};
-ghost use Rattle.std.specs.Char.{len_utf8};
-ghost use Rattle.std.specs.Str.{chars, IsUtf8};
-ghost use Rattle.utf8_cut.specs.Sequences.{SpellsCharacter};
+ghost use Rattle.std.specs.Prelude.{◌≡◌, ◌↔◌, ℕ, ◌+◌, ◌-◌, ◌<◌, ◌≤◌, ◌∷◌, [], length, true, IfSome, slice_index};
 ghost use Rattle.collation_letters.specs.Letters.{IsLetter};
 ghost use Rattle.collation_letters.specs.Store.{AreLetters};
 ghost use Rattle.collation_skip.specs.Blocks.{AreClassesRight, DoesNotPass, EndsAt, HaltsDecide, IsClean, KeysDecide, MayPass, Passes, PassesBehind, in_set as in_set_of};
-ghost use Rattle.collation_skip.specs.Passed.{IsPassed};
+ghost use Rattle.collation_skip.specs.Passed.{PassesTo};
 
 use crate::classes::{Classes, in_set};
 use crate::lanes::{
@@ -15,10 +12,9 @@ use crate::lanes::{
 };
 use crate::passed::Passed;
 use collation_elements::{units_stay_apart, weighers_go_on};
-use collation_letters::{FOREIGN, Letter, Letters, Role, laws_of_symbols};
+use collation_letters::{FOREIGN, Letter, Letters, Role, laws_of_characters, laws_of_symbols};
 use collation_pattern::Pattern;
 use collation_table::Weights;
-use nfd_points::laws::{laws_of_decompositions, laws_of_faults, laws_of_ordering, laws_of_points};
 use std::simd::prelude::*;
 
 /// Passes by text of ASCII at the front of a piece, where no key waits, by right classes: at most `reach` bytes, and to the end of a
@@ -34,22 +30,10 @@ pub(crate) fn pass_blocks<W: Weights>(
     requires right { AreLetters (W.table table.now) pattern.now letters.old }
     requires classes { AreClassesRight (W.table table.now) pattern.now classes.now }
     ensures right { AreLetters (W.table table.now) pattern.now letters.new }
-    ensures within { IfSome result (λ r. r.end + len_utf8 r.next ≤ length piece.now) }
-    ensures order { IfSome result (λ r. r.start ≤ r.end) }
-    ensures reach { IfSome result (λ r. r.end ≤ reach) }
-    ensures next { IfSome result (λ r.
-        SpellsCharacter (take (len_utf8 r.next) (drop r.end piece.now)) r.next) }
-    ensures letter { IfSome result
-        (λ r. IsLetter (W.table table.now) pattern.now (r.next ∷ []) r.letter) }
-    ensures text { IfSome result (λ r. IsUtf8 (take r.end piece.now)) }
-    ensures passed { IfSome result (λ r. (at : ℕ)
-        → IsPassed (W.table table.now) pattern.now at (at + r.start)
-        (chars (take r.end piece.now)) r.next) }
+    ensures passes { IfSome result
+        (PassesTo (W.table table.now) pattern.now piece.now reach) }
 {
-    laws_of_points();
-    laws_of_ordering();
-    laws_of_faults();
-    laws_of_decompositions();
+    laws_of_characters();
     laws_of_symbols();
     units_stay_apart();
     weighers_go_on();

@@ -1,19 +1,13 @@
 //! Passes by characters one by one, as long as each has a key that the pattern does not have, and as its letter is known.
-ghost use Rattle.std.specs.Prelude.{◌≡◌, ◌≢◌, ℕ, ◌+◌, ◌≤◌, ◌<◌, ◌∷◌, [], length, take, drop, IfSome};
-ghost use Rattle.std.specs.Char.{len_utf8};
-ghost use Rattle.std.specs.Str.{chars, IsUtf8};
-ghost use Rattle.utf8_cut.specs.Sequences.{SpellsCharacter};
+ghost use Rattle.std.specs.Prelude.{IfSome};
 ghost use Rattle.collation_table.specs.Table.{TableMap};
-ghost use Rattle.collation_letters.specs.Letters.{IsLetter};
 ghost use Rattle.collation_letters.specs.Store.{AreLetters};
-ghost use Rattle.collation_skip.specs.Blocks.{IsClean};
-ghost use Rattle.collation_skip.specs.Passed.{IsPassed};
+ghost use Rattle.collation_skip.specs.Passed.{PassesTo};
 
 use crate::blocks::is_clean;
 use crate::passed::Passed;
-use collation_letters::{Letters, is_next, laws_of_symbols};
+use collation_letters::{Letters, is_next, laws_of_characters, laws_of_symbols};
 use collation_pattern::Pattern;
-use nfd_points::laws::{laws_of_decompositions, laws_of_faults, laws_of_ordering, laws_of_points};
 use utf8_cut::sized_character;
 
 /// Passes by characters at the front of a piece, where no key waits, up to one that begins not after `reach`: each one has one key at
@@ -24,22 +18,10 @@ pub(crate) fn pass_foreign(
     piece: &[u8],
     reach: usize,
 ) -> Option<Passed>
-    ensures within { IfSome result (λ r. r.end + len_utf8 r.next ≤ length piece.now) }
-    ensures order { IfSome result (λ r. r.start ≤ r.end) }
-    ensures reach { IfSome result (λ r. r.end ≤ reach) }
-    ensures next { IfSome result (λ r.
-        SpellsCharacter (take (len_utf8 r.next) (drop r.end piece.now)) r.next) }
-    ensures letter { (table : TableMap) → AreLetters table pattern.now letters.now
-        → IfSome result (λ r. IsLetter table pattern.now (r.next ∷ []) r.letter) }
-    ensures text { IfSome result (λ r. IsUtf8 (take r.end piece.now)) }
-    ensures passed { (table : TableMap) → AreLetters table pattern.now letters.now
-        → IfSome result (λ r. (at : ℕ)
-        → IsPassed table pattern.now at (at + r.start) (chars (take r.end piece.now)) r.next) }
+    ensures { (table : TableMap) → AreLetters table pattern.now letters.now
+        → IfSome result (PassesTo table pattern.now piece.now reach) }
 {
-    laws_of_points();
-    laws_of_ordering();
-    laws_of_faults();
-    laws_of_decompositions();
+    laws_of_characters();
     laws_of_symbols();
     let (first, first_len) = sized_character(piece)?;
     let first_letter = letters.known(first)?;

@@ -1,7 +1,7 @@
 //! Vectors of sixteen bytes, lane by lane.
 ghost use Rattle.std.specs.Prelude.{◌≡◌, ◌≢◌, ◌↔◌, ℕ, ◌+◌, ◌-◌, ◌%◌, ◌/◌, ◌<◌, ◌≤◌, ◌∷◌, ◌++◌, min, true, length, slice_index, bit_and, bit_or};
 ghost use Rattle.collation_skip.specs.Blocks.{HaltsDecide, KeysDecide, MayPass, PassesBehind, in_set};
-ghost use Rattle.collation_skip.specs.TwoBytes.{GoesOn, is_in, leads, trails};
+ghost use Rattle.collation_skip.specs.TwoBytes.{GoesOn, is_in};
 ghost use Rattle.collation_skip.specs.Lanes.{HasLanes};
 
 use crate::classes::{COLUMNS, Classes, in_set};

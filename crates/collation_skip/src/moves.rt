@@ -11,10 +11,9 @@ ghost use Rattle.collation_skip.specs.Reached.{IsMove};
 use crate::begun::Decoded;
 use crate::depth::depth_after;
 use crate::state::{State, is_foreign};
-use collation_letters::{Letter, Letters, is_next};
+use collation_letters::{Letter, Letters, is_next, laws_of_characters};
 use collation_pattern::Pattern;
 use collation_table::Weights;
-use nfd_points::laws::{laws_of_decompositions, laws_of_faults, laws_of_ordering, laws_of_points};
 
 /// How many of a pattern's first keys the automaton follows at most.
 const MOST_DEPTH: usize = 8;
@@ -91,10 +90,7 @@ fn behind_letter<W: Weights>(
         → SpellsCharacter (begun_bytes state.now.begun ++ byte ∷ []) c
         → IsMove (W.table table.now) pattern.now state.now byte to) }
 {
-    laws_of_points();
-    laws_of_ordering();
-    laws_of_faults();
-    laws_of_decompositions();
+    laws_of_characters();
     let most = pattern.keys().len().min(MOST_DEPTH);
     if state.depth >= most {
         return None;

@@ -1,5 +1,5 @@
 //! The rows of the automaton's states: how they are found, made and filled.
-ghost use Rattle.std.specs.Prelude.{◌≡◌, ◌≤◌};
+ghost use Rattle.std.specs.Prelude.{◌≡◌};
 ghost use Rattle.collation_skip.specs.Rows.{parity};
 
 use crate::automaton::Automaton;
@@ -21,7 +21,7 @@ const PLACES: usize = 2_048;
 const NOTHING: u32 = 0xFFFF_FFFF;
 
 impl Automaton {
-    ghost use Rattle.std.specs.Prelude.{◌≡◌, ◌+◌, ◌<◌, ◌≤◌, ◌∷◌, ◌++◌, ℕ, length, slice_get, Some, true, IfSome};
+    ghost use Rattle.std.specs.Prelude.{◌≡◌, ◌+◌, ◌<◌, ℕ, slice_get, Some, true, IfSome};
     ghost use Rattle.collation_table.specs.Table.{TableMap};
     ghost use Rattle.collation_pattern.specs.Compiled.{Compiled};
     ghost use Rattle.collation_letters.specs.Store.{AreLetters};

@@ -42,15 +42,11 @@ pub struct Skip {
 }
 
 impl Skip {
-    ghost use Rattle.std.specs.Prelude.{◌≡◌, ℕ, ◌+◌, ◌≤◌, ◌∷◌, [], length, take, drop, IfSome};
-    ghost use Rattle.std.specs.Char.{len_utf8};
-    ghost use Rattle.std.specs.Str.{chars, IsUtf8};
-    ghost use Rattle.utf8_cut.specs.Sequences.{SpellsCharacter};
+    ghost use Rattle.std.specs.Prelude.{◌≡◌, IfSome};
     ghost use Rattle.collation_table.specs.Table.{TableMap};
     ghost use Rattle.collation_pattern.specs.Compiled.{Compiled};
-    ghost use Rattle.collation_letters.specs.Letters.{IsLetter};
     ghost use Rattle.collation_letters.specs.Store.{AreLetters};
-    ghost use Rattle.collation_skip.specs.Passed.{IsPassed};
+    ghost use Rattle.collation_skip.specs.Passed.{PassesTo};
     ghost use Rattle.collation_skip.specs.Skips.{IsSkipRight};
 
     /// Nothing is known yet. Takes no memory.
@@ -80,17 +76,8 @@ impl Skip {
     ) -> Option<Passed>
         requires right { IsSkipRight (W.table table.now) pattern.now self.old }
         requires letters { AreLetters (W.table table.now) pattern.now letters.old }
-        ensures within { IfSome result (λ it. it.end + len_utf8 it.next ≤ length piece.now) }
-        ensures order { IfSome result (λ it. it.start ≤ it.end) }
-        ensures reach { IfSome result (λ it. it.end ≤ reach) }
-        ensures next { IfSome result
-            (λ it. SpellsCharacter (take (len_utf8 it.next) (drop it.end piece.now)) it.next) }
-        ensures letter { IfSome result
-            (λ it. IsLetter (W.table table.now) pattern.now (it.next ∷ []) it.letter) }
-        ensures text { IfSome result (λ it. IsUtf8 (take it.end piece.now)) }
-        ensures passed { IfSome result (λ it. (at : ℕ)
-            → IsPassed (W.table table.now) pattern.now at (at + it.start)
-            (chars (take it.end piece.now)) it.next) }
+        ensures passes { IfSome result
+            (PassesTo (W.table table.now) pattern.now piece.now reach) }
         ensures right { IsSkipRight (W.table table.now) pattern.now self.new }
         ensures letters { AreLetters (W.table table.now) pattern.now letters.new }
     {

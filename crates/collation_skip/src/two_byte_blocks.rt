@@ -1,24 +1,17 @@
 //! Passes by text of characters of one and of two bytes sixteen bytes at a time, as long as no two neighbours may be part of a match.
-ghost use Rattle.std.specs.Prelude.{◌≡◌, ◌≢◌, ◌↔◌, ℕ, suc, ◌+◌, ◌-◌, ◌<◌, ◌≤◌, ◌∷◌, [], length, take, drop, true, IfSome, slice_index};
-ghost use Rattle.std.specs.Char.{len_utf8};
-ghost use Rattle.std.specs.Str.{chars, IsUtf8};
-ghost use Rattle.utf8_cut.specs.Sequences.{SpellsCharacter};
-ghost use Rattle.collation_letters.specs.Apart.{IsNext};
-ghost use Rattle.collation_letters.specs.Letters.{IsLetter};
+ghost use Rattle.std.specs.Prelude.{◌≡◌, ◌↔◌, ℕ, ◌+◌, ◌-◌, ◌<◌, ◌≤◌, length, true, IfSome, slice_index};
 ghost use Rattle.collation_letters.specs.Store.{AreLetters};
-ghost use Rattle.collation_skip.specs.Blocks.{IsClean};
-ghost use Rattle.collation_skip.specs.Passed.{IsPassed};
-ghost use Rattle.collation_skip.specs.TwoBytes.{AreSetsRight, DoesNotGoOn, GoesOn, Pass, StopsAt, is_in, leads, trails};
+ghost use Rattle.collation_skip.specs.Passed.{PassesTo};
+ghost use Rattle.collation_skip.specs.TwoBytes.{AreSetsRight, IsEnding, DoesNotGoOn, GoesOn, Pass, StopsAt, is_in, trails};
 
 use crate::blocks::is_clean;
 use crate::lanes::{is_zero, load, stops_of_two, zeros_in_front};
 use crate::passed::Passed;
 use crate::two_byte_sets::{LEADS, TRAILS, TwoByteSets};
 use collation_elements::{units_stay_apart, weighers_go_on};
-use collation_letters::{Letter, Letters, is_next, laws_of_symbols};
+use collation_letters::{Letter, Letters, is_next, laws_of_characters, laws_of_symbols};
 use collation_pattern::Pattern;
 use collation_table::Weights;
-use nfd_points::laws::{laws_of_decompositions, laws_of_faults, laws_of_ordering, laws_of_points};
 use utf8_cut::sized_character;
 
 /// The fewest bytes for which blocks are begun.
@@ -43,22 +36,10 @@ pub(crate) fn pass_two_bytes<W: Weights>(
     requires right { AreLetters (W.table table.now) pattern.now letters.old }
     requires sets { AreSetsRight (W.table table.now) pattern.now sets.now }
     ensures right { AreLetters (W.table table.now) pattern.now letters.new }
-    ensures within { IfSome result (λ r. r.end + len_utf8 r.next ≤ length piece.now) }
-    ensures order { IfSome result (λ r. r.start ≤ r.end) }
-    ensures reach { IfSome result (λ r. r.end ≤ reach) }
-    ensures next { IfSome result (λ r.
-        SpellsCharacter (take (len_utf8 r.next) (drop r.end piece.now)) r.next) }
-    ensures letter { IfSome result
-        (λ r. IsLetter (W.table table.now) pattern.now (r.next ∷ []) r.letter) }
-    ensures text { IfSome result (λ r. IsUtf8 (take r.end piece.now)) }
-    ensures passed { IfSome result (λ r. (at : ℕ)
-        → IsPassed (W.table table.now) pattern.now at (at + r.start)
-        (chars (take r.end piece.now)) r.next) }
+    ensures passes { IfSome result
+        (PassesTo (W.table table.now) pattern.now piece.now reach) }
 {
-    laws_of_points();
-    laws_of_ordering();
-    laws_of_faults();
-    laws_of_decompositions();
+    laws_of_characters();
     laws_of_symbols();
     units_stay_apart();
     weighers_go_on();
@@ -180,23 +161,8 @@ fn last_ending<W: Weights>(
     requires right { AreLetters (W.table table.now) pattern.now letters.old }
     requires len { len ≤ length piece.now }
     ensures right { AreLetters (W.table table.now) pattern.now letters.new }
-    ensures begins { IfSome result (λ r. trails (slice_index piece.now r.start) ≡ 0) }
-    ensures whole { IfSome result (λ r. r.start < len
-        × (128 ≤ slice_index piece.now r.start → suc r.start < len)) }
-    ensures within { IfSome result (λ r. r.end ≤ len) }
-    ensures end { IfSome result (λ r. r.end ≡ r.start + len_utf8 r.character) }
-    ensures character { IfSome result (λ r.
-        SpellsCharacter (take (len_utf8 r.character) (drop r.start piece.now)) r.character) }
-    ensures letter { IfSome result (λ r.
-        IsLetter (W.table table.now) pattern.now (r.character ∷ []) r.letter) }
-    ensures clean { IfSome result (λ r. IsClean r.letter) }
-    ensures room { IfSome result (λ r. r.end + len_utf8 r.next ≤ length piece.now) }
-    ensures next { IfSome result (λ r.
-        SpellsCharacter (take (len_utf8 r.next) (drop r.end piece.now)) r.next) }
-    ensures following { IfSome result (λ r.
-        IsLetter (W.table table.now) pattern.now (r.next ∷ []) r.following) }
-    ensures apart { IfSome result (λ r. (at : ℕ)
-        → IsNext (W.table table.now) at (r.character ∷ []) r.next) }
+    ensures ending { IfSome result
+        (IsEnding (W.table table.now) pattern.now piece.now len) }
 {
     let first = len.saturating_sub(WAY_BACK);
     let mut start = len;
@@ -224,23 +190,8 @@ fn ending_at<W: Weights>(
     requires len { len ≤ length piece.now }
     requires start { start < len }
     ensures right { AreLetters (W.table table.now) pattern.now letters.new }
-    ensures begins { IfSome result (λ r. trails (slice_index piece.now r.start) ≡ 0) }
-    ensures whole { IfSome result (λ r. r.start < len
-        × (128 ≤ slice_index piece.now r.start → suc r.start < len)) }
-    ensures within { IfSome result (λ r. r.end ≤ len) }
-    ensures end { IfSome result (λ r. r.end ≡ r.start + len_utf8 r.character) }
-    ensures character { IfSome result (λ r.
-        SpellsCharacter (take (len_utf8 r.character) (drop r.start piece.now)) r.character) }
-    ensures letter { IfSome result (λ r.
-        IsLetter (W.table table.now) pattern.now (r.character ∷ []) r.letter) }
-    ensures clean { IfSome result (λ r. IsClean r.letter) }
-    ensures room { IfSome result (λ r. r.end + len_utf8 r.next ≤ length piece.now) }
-    ensures next { IfSome result (λ r.
-        SpellsCharacter (take (len_utf8 r.next) (drop r.end piece.now)) r.next) }
-    ensures following { IfSome result (λ r.
-        IsLetter (W.table table.now) pattern.now (r.next ∷ []) r.following) }
-    ensures apart { IfSome result (λ r. (at : ℕ)
-        → IsNext (W.table table.now) at (r.character ∷ []) r.next) }
+    ensures ending { IfSome result
+        (IsEnding (W.table table.now) pattern.now piece.now len) }
 {
     let first = piece[start];
     if TRAILS[(first / 16) as usize] != 0 || (first >= 128 && start + 1 >= len) {

@@ -44,15 +44,11 @@ pub(crate) struct TwoByteBlocks {
 }
 
 impl TwoByteBlocks {
-    ghost use Rattle.std.specs.Prelude.{ℕ, ◌+◌, ◌≤◌, ◌∷◌, [], length, take, drop, IfSome};
-    ghost use Rattle.std.specs.Char.{len_utf8};
-    ghost use Rattle.std.specs.Str.{chars, IsUtf8};
-    ghost use Rattle.utf8_cut.specs.Sequences.{SpellsCharacter};
+    ghost use Rattle.std.specs.Prelude.{IfSome};
     ghost use Rattle.collation_table.specs.Table.{TableMap};
     ghost use Rattle.collation_pattern.specs.Compiled.{Compiled};
-    ghost use Rattle.collation_letters.specs.Letters.{IsLetter};
     ghost use Rattle.collation_letters.specs.Store.{AreLetters};
-    ghost use Rattle.collation_skip.specs.Passed.{IsPassed};
+    ghost use Rattle.collation_skip.specs.Passed.{PassesTo};
     ghost use Rattle.collation_skip.specs.TwoBytes.{AreTwoByteBlocksRight};
 
     /// No sets are chosen yet.
@@ -86,17 +82,8 @@ impl TwoByteBlocks {
         requires blocks { AreTwoByteBlocksRight (W.table table.now) pattern.now self.old }
         ensures right { AreLetters (W.table table.now) pattern.now letters.new }
         ensures blocks { AreTwoByteBlocksRight (W.table table.now) pattern.now self.new }
-        ensures within { IfSome result (λ r. r.end + len_utf8 r.next ≤ length piece.now) }
-        ensures order { IfSome result (λ r. r.start ≤ r.end) }
-        ensures reach { IfSome result (λ r. r.end ≤ reach) }
-        ensures next { IfSome result (λ r.
-            SpellsCharacter (take (len_utf8 r.next) (drop r.end piece.now)) r.next) }
-        ensures letter { IfSome result
-            (λ r. IsLetter (W.table table.now) pattern.now (r.next ∷ []) r.letter) }
-        ensures text { IfSome result (λ r. IsUtf8 (take r.end piece.now)) }
-        ensures passed { IfSome result (λ r. (at : ℕ)
-            → IsPassed (W.table table.now) pattern.now at (at + r.start)
-            (chars (take r.end piece.now)) r.next) }
+        ensures passes { IfSome result
+            (PassesTo (W.table table.now) pattern.now piece.now reach) }
     {
         if turn != self.turn {
             return None;

@@ -9,6 +9,8 @@ mod blocks;
 #[cfg(test)]
 mod calls;
 #[cfg(test)]
+mod clauses;
+#[cfg(test)]
 mod cut;
 #[cfg(test)]
 mod dfa;

@@ -4,6 +4,7 @@ use Rattle.std.proofs.Common.{◌≡◌, ◌-◌, ◌≤◌, ℕ, List, ◌∷�
 use Rattle.collation_letters.specs.Letters.{IsLetter}
 use Rattle.collation_search.specs.Caches.{AreRight}
 use Rattle.collation_search.specs.LetterRun.{HasComeTo}
+use Rattle.collation_search.specs.Walks.{KeepsWalk}
 use Rattle.collation_search.proofs.letter_loop.walk_letters.Given as goal
 
 -- the characters so far were walked over, c follows them, and the sink was called for the ranges so far
@@ -11,9 +12,7 @@ abbrev pub invariant-characters : goal.invariant-characters
 invariant-characters g l = record {
   callable : goal.F-IsAlwaysCallable g l.sink;
   right : AreRight (g.W.Weights.table l.query.table.now) l.query.pattern.now l.cache;
-  state : l.matcher.walk.state ≤ length l.query.pattern.now.keys;
-  select : l.matcher.walk.select ≡ l.fn.matcher.walk.select;
-  room : l.matcher.walk.places.capacity ≡ l.fn.matcher.walk.places.capacity;
+  keeps : KeepsWalk l.query.pattern.now l.fn.matcher.walk l.matcher.walk;
   forth : l.at ≤ l.end;
   ends : l.end ≤ length l.piece;
   part : IsUtf8 (take (l.end - l.at) (drop l.at l.piece));

@@ -8,6 +8,7 @@ use Rattle.std.proofs.lemmas.List.Elements.{All-contains_itself}
 use Rattle.std.specs.List.{All, Contains}
 use Rattle.collation_search.specs.Matching.{HasMatched}
 use Rattle.collation_search.proofs.MatchingLemmas.{all-among, among-through}
+use Rattle.collation_search.proofs.WalkSteps.{keeps-on}
 use Rattle.collation_search.proofs.matching.cut_units.Goals as goal
 
 pub take_unit-requires-clause-room : goal.take_unit-requires-clause-room
@@ -47,9 +48,7 @@ loop-unit-preserved g c =
           ap (λ w. left_points table w.points) c.in-Some.ensures.rest
           ∙ sym (c.decided_units_stay.ensures.cut table c.loop-unit.window here (c.in-Some.ensures.decided.0 refl))
           ∙ c.loop-unit.invariant.left goes_on;
-      state = c.take_unit.ensures.state;
-      select = c.take_unit.ensures.select ∙ c.loop-unit.invariant.select;
-      room = c.take_unit.ensures.room ∙ c.loop-unit.invariant.room;
+      keeps = keeps-on c.args.pattern.now _ _ _ c.loop-unit.invariant.keeps c.take_unit.ensures.keeps;
     }
 
 pub loop-unit-init : goal.loop-unit-init
@@ -62,9 +61,7 @@ loop-unit-init g c = record {
   ended = refl;
   last = λ open_window starts. starts;
   left = λ goes_on. refl;
-  state = c.requires.state;
-  select = refl;
-  room = refl;
+  keeps = record { state = c.requires.state; select = refl; room = refl };
 }
 
 pub returns-clause-kept : goal.returns-clause-kept

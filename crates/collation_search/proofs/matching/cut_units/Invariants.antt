@@ -5,6 +5,7 @@ use Rattle.unicode_normalization.specs.StreamSafe.{has_short_runs}
 use Rattle.nfd_points.specs.Reordering.{IsSoundPoint, code_points, is_closed}
 use Rattle.collation_elements.specs.Decided.{left_points}
 use Rattle.collation_search.specs.Matching.{HasMatched}
+use Rattle.collation_search.specs.Walks.{KeepsWalk}
 use Rattle.collation_search.proofs.matching.cut_units.Given as goal
 
 abbrev pub invariant-loop-unit : goal.invariant-loop-unit
@@ -21,9 +22,7 @@ invariant-loop-unit g l = record {
   last : l.initial.window.has_ended ≡ false → is_closed l.initial.window.points ≡ true → is_closed l.window.points ≡ true;
   left : l.initial.window.has_ended ≡ false
       → left_points (g.W.Weights.table l.table) l.window.points ≡ left_points (g.W.Weights.table l.table) l.initial.window.points;
-  state : l.matcher.walk.state ≤ length l.pattern.keys;
-  select : l.matcher.walk.select ≡ l.initial.matcher.walk.select;
-  room : l.matcher.walk.places.capacity ≡ l.initial.matcher.walk.places.capacity;
+  keeps : KeepsWalk l.pattern l.initial.matcher.walk l.matcher.walk;
 }
 
 abbrev pub decreases-loop-unit : goal.decreases-loop-unit

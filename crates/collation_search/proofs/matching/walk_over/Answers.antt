@@ -5,6 +5,7 @@ use Rattle.collation_elements.specs.declared.keys.Item.{Item}
 use Rattle.collation_elements.specs.declared.keys.Item.TheVariants.{ClusterStart}
 use Rattle.collation_elements.specs.ItemParts.{item_starts}
 use Rattle.collation_search.specs.Walks.{WalksOver}
+use Rattle.collation_search.proofs.WalkSteps.{keeps-on}
 use Rattle.collation_search.proofs.MatchingLemmas.{item_starts-append, starts_so_far, few_at_start}
 use Rattle.collation_search.proofs.matching.walk_over.Goals as goal
 
@@ -35,9 +36,7 @@ loop-item-preserved c =
           let sum = ap length kept ∙ length-append c.loop-item.found.items one in
           let starts = ap (λ t. length (item_starts t)) more ∙ ap length (item_starts-append (take i xs) (x ∷ [])) ∙ length-append (item_starts (take i xs)) (item_starts (x ∷ [])) in
           omega (arith, few_at_start x c.take-range.result c.take-range.ensures.at_start, c.loop-item.invariant.few, sum, starts);
-      state = c.take-range.ensures.within;
-      select = c.take-range.ensures.select ∙ c.loop-item.invariant.select;
-      room = c.take-range.ensures.room ∙ c.loop-item.invariant.room;
+      keeps = keeps-on c.args.pattern.now _ _ _ c.loop-item.invariant.keeps c.take-range.ensures.keeps;
     }
 
 pub returns-clause-stands : goal.returns-clause-stands

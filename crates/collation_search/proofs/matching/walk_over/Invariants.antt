@@ -1,7 +1,7 @@
 use Rattle.std.proofs.Common.{◌≡◌, ◌+◌, ◌≤◌, ℕ, List, ◌++◌, length, take}
 use Rattle.collation_elements.specs.declared.keys.Item.{Item}
 use Rattle.collation_elements.specs.ItemParts.{item_starts}
-use Rattle.collation_search.specs.Walks.{WalksOver}
+use Rattle.collation_search.specs.Walks.{KeepsWalk, WalksOver}
 use Rattle.collation_search.proofs.matching.walk_over.Given as goal
 
 -- the items so far were walked over
@@ -10,7 +10,5 @@ invariant-loop-item l = record {
   stands : (before : List Item) (ranges : List (ℕ × ℕ)) → WalksOver l.pattern.keys before (ranges ++ l.initial.found.items) l.initial.walk
       → WalksOver l.pattern.keys (before ++ take l.item-index l.items) (ranges ++ l.found.items) l.walk;
   few : length l.found.items ≤ length l.initial.found.items + length (item_starts (take l.item-index l.items));
-  state : l.walk.state ≤ length l.pattern.keys;
-  select : l.walk.select ≡ l.initial.walk.select;
-  room : l.walk.places.capacity ≡ l.initial.walk.places.capacity;
+  keeps : KeepsWalk l.pattern l.initial.walk l.walk;
 }

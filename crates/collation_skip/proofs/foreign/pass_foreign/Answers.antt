@@ -5,7 +5,6 @@ use Rattle.std.proofs.lemmas.Bool.{eqb-false}
 use Rattle.std.proofs.lemmas.List.{length-drop, take_rest}
 use Rattle.utf8_cut.specs.Sequences.{SpellsCharacter}
 use Rattle.collation_elements.specs.declared.keys.Key.{Key}
-use Rattle.collation_letters.proofs.ApartLaws.{Laws}
 use Rattle.collation_skip.proofs.ForeignLemmas.{ForeignLaws, AreQuiet, quiet-so_far, passed-on, text-on}
 use Rattle.collation_skip.proofs.foreign.pass_foreign.Goals as goal
 
@@ -26,19 +25,8 @@ loop-end-preserved c =
     let some : 0 < length pattern.keys =
     let none = eqb-false (length c.keys.result.now) 0 (sym c.is_empty.ensures ∙ c.if-is_empty.false) in
     let keys = ap (λ (l : List Key). length l) c.keys.ensures in omega (arith, none, keys) in
-    let points : Laws = record {
-      short = c.laws_of_decompositions.ensures.short;
-      in_order = c.laws_of_decompositions.ensures.in_order;
-      few = c.laws_of_faults.ensures.few;
-      anew = c.laws_of_faults.ensures.anew;
-      bytes = c.laws_of_points.ensures.bytes_of_parts;
-      parts = c.laws_of_points.ensures.parts;
-      at_starters = c.laws_of_ordering.ensures.at_starters;
-      stays = c.laws_of_ordering.ensures.stays;
-    } in
     let laws : ForeignLaws = record {
-      points = points;
-      shifted = c.laws_of_points.ensures.shifted;
+      points = c.laws_of_characters.ensures;
       one = c.laws_of_symbols.ensures.one;
       foreign = c.laws_of_symbols.ensures.foreign;
     } in
@@ -59,5 +47,16 @@ loop-end-preserved c =
           (apart table pattern (at + end) (here ∷ []) next (i.letter table are) (letter table pattern are));
     }
 
-pub returns-clause-passed : goal.returns-clause-passed
-returns-clause-passed c = λ table are at. c.loop-end.invariant.passed table are (omega (arith, c.if-end-eq0.false)) at
+pub returns : goal.returns
+returns c = λ table are.
+    let i = c.loop-end.invariant in
+    let within = i.within in
+    record {
+      within = omega (arith, within, i.len);
+      order = i.order;
+      reach = i.reach;
+      next = i.next;
+      letter = i.letter table are;
+      text = i.text;
+      passed = i.passed table are (omega (arith, c.if-end-eq0.false));
+    }

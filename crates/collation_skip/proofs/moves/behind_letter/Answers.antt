@@ -3,7 +3,6 @@ use Rattle.collation_elements.specs.declared.keys.Key.{Key}
 use Rattle.std.proofs.Math.Logic.{∥∥₁_map}
 use Rattle.collation_letters.specs.declared.letter.Letter.{Letter}
 use Rattle.collation_letters.specs.Letters.{flag_after, IsLetter}
-use Rattle.collation_letters.proofs.ApartLaws.{Laws}
 use Rattle.collation_letters.proofs.LetterLemmas.{letter-without_apart}
 use Rattle.collation_skip.proofs.ReachedLemmas.{IsClean, reached-next}
 use Rattle.collation_skip.proofs.moves.behind_letter.Goals as goal
@@ -15,16 +14,7 @@ returns g c =
     let pattern = c.args.pattern.now in
     let s = c.args.state.now in
     let t = c.behind.result in
-    let laws : Laws = record {
-      short = c.laws_of_decompositions.ensures.short;
-      in_order = c.laws_of_decompositions.ensures.in_order;
-      few = c.laws_of_faults.ensures.few;
-      anew = c.laws_of_faults.ensures.anew;
-      bytes = c.laws_of_points.ensures.bytes_of_parts;
-      parts = c.laws_of_points.ensures.parts;
-      at_starters = c.laws_of_ordering.ensures.at_starters;
-      stays = c.laws_of_ordering.ensures.stays;
-    } in
+    let laws = c.laws_of_characters.ensures in
     let flag : c.is_foreign.result ≡ true → (after : Bool) → flag_after s.letter.role after ≡ false =
     λ yes. elim [ true ↦ c.is_foreign.ensures.flag_after yes | false ↦ c.is_foreign.ensures.flag yes ] in
     let clean : 0 < t.before → IsClean s t = elim c.if-is_foreign.branch [
@@ -42,7 +32,7 @@ returns g c =
     let below : t.depth < length pattern.keys = omega (arith, c.behind.ensures.depth, c.if-depth-most.false, c.min-most.ensures, ap (λ (l : List Key). length l) c.keys.ensures) in
     record {
       moves = λ byte spelled at bytes h. ∥∥₁_map h (λ r.
-          reached-next laws c.laws_of_points.ensures.shifted table pattern s t at bytes byte c.args.c spelled c.requires.known.0 c.requires.known.1 c.requires.next
+          reached-next laws laws.shifted table pattern s t at bytes byte c.args.c spelled c.requires.known.0 c.requires.known.1 c.requires.next
           (λ before keys symbols so_far. c.depth_after-depth.ensures before keys symbols so_far ∙ sym c.behind.ensures.depth) below letter c.behind.ensures.len
           (λ closed. sym (c.behind.ensures.character (ap (λ (l : Letter). l.is_closed) (sym c.behind.ensures.letter) ∙ closed))) c.behind.ensures.begun clean r);
     }

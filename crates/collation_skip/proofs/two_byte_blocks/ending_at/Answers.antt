@@ -1,7 +1,25 @@
-use Rattle.std.proofs.Common.{[], ◌∷◌}
+use Rattle.std.specs.Char.{len_utf8}
+use Rattle.std.proofs.Common.{rules, ℕ, List, [], ◌∷◌, ◌+◌, take, subst}
+use Rattle.std.proofs.lemmas.List.{take_rest}
+use Rattle.utf8_cut.specs.Sequences.{SpellsCharacter}
 use Rattle.collation_skip.proofs.two_byte_blocks.ending_at.Goals as goal
 
-pub returns-clause-apart : goal.returns-clause-apart
-returns-clause-apart g c = λ at.
-    c.is_next.ensures.apart c.if-not-is_next.false (g.W.Weights.table c.args.table.now) c.args.pattern.now at (c.in_ok-character.character ∷ []) c.in_ok-next.next
-    (let letter = c.letter-letter.ensures.letter in letter) c.letter-following.ensures.letter
+pub returns-clause-ending : goal.returns-clause-ending
+returns-clause-ending g c =
+    let piece = c.args.piece.now in
+    let character = c.in_ok-character.character in
+    let next = c.in_ok-next.next in
+    record {
+      begins = search rules;
+      inside = search rules;
+      whole = search rules;
+      within = search rules;
+      end = search rules;
+      character = subst (λ (bs : List ℕ). SpellsCharacter (take (len_utf8 character) bs) character) (take_rest piece c.args.start) c.in_ok-character.ensures.some.1;
+      letter = c.letter-letter.ensures.letter;
+      clean = search rules;
+      room = search rules;
+      next = subst (λ (bs : List ℕ). SpellsCharacter (take (len_utf8 next) bs) next) (take_rest piece (c.args.start + c.in_ok-character.character_len)) c.in_ok-next.ensures.some.1;
+      following = c.letter-following.ensures.letter;
+      apart = λ at. c.is_next.ensures.apart c.if-not-is_next.false (g.W.Weights.table c.args.table.now) c.args.pattern.now at (character ∷ []) next c.letter-letter.ensures.letter c.letter-following.ensures.letter;
+    }

@@ -22,8 +22,8 @@ invariant_of-self g c =
       closed = ap is_closed none;
       sound = All-same IsSoundPoint _ _ none (All-nil IsSoundPoint);
       short_runs = ap (λ ps. has_short_runs 0 (code_points ps)) none;
-      state = omega (arith, c.cut_units.ensures.state, c.requires.pattern_len);
-      room = c.cut_units.ensures.room ∙ c.args.self.now.room;
+      state = omega (arith, c.cut_units.ensures.keeps.state, c.requires.made.pattern_len);
+      room = c.cut_units.ensures.keeps.room ∙ c.args.self.now.room;
     }
 
 pub returns-clause-walked : goal.returns-clause-walked

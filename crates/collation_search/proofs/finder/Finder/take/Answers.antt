@@ -26,12 +26,12 @@ invariant_of-self-2 g c =
     record {
       capacity = c.cut_units.ensures.capacity ∙ ap (λ w. w.capacity) c.push_points.ensures.points ∙ c.args.self.now.capacity;
       short = c.args.self.now.short;
-      undecided = let few = c.cut_units.ensures.rest open_window closed in omega (arith, few, c.requires.longest);
+      undecided = let few = c.cut_units.ensures.rest open_window closed in omega (arith, few, c.requires.made.longest);
       closed = c.cut_units.ensures.last open_window closed;
       sound = all-among IsSoundPoint c.push_points.new.window.points c.cut_units.new.window.points sound c.cut_units.ensures.kept;
       short_runs = c.cut_units.ensures.short sound short;
-      state = omega (arith, c.cut_units.ensures.state, c.requires.pattern_len);
-      room = c.cut_units.ensures.room ∙ c.args.self.now.room;
+      state = omega (arith, c.cut_units.ensures.keeps.state, c.requires.made.pattern_len);
+      room = c.cut_units.ensures.keeps.room ∙ c.args.self.now.room;
     }
 
 pub returns-clause-stands : goal.returns-clause-stands

@@ -11,7 +11,6 @@ use Rattle.collation_elements.specs.Units.{units}
 use Rattle.collation_search.specs.Apart.{EndsBefore, AreApart, IsPausedBefore}
 use Rattle.collation_search.specs.Matching.{HasWalkedOn}
 use Rattle.collation_search.specs.Finding.{FinderStandsFor}
-use Rattle.collation_search.proofs.ApartLaws.{Laws}
 use Rattle.collation_search.proofs.ApartLemmas.{begun}
 use Rattle.collation_search.proofs.PauseLemmas.{paused-on}
 use Rattle.collation_search.proofs.CharacterLemmas.{apart-at, text-more, chars-more, chars-len, one_char}
@@ -47,8 +46,8 @@ returns-then-not-can_begin-clause-taken g c =
 pub walk_letters-walked-requires-clause-begins : goal.walk_letters-walked-requires-clause-begins
 walk_letters-walked-requires-clause-begins g c =
     let table = g.W.Weights.table c.args.query.now.table.now in
-    let b = begun c.laws_of_decompositions.ensures.short c.args.front.offset c.in-Some.first in
-    ap begins_with_starter b.is ∙ (apart-at c.laws_of_points.ensures.shifted table c.args.query.now.pattern.now c.in-Some.first c.letter-letter.result c.args.front.offset (c.can_begin.ensures.apart c.if-not-can_begin.false) c.letter-letter.ensures.letter b.first (ap (λ t. slice_get t 0) b.is)).0
+    let b = begun c.laws_of_characters.ensures.short c.args.front.offset c.in-Some.first in
+    ap begins_with_starter b.is ∙ (apart-at c.laws_of_characters.ensures.shifted table c.args.query.now.pattern.now c.in-Some.first c.letter-letter.result c.args.front.offset (c.can_begin.ensures.apart c.if-not-can_begin.false) c.letter-letter.ensures.letter b.first (ap (λ t. slice_get t 0) b.is)).0
 
 -- the last character
 last_spelled : (piece : List ℕ) (at n c : ℕ) → n ≡ len_utf8 c → SpellsCharacter (take (len_utf8 c) (drop at piece)) c → IsUtf8 (take n (drop at piece)) × (chars (take n (drop at piece)) ≡ c ∷ [])
@@ -80,16 +79,7 @@ returns-clause-taken g c =
     let last = c.take.new.found.items in
     let before = c.pause.new.self in
     let after = c.walk_letters-walked.new.matcher in
-    let laws : Laws = record {
-      short = c.laws_of_decompositions.ensures.short;
-      in_order = c.laws_of_decompositions.ensures.in_order;
-      few = c.laws_of_faults.ensures.few;
-      anew = c.laws_of_faults.ensures.anew;
-      bytes = c.laws_of_points.ensures.bytes_of_parts;
-      parts = c.laws_of_points.ensures.parts;
-      at_starters = c.laws_of_ordering.ensures.at_starters;
-      stays = c.laws_of_ordering.ensures.stays;
-    } in
+    let laws = c.laws_of_characters.ensures in
     let within = e.within in
     let len = chars-len piece at (omega (arith, within)) e.text in
     let first_calls = subst (λ (t : List (ℕ × ℕ)). FoldsTo (λ f range t'. goal.F-step g f range.0 range.1 tt t') c.args.sink.now t c.hand_out.new.sink) c.as_slice.ensures.value c.hand_out.ensures.called in
@@ -99,7 +89,7 @@ returns-clause-taken g c =
           (folds-append (λ f range t. goal.F-step g f range.0 range.1 tt t) c.hand_out.new.sink walked.0 last c.walk_letters-walked.new.sink c.hand_out-2.new.sink walked.1 last_calls),
       λ taken handed h place.
           let ends : EndsBefore table (points taken) (byte_len taken) c.in-Some.first = λ x is more.
-          let begins = apart-at c.laws_of_points.ensures.shifted table pattern c.in-Some.first c.letter-letter.result (byte_len taken) (c.can_begin.ensures.apart c.if-not-can_begin.false) c.letter-letter.ensures.letter x is in
+          let begins = apart-at c.laws_of_characters.ensures.shifted table pattern c.in-Some.first c.letter-letter.result (byte_len taken) (c.can_begin.ensures.apart c.if-not-can_begin.false) c.letter-letter.ensures.letter x is in
           c.units_stay_apart.ensures.before table (points taken) x more begins.0 begins.1 in
           let paused : IsPausedBefore table pattern before.reorder before.window before.matcher taken (handed ++ held) c.in-Some.first = record { paused = c.pause.ensures.paused taken handed h; ends = ends } in
           let run : AreApart table (byte_len taken) cs next = subst (λ k. AreApart table k cs next) place e.apart in
@@ -107,7 +97,7 @@ returns-clause-taken g c =
           subst (λ k. HasWalkedOn table pattern before.matcher after (units table (points_from k cs)) walked.0) place e.walked in
           let there = paused-on laws table pattern before.reorder before.window before.matcher after taken cs c.in-Some.first next e.begun.0 (handed ++ held) walked.0
           e.begun.1 paused run on in
-          let offset : c.args.front.offset + at ≡ byte_len (taken ++ cs) = omega (arith, place, len, c.laws_of_points.ensures.bytes_of_parts taken cs) in
+          let offset : c.args.front.offset + at ≡ byte_len (taken ++ cs) = omega (arith, place, len, c.laws_of_characters.ensures.bytes taken cs) in
           let begins = subst (λ k. begins_with_starter (points_of (c.args.front.offset + k) next) ≡ true) len e.apart.next_begins in
           let ok = c.take.ensures.apart c.pause.ensures.none_waits in
           let found = on_ok-there c.take.result ok (c.take.ensures.afresh (taken ++ cs) ((handed ++ held) ++ walked.0) there offset begins) in
@@ -144,20 +134,11 @@ returns-clause-left g c = λ place taken handed h here reach before.
     let held = c.pause.new.found.items in
     let paused = c.pause.new.self in
     let after = c.walk_letters-walked.new.matcher in
-    let laws : Laws = record {
-      short = c.laws_of_decompositions.ensures.short;
-      in_order = c.laws_of_decompositions.ensures.in_order;
-      few = c.laws_of_faults.ensures.few;
-      anew = c.laws_of_faults.ensures.anew;
-      bytes = c.laws_of_points.ensures.bytes_of_parts;
-      parts = c.laws_of_points.ensures.parts;
-      at_starters = c.laws_of_ordering.ensures.at_starters;
-      stays = c.laws_of_ordering.ensures.stays;
-    } in
+    let laws = c.laws_of_characters.ensures in
     let within = e.within in
     let len = chars-len piece at (omega (arith, within)) e.text in
     let ends : EndsBefore table (points taken) (byte_len taken) c.in-Some.first = λ x is more.
-    let begins = apart-at c.laws_of_points.ensures.shifted table pattern c.in-Some.first c.letter-letter.result (byte_len taken) (c.can_begin.ensures.apart c.if-not-can_begin.false) c.letter-letter.ensures.letter x is in
+    let begins = apart-at c.laws_of_characters.ensures.shifted table pattern c.in-Some.first c.letter-letter.result (byte_len taken) (c.can_begin.ensures.apart c.if-not-can_begin.false) c.letter-letter.ensures.letter x is in
     c.units_stay_apart.ensures.before table (points taken) x more begins.0 begins.1 in
     let first : IsPausedBefore table pattern paused.reorder paused.window paused.matcher taken (handed ++ held) c.in-Some.first = record { paused = c.pause.ensures.paused taken handed h; ends = ends } in
     let run : AreApart table (byte_len taken) cs next = subst (λ k. AreApart table k cs next) here e.apart in
@@ -165,7 +146,7 @@ returns-clause-left g c = λ place taken handed h here reach before.
     subst (λ k. HasWalkedOn table pattern paused.matcher after (units table (points_from k cs)) walked.0) here e.walked in
     let there = paused-on laws table pattern paused.reorder paused.window paused.matcher after taken cs c.in-Some.first next e.begun.0 (handed ++ held) walked.0
     e.begun.1 first run on in
-    let offset : c.args.front.offset + at ≡ byte_len (taken ++ cs) = omega (arith, here, len, c.laws_of_points.ensures.bytes_of_parts taken cs) in
+    let offset : c.args.front.offset + at ≡ byte_len (taken ++ cs) = omega (arith, here, len, c.laws_of_characters.ensures.bytes taken cs) in
     let begins = subst (λ k. begins_with_starter (points_of (c.args.front.offset + k) next) ≡ true) len e.apart.next_begins in
     let ok = c.take.ensures.apart c.pause.ensures.none_waits in
     let now = on_ok-there c.take.result ok (c.take.ensures.left_afresh (taken ++ cs) ((handed ++ held) ++ walked.0) there offset begins) in

@@ -21,7 +21,7 @@ returns-in-None-clause-good g c = λ text u handed compiled h.
     answer-good s c.matches_by_clusters.ensures.matches c.matches_by_clusters.ensures.items text u (handed ++ c.last.new.found.items) c.count-end.result
     compiled h.some_key (c.whole_characters_are_the_longest_text.ensures.text u) (whole_of_good u h.open_bytes good) (c.count-end.ensures.stands_for u (characters u) h.cut_stands) good
     (c.last.ensures (items_in s (whole u)) handed walked
-    ∙ ap (λ select. selected select (found s.pattern.keys (clusters_from text_begin (items_in s (whole u))) c.count-end.result)) c.end_text.ensures.select)
+    ∙ ap (λ select. selected select (found s.pattern.keys (clusters_from text_begin (items_in s (whole u))) c.count-end.result)) c.end_text.ensures.setup.select)
 
 pub returns-in-Some-finish-clause-bad : goal.returns-in-Some-finish-clause-bad
 returns-in-Some-finish-clause-bad g c = λ text u handed compiled h.
@@ -32,6 +32,6 @@ returns-in-Some-finish-clause-bad g c = λ text u handed compiled h.
     let walked = c.end_text.ensures.ended (chars (whole u)) handed h.found in
     let all = append-nil u in
     let answered = answer-at_fault s c.matches_by_clusters.ensures.settled c.matches_by_clusters.ensures.items text u [] (handed ++ c.end_text.new.found.items) c.end_text.new.self.matcher.walk
-    (record { kind = 31; offset = c.in-Some-finish.offset }) c.end_text.ensures.select compiled h.some_key (c.whole_characters_are_the_longest_text.ensures.text u) within walked (ap fault all ∙ bad)
+    (record { kind = 31; offset = c.in-Some-finish.offset }) c.end_text.ensures.setup.select compiled h.some_key (c.whole_characters_are_the_longest_text.ensures.text u) within walked (ap fault all ∙ bad)
     (first_fault-at u c.in-Some-finish.offset cut) in
     ap (answer_to s text) (sym all) ∙ answered

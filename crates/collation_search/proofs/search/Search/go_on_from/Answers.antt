@@ -31,7 +31,7 @@ returns-clause-goes_on g c = λ words says.
       has_keys = f.has_keys ∙ says.has_keys;
       places = f.places ∙ says.places;
       capacity = f.capacity ∙ c.requires.new.found.matched.went.walked.capacity;
-      select = f.select;
+      select = f.setup.select;
       last_end = f.last_end ∙ says.last_end;
     } in
     let laws : SavedLaws = record {
@@ -44,7 +44,7 @@ returns-clause-goes_on g c = λ words says.
       accepted = c.laws_of_states.ensures.accepted;
       back = c.laws_of_states.ensures.back;
     } in
-    let same = ap (λ (x : Select). let u : Sought = record { table = s.table; pattern = s.pattern; select = x } in u) f.select in
+    let same = ap (λ (x : Select). let u : Sought = record { table = s.table; pattern = s.pattern; select = x } in u) f.setup.select in
     let value : c.as_slice.result.now ≡ c.args.state.now.held.items = c.as_slice.ensures.value in
     goes-on laws _ s words (state_in s.select words) refl same says.fault restored
     (λ cut bytes given stands good held count. c.restore-self.ensures.stands_for cut bytes given stands good (held ∙ sym says.held ∙ sym value) (count ∙ sym says.taken))

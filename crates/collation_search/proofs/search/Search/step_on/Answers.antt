@@ -18,7 +18,7 @@ returns-in-Err-clause-answer g c = λ place text u more handed compiled h.
     let walked = subst (λ (s : Sought). WalksOver s.pattern.keys (items_in s (whole u)) ranges c.end.new.self.matcher.walk) same
     (c.end.ensures.ended (chars (whole u)) handed (c.in-Err.ensures.kept place u handed h)) in
     answer-at_fault old c.matches_by_clusters.ensures.settled c.matches_by_clusters.ensures.items text u (c.args.byte ∷ more) ranges c.end.new.self.matcher.walk c.in-Err.fault
-    (c.end.ensures.select ∙ c.in-Err.ensures.select) compiled h.some_key (c.whole_characters_are_the_longest_text.ensures.text u) (c.whole_characters_are_the_longest_text.ensures.within u)
+    (c.end.ensures.setup.select ∙ c.in-Err.ensures.select) compiled h.some_key (c.whole_characters_are_the_longest_text.ensures.text u) (c.whole_characters_are_the_longest_text.ensures.within u)
     walked (c.in-Err.ensures.fault place u more handed h) (c.in-Err.ensures.offset place u handed h)
 
 pub returns-in-Err-clause-ended : goal.returns-in-Err-clause-ended
@@ -30,5 +30,5 @@ returns-in-Err-clause-ended g c = λ place u more handed h.
     let ranges = handed ++ c.end.new.found.items in
     let walked = subst (λ (s : Sought). WalksOver s.pattern.keys (items_in s (whole u)) ranges c.end.new.self.matcher.walk) same
     (c.end.ensures.ended (chars (whole u)) handed (c.in-Err.ensures.kept place u handed h)) in
-    reported-at_fault old u (c.args.byte ∷ more) ranges c.end.new.self.matcher.walk c.in-Err.fault (c.end.ensures.select ∙ c.in-Err.ensures.select) (c.whole_characters_are_the_longest_text.ensures.within u)
+    reported-at_fault old u (c.args.byte ∷ more) ranges c.end.new.self.matcher.walk c.in-Err.fault (c.end.ensures.setup.select ∙ c.in-Err.ensures.select) (c.whole_characters_are_the_longest_text.ensures.within u)
     walked (c.in-Err.ensures.fault place u more handed h) (c.in-Err.ensures.offset place u handed h) (c.in-Err.ensures.closed place u more handed h)

@@ -8,4 +8,4 @@ use Rattle.collation_search.proofs.search.Search.stop.Goals as goal
 pub returns-then-is_none-clause-settled : goal.returns-then-is_none-clause-settled
 returns-then-is_none-clause-settled g c = λ text u handed compiled h.
     walked-settled (sought c.args.self) c.matches_by_clusters.ensures.settled c.matches_by_clusters.ensures.items text (whole u) (handed ++ c.end.new.found.items) c.end.new.self.matcher.walk
-    c.end.ensures.select compiled h.some_key (c.whole_characters_are_the_longest_text.ensures.text u) (c.end.ensures.ended (chars (whole u)) handed h.found)
+    c.end.ensures.setup.select compiled h.some_key (c.whole_characters_are_the_longest_text.ensures.text u) (c.end.ensures.ended (chars (whole u)) handed h.found)

@@ -30,7 +30,7 @@ returns-clause-taken g c =
       taken.0,
       taken.1,
       takes-good search _ c.args.reach text taken.0 c.requires.none c.requires.none
-          (ap (λ select. let s : Sought = record { table = table; pattern = search.query.pattern.now; select = select } in s) c.take_letters-len.ensures.select)
+          (ap (λ select. let s : Sought = record { table = table; pattern = search.query.pattern.now; select = select } in s) c.take_letters-len.ensures.setup.select)
           (λ place u handed m.
           let h = m.1 in
           let at = offset-whole table search.query.pattern.now search.cut search.finder search.fault place u handed h between
