@@ -1,5 +1,8 @@
 //! Passes by characters one by one, as long as each has a key that the pattern does not have, and as its letter is known.
-ghost use Rattle.std.specs.Prelude.{IfSome};
+ghost use Rattle.std.specs.Prelude.{◌+◌, ◌≤◌, length, take, drop, IfSome};
+ghost use Rattle.std.specs.Char.{len_utf8};
+ghost use Rattle.std.specs.Str.{IsUtf8};
+ghost use Rattle.utf8_cut.specs.Sequences.{SpellsCharacter};
 ghost use Rattle.collation_table.specs.Table.{TableMap};
 ghost use Rattle.collation_letters.specs.Store.{AreLetters};
 ghost use Rattle.collation_skip.specs.Passed.{PassesTo};
@@ -18,7 +21,13 @@ pub(crate) fn pass_foreign(
     piece: &[u8],
     reach: usize,
 ) -> Option<Passed>
-    ensures { (table : TableMap) → AreLetters table pattern.now letters.now
+    ensures within { IfSome result (λ r. r.end + len_utf8 r.next ≤ length piece.now) }
+    ensures order { IfSome result (λ r. r.start ≤ r.end) }
+    ensures reach { IfSome result (λ r. r.end ≤ reach) }
+    ensures next { IfSome result (λ r.
+        SpellsCharacter (take (len_utf8 r.next) (drop r.end piece.now)) r.next) }
+    ensures text { IfSome result (λ r. IsUtf8 (take r.end piece.now)) }
+    ensures passes { (table : TableMap) → AreLetters table pattern.now letters.now
         → IfSome result (PassesTo table pattern.now piece.now reach) }
 {
     laws_of_characters();

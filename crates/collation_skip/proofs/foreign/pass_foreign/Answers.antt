@@ -47,8 +47,8 @@ loop-end-preserved c =
           (apart table pattern (at + end) (here ∷ []) next (i.letter table are) (letter table pattern are));
     }
 
-pub returns : goal.returns
-returns c = λ table are.
+pub returns-clause-passes : goal.returns-clause-passes
+returns-clause-passes c = λ table are.
     let i = c.loop-end.invariant in
     let within = i.within in
     record {
