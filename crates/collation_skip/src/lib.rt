@@ -10,8 +10,8 @@
 //! [`Automaton::pass`] answers how much of a piece may be passed by: no match ends there, and behind it no key waits. What that
 //! means stands in `specs/Passed.antt`, what a state means in `specs/Reached.antt`, and what the table says in `specs/Rows.antt`.
 //!
-//! Where a text is of ASCII, or of characters of one and of two bytes, blocks of sixteen bytes pass in its place ([`AsciiBlocks`]), and where most
-//! moves are new, characters one by one. [`Skip`] chooses, and all these ways answer alike.
+//! Where a text is of ASCII, or of characters of one and of two bytes, blocks of sixteen bytes pass in its place
+//! ([`AsciiBlocks`]), and where most moves are new, characters one by one. [`Skip`] chooses, and all these ways answer alike.
 #![tactic(auto)]
 
 mod ascii;
