@@ -3,7 +3,7 @@
 ghost use Rattle.std.specs.Prelude.{◌≡◌, ℕ, ◌+◌, ◌≤◌, List, [], ◌++◌, length, None, Some, OnOk};
 ghost use Rattle.collation_matches.specs.Sought.{IsCompiledFrom, answer_to, seeking, settled_in};
 ghost use Rattle.collation_matches.specs.GoodPrefix.{whole};
-ghost use Rattle.collation_search.specs.declared.matching.TheConstants.{MOST_FOUND};
+ghost use Rattle.collation_walk.specs.declared.matching.TheConstants.{MOST_FOUND};
 ghost use Rattle.collation_search.specs.Feeding.{Feeds};
 ghost use Rattle.collation_search.specs.Parking.{IsFor, HasParked, parked_select, parked_words};
 ghost use Rattle.colfind_c.specs.Parkings.{FeedsParked, FinishesParked, IsFirstFrom, GoesOn};

@@ -10,8 +10,8 @@ use Rattle.nfd_points.specs.PointFaults.{point_fault}
 use Rattle.collation_table.specs.Table.{TableMap}
 use Rattle.collation_pattern.specs.Compiled.{Compiled}
 use Rattle.collation_matches.specs.declared.faults.TextFault.{TextFault}
-use Rattle.collation_search.specs.declared.finder.Finder.{Finder}
-use Rattle.collation_search.specs.Finding.{FinderStandsFor}
+use Rattle.collation_finder.specs.declared.finder.Finder.{Finder}
+use Rattle.collation_finder.specs.Finding.{FinderStandsFor}
 use Rattle.collation_matches.specs.GoodPrefix.{most_bytes, whole}
 use Rattle.collation_search.specs.Early.{IsCutUpTo, Taken}
 use Rattle.collation_matches.proofs.TextCheckLemmas.{next_codes, next_offset, open_from}

@@ -1,6 +1,5 @@
 -- Pieces of a text in turn, and calls of a sink in turn.
 use Rattle.std.specs.Prelude.{Result, OnOk, OnErr, IfErr, Ok, Err, Option, None, Some}
-use Rattle.std.specs.List.{FoldsTo}
 use Rattle.std.proofs.Common.{◌≡◌, ◌∙◌, ℕ, zero, suc, ◌+◌, ◌<◌, ◌≤◌, max, false, List, [], ◌∷◌, ◌++◌, length, true, inl, refl, sym, ap, subst, arith, append_assoc, length-append}
 use Rattle.std.specs.Str.{chars}
 use Rattle.std.proofs.lemmas.List.{append-nil}
@@ -36,13 +35,6 @@ if_err-map (Err e) P Q f h = f e h
 
 ok_not_err : {A E : Type 0} → (a : A) (e : E) → Ok a ≡ Err e → ⊥
 ok_not_err a e h = cc
-
--- ---- calls
-
--- calls at some items and then at others
-pub folds-append : {P A : Type 0} → (R : P → A → P → Type 0) (p : P) (xs ys : List A) (q r : P) → FoldsTo R p xs q → FoldsTo R q ys r → FoldsTo R p (xs ++ ys) r
-folds-append {P} R p [] ys q r e h = let F : P → Type 0 = λ t. FoldsTo R t ys r in subst F (sym e) h
-folds-append R p (x ∷ xs) ys q r c h = (c.0, c.1, folds-append R c.0 xs ys q r c.2 h)
 
 err_of : (f g : TextFault) → Some f ≡ Some g → let r : Result (Unit {0}) TextFault = Err f in r ≡ Err g
 err_of f g e = let same : f ≡ g = cc in ap (λ t. let r : Result (Unit {0}) TextFault = Err t in r) same

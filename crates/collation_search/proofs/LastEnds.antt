@@ -6,10 +6,10 @@ use Rattle.collation_elements.specs.declared.keys.Item.{Item}
 use Rattle.collation_elements.specs.Clusters.{Cluster, starts}
 use Rattle.collation_matches.specs.declared.select.Select.{Select}
 use Rattle.collation_matches.specs.declared.select.Select.TheVariants.{All, Chain}
-use Rattle.collation_search.specs.declared.walk.Walk.{Walk}
+use Rattle.collation_walk.specs.declared.walk.Walk.{Walk}
 use Rattle.collation_matches.specs.ByClusters.{found}
 use Rattle.collation_matches.specs.Selecting.{chain_after, selected, end_after, remembered}
-use Rattle.collation_search.specs.Walks.{WalksOver}
+use Rattle.collation_walk.specs.Walks.{WalksOver}
 use Rattle.collation_matches.proofs.BridgeClusters.{bound}
 use Rattle.collation_matches.proofs.BridgeFound.{in_found}
 use Rattle.collation_matches.proofs.BridgeLists.{In}

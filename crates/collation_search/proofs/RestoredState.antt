@@ -10,14 +10,14 @@ use Rattle.nfd_points.specs.Reordering.{Waiting, HasReordered}
 use Rattle.collation_table.specs.Table.{longest_mapped}
 use Rattle.collation_elements.specs.Weighing.{weigher, is_after_variable, WeigherStandsFor}
 use Rattle.collation_elements.specs.Windows.{Held, WindowStandsFor}
-use Rattle.collation_search.specs.declared.finder.Finder.{Finder}
-use Rattle.collation_search.specs.Finding.{FinderStandsFor}
+use Rattle.collation_finder.specs.declared.finder.Finder.{Finder}
+use Rattle.collation_finder.specs.Finding.{FinderStandsFor}
 use Rattle.collation_matches.specs.GoodPrefix.{whole}
 use Rattle.collation_search.specs.Resuming.{IsRestored}
 use Rattle.collation_matches.specs.Sought.{Sought}
 use Rattle.collation_search.specs.Searching.{Searched}
 use Rattle.collation_search.specs.State.{open_state}
-use Rattle.collation_search.proofs.RestoredWalk.{walks-restored}
+use Rattle.collation_walk.proofs.RestoredWalk.{walks-restored}
 use Rattle.collation_search.proofs.SavedState.{SavedLaws, is_good}
 
 -- ---- a search that goes on

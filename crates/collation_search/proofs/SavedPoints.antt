@@ -12,9 +12,9 @@ use Rattle.collation_table.specs.Table.{TableMap}
 use Rattle.collation_pattern.specs.Compiled.{Compiled}
 use Rattle.collation_states.specs.Laws.{IsPointBefore}
 use Rattle.collation_states.specs.StateTests.{may_be_in_window, may_wait}
-use Rattle.collation_search.specs.declared.finder.Finder.{Finder}
-use Rattle.collation_search.specs.Finding.{FinderStandsFor}
-use Rattle.collation_search.proofs.MatchingLemmas.{all-among}
+use Rattle.collation_finder.specs.declared.finder.Finder.{Finder}
+use Rattle.collation_finder.specs.Finding.{FinderStandsFor}
+use Rattle.collation_finder.proofs.MatchingLemmas.{all-among}
 
 -- ---- where the points of a finder stand
 

@@ -17,7 +17,7 @@ use Rattle.collation_matches.specs.Sought.{Sought}
 use Rattle.collation_matches.proofs.TextCheckLemmas.{open_cut}
 use Rattle.collation_states.specs.State.{reported}
 use Rattle.collation_states.specs.Laws.{IsPointBefore, IsOpen, HasEnded, StatesAreAccepted, StatesAreReadBack}
-use Rattle.collation_search.specs.declared.finder.Finder.{Finder}
+use Rattle.collation_finder.specs.declared.finder.Finder.{Finder}
 use Rattle.collation_search.specs.Searching.{Searched}
 use Rattle.collation_search.specs.State.{sizes_of, open_state}
 use Rattle.collation_search.proofs.SavedPoints.{PointsAreSaved, points-saved}

@@ -16,16 +16,16 @@ use Rattle.collation_elements.specs.Context.{BoundariesAreStarts}
 use Rattle.circular_buffer.specs.Buffer.{keep_last}
 use Rattle.collation_matches.specs.declared.faults.TextFault.{TextFault}
 use Rattle.collation_states.specs.Laws.{AreInOrder, begins_with_first}
-use Rattle.collation_search.specs.declared.finder.Finder.{Finder}
-use Rattle.collation_search.specs.declared.walk.KeyPlace.{KeyPlace}
-use Rattle.collation_search.specs.declared.walk.Walk.{Walk}
+use Rattle.collation_finder.specs.declared.finder.Finder.{Finder}
+use Rattle.collation_walk.specs.declared.walk.KeyPlace.{KeyPlace}
+use Rattle.collation_walk.specs.declared.walk.Walk.{Walk}
 use Rattle.collation_matches.specs.ByClusters.{PlacedKey, text_begin, placed, placed_at}
-use Rattle.collation_search.specs.Finding.{FinderStandsFor}
+use Rattle.collation_finder.specs.Finding.{FinderStandsFor}
 use Rattle.collation_matches.specs.GoodPrefix.{whole}
 use Rattle.collation_matches.specs.Sought.{Sought}
 use Rattle.collation_search.specs.Searching.{Searched}
 use Rattle.collation_search.specs.State.{kept_places, saved_places, match_waits, is_first_place}
-use Rattle.collation_search.specs.Walks.{place_of}
+use Rattle.collation_walk.specs.Walks.{place_of}
 use Rattle.collation_matches.proofs.BridgeLists.{In, Rising, in_left, in_right}
 use Rattle.collation_matches.proofs.BridgeRanges.{Below}
 use Rattle.collation_matches.proofs.BridgeMatches.{rising_boundaries}
@@ -35,8 +35,8 @@ use Rattle.collation_search.proofs.SavingLemmas.{drop-some}
 use Rattle.collation_search.proofs.SearchBegins.{items_go_on}
 use Rattle.collation_matches.proofs.SearchLemmas.{either}
 use Rattle.collation_matches.proofs.TextCheckLemmas.{open_cut, next_offset}
-use Rattle.collation_search.proofs.WalkSteps.{walks-within}
-use Rattle.collation_search.proofs.RestoredWalk.{kept_places-length}
+use Rattle.collation_walk.proofs.WalkSteps.{walks-within}
+use Rattle.collation_walk.proofs.RestoredWalk.{kept_places-length}
 
 -- ---- the starts of the clusters of a text rise
 

@@ -13,8 +13,8 @@ use Rattle.collation_states.specs.Laws.{StatesAreRecords}
 use Rattle.collation_states.specs.Saving.{BeginsWith}
 use Rattle.collation_states.specs.State.{reported, head_of, head_words, chain_record, place_words, point_words, words}
 use Rattle.collation_states.specs.StateTests.{head_len}
-use Rattle.collation_search.specs.declared.finder.Finder.{Finder}
-use Rattle.collation_search.specs.declared.walk.Walk.{Walk}
+use Rattle.collation_finder.specs.declared.finder.Finder.{Finder}
+use Rattle.collation_walk.specs.declared.walk.Walk.{Walk}
 use Rattle.collation_search.specs.State.{sizes_of, kept_places, saved_places, open_state, state_of}
 use Rattle.collation_search.specs.Saving.{HasRecords, records_before, most_records}
 

@@ -11,7 +11,7 @@ use Rattle.collation_elements.specs.Items.{items}
 use Rattle.collation_elements.specs.Units.{units}
 use Rattle.collation_pattern.specs.Levels.{text_keys}
 use Rattle.collation_matches.specs.declared.faults.TextFault.{TextFault}
-use Rattle.collation_search.specs.declared.walk.Walk.{Walk}
+use Rattle.collation_walk.specs.declared.walk.Walk.{Walk}
 use Rattle.collation_matches.specs.Answer.{Answer}
 use Rattle.collation_matches.specs.ByClusters.{text_begin, found, found_before_last}
 use Rattle.collation_matches.specs.ByClustersLaws.{matches_are_found, settled_are_found, items_give_ranges}
@@ -19,9 +19,9 @@ use Rattle.collation_matches.specs.GoodPrefix.{fault, whole}
 use Rattle.collation_matches.specs.Matches.{matches, settled}
 use Rattle.collation_matches.specs.Sought.{Sought, IsCompiledFrom, answer_to, settled_in}
 use Rattle.collation_matches.specs.Selecting.{selected, selected_answer}
-use Rattle.collation_search.specs.Walks.{WalksOver}
+use Rattle.collation_walk.specs.Walks.{WalksOver}
 use Rattle.collation_matches.proofs.SearchLemmas.{answer_good, answer_bad}
-use Rattle.collation_search.proofs.WalkSteps.{walks-settled}
+use Rattle.collation_walk.proofs.WalkSteps.{walks-settled}
 
 -- the clusters of a text under what is sought
 abbrev clusters_in : Sought → List ℕ → List Cluster

@@ -9,11 +9,11 @@ use Rattle.collation_elements.specs.Clusters.{clusters, clusters_from}
 use Rattle.collation_elements.specs.Items.{items}
 use Rattle.collation_elements.specs.Units.{units}
 use Rattle.collation_elements.specs.Weighing.{after_units}
-use Rattle.collation_search.specs.declared.finder.Finder.{Finder}
+use Rattle.collation_finder.specs.declared.finder.Finder.{Finder}
 use Rattle.collation_matches.specs.Answer.{Answer, answer, answer_at}
 use Rattle.collation_matches.specs.ByClusters.{text_begin, found, found_before_last}
 use Rattle.collation_matches.specs.ByClustersLaws.{matches_are_found, settled_are_found, items_give_ranges}
-use Rattle.collation_search.specs.Finding.{FinderStandsFor}
+use Rattle.collation_finder.specs.Finding.{FinderStandsFor}
 use Rattle.collation_matches.specs.GoodPrefix.{fault, good_prefix, prefix_at, whole, is_good_so_far}
 use Rattle.collation_matches.specs.Matches.{matches, settled}
 use Rattle.collation_matches.specs.Sought.{Sought, IsCompiledFrom, answer_to}
@@ -22,7 +22,7 @@ use Rattle.collation_matches.proofs.LagRanges.{items-append}
 use Rattle.collation_matches.proofs.LagTexts.{TextLaws, BeginsWith, begins-append, begins-take, begins-chars, fault_after, no_fault_text}
 use Rattle.collation_search.proofs.SearchAnswers.{items_in, has_key}
 use Rattle.collation_matches.proofs.SearchLemmas.{either, good_prefix_found}
-use Rattle.collation_search.proofs.WalkSteps.{found_before, walks-begin, walks-begin_settled, walks-select_begin}
+use Rattle.collation_walk.proofs.WalkSteps.{found_before, walks-begin, walks-begin_settled, walks-select_begin}
 
 -- the ranges begin the list
 abbrev pub BeginsRanges : List (ℕ × ℕ) → List (ℕ × ℕ) → Type 0

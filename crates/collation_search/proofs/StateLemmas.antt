@@ -26,15 +26,15 @@ use Rattle.collation_matches.specs.Selecting.{selected, remembered}
 use Rattle.collation_matches.specs.Sought.{Sought}
 use Rattle.collation_matches.proofs.TextCheckLemmas.{open_cut}
 use Rattle.collation_states.specs.State.{Place, State}
-use Rattle.collation_search.specs.declared.finder.Finder.{Finder}
-use Rattle.collation_search.specs.declared.walk.KeyPlace.{KeyPlace}
-use Rattle.collation_search.specs.declared.walk.Walk.{Walk}
+use Rattle.collation_finder.specs.declared.finder.Finder.{Finder}
+use Rattle.collation_walk.specs.declared.walk.KeyPlace.{KeyPlace}
+use Rattle.collation_walk.specs.declared.walk.Walk.{Walk}
 use Rattle.collation_search.specs.Searching.{Searched}
 use Rattle.collation_search.specs.State.{kept_places, saved_places, is_first_place, match_waits, open_state}
 use Rattle.collation_search.specs.StateAfter.{final_points, waiting_points, fault_so_far, IsReported, known_units, known_clusters, reported_after, last_cluster, last_places, open_after}
-use Rattle.collation_search.specs.Walks.{WalksOver, place_of}
+use Rattle.collation_walk.specs.Walks.{WalksOver, place_of}
 use Rattle.collation_search.proofs.SearchAnswers.{items_in}
-use Rattle.collation_search.proofs.WalkSteps.{all_clusters, ended_at, range_at, walks-settled}
+use Rattle.collation_walk.proofs.WalkSteps.{all_clusters, ended_at, range_at, walks-settled}
 
 -- ---- lists
 

@@ -13,7 +13,7 @@ use Rattle.nfd_points.specs.Points.{points_of, begins_with_starter}
 use Rattle.collation_matches.specs.GoodPrefix.{is_good_so_far, whole}
 use Rattle.collation_matches.proofs.TextCheckLemmas.{open_cut}
 use Rattle.collation_search.specs.Early.{starters_from}
-use Rattle.collation_search.proofs.CharacterLemmas.{one_char}
+use Rattle.collation_finder.proofs.CharacterLemmas.{one_char}
 use Rattle.collation_search.proofs.StarterCounts.{flag, filter-first, filter-fewer}
 
 -- ---- a seam

@@ -1,7 +1,4 @@
 pub mod Indexing
-pub mod Walks
-pub mod Matching
-pub mod Finding
 pub mod StateAfter
 pub mod Early
 pub mod Searching
@@ -12,7 +9,4 @@ pub mod Resuming
 pub mod Pieces
 pub mod Saving
 pub mod WorkedStatesAfter
-pub mod Apart
-pub mod LetterRun
-pub mod Caches
 pub mod Parking

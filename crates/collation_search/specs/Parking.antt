@@ -7,7 +7,7 @@ use Rattle.collation_matches.specs.declared.select.Select.{Select}
 use Rattle.collation_matches.specs.Sought.{Sought}
 use Rattle.collation_states.specs.State.{words}
 use Rattle.collation_search.specs.declared.parking.Parked.{Parked}
-use Rattle.collation_search.specs.Caches.{AreRight}
+use Rattle.collation_finder.specs.Caches.{AreRight}
 use Rattle.collation_search.specs.Searching.{Searched}
 use Rattle.collation_search.specs.State.{sizes_of, state_of}
 

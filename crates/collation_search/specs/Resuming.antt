@@ -10,7 +10,7 @@ use Rattle.collation_states.specs.declared.faults.StateFault.{StateFault}
 use Rattle.collation_states.specs.declared.states.Sizes.{Sizes}
 use Rattle.collation_states.specs.State.{State}
 use Rattle.collation_states.specs.StateTests.{state_fault}
-use Rattle.collation_search.specs.declared.finder.Finder.{Finder}
+use Rattle.collation_finder.specs.declared.finder.Finder.{Finder}
 use Rattle.collation_search.specs.declared.search.Search.{Search}
 use Rattle.collation_search.specs.Search.{sought, HasSearched, HasReported}
 use Rattle.collation_search.specs.State.{saved_places, words_of}

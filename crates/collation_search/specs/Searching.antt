@@ -8,8 +8,8 @@ use Rattle.collation_table.specs.Table.{TableMap}
 use Rattle.collation_elements.specs.Decided.{left_points}
 use Rattle.collation_pattern.specs.Compiled.{Compiled}
 use Rattle.collation_matches.specs.declared.faults.TextFault.{TextFault}
-use Rattle.collation_search.specs.declared.finder.Finder.{Finder}
-use Rattle.collation_search.specs.Finding.{FinderStandsFor}
+use Rattle.collation_finder.specs.declared.finder.Finder.{Finder}
+use Rattle.collation_finder.specs.Finding.{FinderStandsFor}
 use Rattle.collation_matches.specs.GoodPrefix.{is_good_so_far, whole}
 use Rattle.collation_search.specs.StateAfter.{final_points}
 

@@ -1,7 +1,6 @@
 -- What a search holds, as a state says it.
-use Rattle.std.specs.Prelude.{ℕ, ◌-◌, Bool, false, ◌&&◌, ◌==◌, List, length, map, slice_get, Option, None, Some}
+use Rattle.std.specs.Prelude.{ℕ, List, length, Option, None, Some}
 use Rattle.utf8_cut.specs.Value.{CutState}
-use Rattle.circular_buffer.specs.Buffer.{keep_last}
 use Rattle.collation_table.specs.Table.{longest_mapped, most_elements}
 use Rattle.collation_table.specs.declared.lookup.Weights.{Ghosts}
 use Rattle.collation_elements.specs.Weighing.{is_after_variable}
@@ -9,12 +8,11 @@ use Rattle.collation_pattern.specs.Compiled.{Compiled}
 use Rattle.collation_matches.specs.declared.faults.TextFault.{TextFault}
 use Rattle.collation_matches.specs.Sought.{Sought}
 use Rattle.collation_states.specs.declared.states.Sizes.{Sizes}
-use Rattle.collation_states.specs.State.{Place, State, reported, words}
-use Rattle.collation_search.specs.declared.finder.Finder.{Finder}
-use Rattle.collation_search.specs.declared.walk.KeyPlace.{KeyPlace}
-use Rattle.collation_search.specs.declared.walk.Walk.{Walk}
+use Rattle.collation_states.specs.State.{State, reported, words}
+use Rattle.collation_finder.specs.declared.finder.Finder.{Finder}
 use Rattle.collation_search.specs.declared.search.Search.{Search}
 use Rattle.collation_search.specs.Search.{sought}
+pub use Rattle.collation_walk.specs.Kept.{kept_places, saved_places, is_first_place, match_waits}
 
 -- the sizes and the settings of what is looked for
 abbrev pub sizes_of : Sought → Sizes
@@ -26,28 +24,6 @@ sizes_of s = record {
   variable = s.pattern.variable;
   select = s.select;
 }
-
--- ---- what the walk keeps
-
--- the places of the last keys, as many as the state says, oldest first
-abbrev pub kept_places : Walk → List KeyPlace
-kept_places walk = keep_last walk.state walk.places.items
-
-abbrev pub saved_places : List KeyPlace → List Place
-saved_places = map (λ place. record { start = place.start; is_first = place.is_first })
-
-abbrev pub is_first_place : Option KeyPlace → Bool
-is_first_place None = false
-is_first_place (Some place) = place.is_first
-
--- a match waits for the end of the current cluster: that has keys, the whole pattern ends the keys so far, and the first of
--- those keys is the first of its cluster
-abbrev pub match_waits : ℕ → Walk → Bool
-match_waits pattern_len walk =
-    let oldest = slice_get walk.places.items (length walk.places.items - walk.state) in
-    walk.has_keys && (walk.state == pattern_len && is_first_place oldest)
-
--- ---- the state
 
 abbrev pub open_state : Compiled → CutState → Finder → State
 open_state pattern cut finder = record {

@@ -5,7 +5,6 @@ use Rattle.std.specs.Str.{chars}
 use Rattle.utf8_cut.specs.Characters.{after_characters}
 use Rattle.nfd_points.specs.declared.points.Point.{Point}
 use Rattle.nfd_points.specs.Points.{points}
-use Rattle.nfd_points.specs.Reordering.{up_to_last_starter}
 use Rattle.collation_table.specs.Table.{TableMap}
 use Rattle.collation_elements.specs.Clusters.{Cluster, clusters_of}
 use Rattle.collation_elements.specs.Decided.{decided_units, left_points}
@@ -19,15 +18,11 @@ use Rattle.collation_matches.specs.GoodPrefix.{fault, good_prefix, is_good_so_fa
 use Rattle.collation_matches.specs.Selecting.{selected, remembered}
 use Rattle.collation_matches.specs.Sought.{Sought}
 use Rattle.collation_states.specs.State.{Place, State, reported}
+pub use Rattle.collation_finder.specs.Early.{final_points}
 
 -- ---- points
 
--- The points of a text that no character which follows can change or go before: a starter is final when it comes, a non-starter
--- once a starter follows.
-abbrev pub final_points : List ℕ → List Point
-final_points cs = up_to_last_starter (points cs)
-
--- the others, which wait for the next starter or the end of the text
+-- the points that are not final, and wait for the next starter or the end of the text
 abbrev pub waiting_points : List ℕ → List Point
 waiting_points cs = drop (length (final_points cs)) (points cs)
 

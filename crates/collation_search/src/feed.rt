@@ -1,8 +1,6 @@
 //! A search that takes a piece of a text at once.
 ghost use Rattle.std.specs.Prelude.{◌≡◌, ℕ, ◌+◌, ◌<◌, ◌≤◌, max, List, ◌++◌, length, take, true};
 ghost use Rattle.std.specs.Char.{len_utf8};
-ghost use Rattle.std.specs.List.{FoldsTo};
-ghost use Rattle.std.specs.Option.{option_to_list};
 ghost use Rattle.std.specs.Str.{chars};
 ghost use Rattle.utf8_cut.specs.Sequences.{SpellsCharacter};
 ghost use Rattle.nfd_points.specs.Points.{points_of, begins_with_starter};
@@ -11,13 +9,13 @@ ghost use Rattle.collation_letters.specs.Store.{AreLetters};
 ghost use Rattle.collation_matches.specs.GoodPrefix.{is_good_so_far, whole};
 ghost use Rattle.collation_search.specs.Early.{starters_from};
 
-use crate::letter_loop::Front;
-use crate::matching::Found;
-use crate::search::{MOST_BYTES, Query, Search};
+use crate::search::{MOST_BYTES, Search};
 use collation_elements::decided_units_stay;
+use collation_finder::Front;
 use collation_letters::Letters;
 use collation_matches::TextFault;
 use collation_table::Weights;
+use collation_walk::{Found, Query, hand_out};
 use nfd_points::laws::{laws_of_decompositions, laws_of_reordering};
 use utf8_cut::{
     first_character, incomplete_sequences_begin_characters, text_may_stand_before,
@@ -64,33 +62,6 @@ fn starter_comes_first<W: Weights>(
     match first_character(bytes) {
         Some(c) => letters.letter(query.table, query.pattern, c).is_starter(),
         None => false,
-    }
-}
-
-/// Calls the sink for a range, if there is one.
-#[inline(always)]
-pub(crate) fn call<F: FnMut(u64, u64)>(range: Option<(u64, u64)>, sink: &mut F)
-    requires { F.IsAlwaysCallable sink.old }
-    ensures called { FoldsTo (λ f range g. F.step f range.0 range.1 tt g) sink.old
-        (option_to_list range) sink.new }
-    ensures callable { F.IsAlwaysCallable sink.new }
-{
-    if let Some((start, end)) = range {
-        sink(start, end);
-    }
-}
-
-/// Calls the sink once for each range, in order.
-pub(crate) fn hand_out<F: FnMut(u64, u64)>(ranges: &[(u64, u64)], sink: &mut F)
-    requires { F.IsAlwaysCallable sink.old }
-    ensures called { FoldsTo
-        (λ f range g. F.step f range.0 range.1 tt g) sink.old ranges.now sink.new }
-    ensures callable { F.IsAlwaysCallable sink.new }
-{
-    let mut rest = ranges;
-    while let Some((range, others)) = rest.split_first() {
-        sink(range.0, range.1);
-        rest = others;
     }
 }
 

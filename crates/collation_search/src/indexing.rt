@@ -7,11 +7,11 @@ ghost use Rattle.collation_matches.specs.declared.select.Select.TheVariants.{All
 ghost use Rattle.collation_matches.specs.Sought.{IsCompiledFrom, answer_to, seeking};
 ghost use Rattle.collation_matches.specs.Offsets.{answer_from};
 
-use crate::matching::Found;
 use crate::search::Search;
 use collation_matches::TextFault;
 use collation_pattern::Pattern;
 use collation_table::Weights;
+use collation_walk::Found;
 use std::alloc::Global;
 use utf8_cut::whole_characters_are_the_longest_text;
 

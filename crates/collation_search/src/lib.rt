@@ -15,25 +15,18 @@
 
 mod again;
 mod feed;
-mod finder;
 mod indexing;
-mod letter_loop;
-mod letter_run;
-mod matching;
 mod parking;
 mod pieces;
 mod resuming;
-mod resuming_walk;
 mod saving;
 mod search;
-mod skipping;
-mod walk;
 pub mod worked;
 
 pub use crate::indexing::{index, index_from};
-pub use crate::matching::{Found, MOST_FOUND};
 pub use crate::parking::Parked;
 pub use crate::pieces::{PiecesSearched, search_in_pieces};
 pub use crate::search::{MOST_BYTES, Search};
 pub use collation_matches::{Select, TextFault};
 pub use collation_states::{StateFault, worked_states};
+pub use collation_walk::{Found, MOST_FOUND};

@@ -5,12 +5,12 @@ ghost use Rattle.std.specs.Prelude.{◌≡◌, ◌≤◌, None, false};
 ghost use Rattle.std.specs.Option.{ForSome};
 ghost use Rattle.collation_matches.specs.GoodPrefix.{most_bytes};
 
-use crate::finder::Finder;
-use crate::search::{Query, Search};
-use crate::skipping::Cache;
+use crate::search::Search;
+use collation_finder::{Cache, Finder};
 use collation_matches::TextFault;
 use collation_pattern::Pattern;
 use collation_table::Weights;
+use collation_walk::Query;
 use utf8_cut::Cut;
 
 /// A search that was put away: all that it holds but its table and its pattern.

@@ -6,8 +6,6 @@ ghost use Rattle.collation_search.specs.Resuming.{GoesOn};
 ghost use Rattle.collation_search.specs.Saving.{most_records};
 ghost use Rattle.collation_matches.specs.Sought.{IsCompiledFrom, answer_to, seeking};
 
-use crate::feed::hand_out;
-use crate::matching::Found;
 use crate::search::Search;
 use collation_elements::decided_units_stay;
 use collation_matches::{Select, TextFault};
@@ -15,6 +13,7 @@ use collation_pattern::Pattern;
 use collation_states::laws::laws_of_states;
 use collation_states::{RECORD_WORDS, StateFault};
 use collation_table::Weights;
+use collation_walk::{Found, hand_out};
 use nfd_points::laws::laws_of_reordering;
 use std::alloc::{AllocError, Global};
 

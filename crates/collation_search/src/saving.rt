@@ -11,7 +11,6 @@ ghost use Rattle.collation_search.specs.Pieces.{IsUnderWay};
 ghost use Rattle.collation_search.specs.Saving.{HasRecords, most_records};
 
 use crate::search::Search;
-use crate::walk::Walk;
 use collation_elements::{Window, decided_units_stay};
 use collation_matches::Select;
 use collation_pattern::Pattern;
@@ -20,6 +19,7 @@ use collation_states::{
     Head, Sizes, append_head, append_place, append_point, append_points, number_of, reported_head,
 };
 use collation_table::Weights;
+use collation_walk::Walk;
 use nfd_points::laws::laws_of_reordering;
 use std::alloc::AllocError;
 

@@ -1,32 +1,20 @@
 //! The search over a stream of bytes.
-ghost use Rattle.std.specs.Prelude.{◌≡◌, ◌+◌, ◌≤◌, length, None, false};
+ghost use Rattle.std.specs.Prelude.{◌≡◌, ◌≤◌, length, None, false};
 ghost use Rattle.std.specs.Option.{ForSome};
-ghost use Rattle.collation_table.specs.Table.{longest_mapped as longest_key_of};
 ghost use Rattle.std.proofs.Props.{props};
-ghost use Rattle.collation_search.specs.Caches.{AreRight};
+ghost use Rattle.collation_finder.specs.Caches.{AreRight};
 ghost use Rattle.collation_matches.specs.GoodPrefix.{most_bytes};
 
-use crate::finder::Finder;
-use crate::matching::Found;
-use crate::skipping::Cache;
 use collation_elements::decided_units_stay;
+use collation_finder::{Cache, Finder};
 use collation_matches::{Select, TextFault, answers_in_time, matches_by_clusters};
 use collation_pattern::Pattern;
 pub use collation_states::MOST_BYTES;
 use collation_table::Weights;
+use collation_walk::{Found, Query};
 use nfd_points::laws::{laws_of_decompositions, laws_of_faults, laws_of_reordering};
 use std::alloc::{AllocError, Global};
 use utf8_cut::{Cut, Cutting, any_bytes_may_follow, whole_characters_are_the_longest_text};
-
-/// What a search compares with: a table, and a pattern that was compiled with it.
-#[derive(Drop)]
-pub(crate) struct Query<'a, W: Weights> {
-    pub(crate) table: &'a W,
-    pub(crate) pattern: &'a Pattern,
-    /// The number of code points of the table's longest key.
-    pub(crate) longest_key: usize,
-    ghost longest: { longest_key ≡ longest_key_of (W.table table.now) },
-}
 
 /// A search for a pattern in a text whose bytes come in pieces.
 #[derive(Drop)]
@@ -54,7 +42,7 @@ impl<'a, W: Weights> Search<'a, W> {
     ghost use Rattle.nfd_points.specs.declared.limits.TheConstants.{MOST_GIVEN, MOST_WAITING};
     ghost use Rattle.collation_table.specs.Table.{longest_mapped as longest_key_of};
     ghost use Rattle.collation_matches.specs.declared.faults.TextFault.{TextFault};
-    ghost use Rattle.collation_search.specs.Finding.{FinderStandsFor};
+    ghost use Rattle.collation_finder.specs.Finding.{FinderStandsFor};
     ghost use Rattle.collation_matches.specs.Lag.{code_points_from};
     ghost use Rattle.collation_matches.specs.declared.select.Select.TheVariants.{All};
     ghost use Rattle.collation_search.specs.Search.{HasSearched, HasTaken, HasReported, HasReportedNone, sought};

@@ -1,7 +1,7 @@
 use Rattle.std.proofs.Common.{◌≤◌, length, ◌∙◌, ◌≡◌, ◌++◌, sym, subst, Some, None}
 use Rattle.std.specs.Prelude.{OnOk, IfErr}
 use Rattle.collation_matches.specs.Sought.{IsCompiledFrom, answer_to}
-use Rattle.collation_search.specs.declared.matching.TheConstants.{MOST_FOUND}
+use Rattle.collation_walk.specs.declared.matching.TheConstants.{MOST_FOUND}
 use Rattle.colfind_c.specs.Queues.{Gets}
 use Rattle.colfind_c.proofs.ParkedLemmas.{taken_up}
 use Rattle.colfind_c.proofs.parked.finish_parked.Goals as goal

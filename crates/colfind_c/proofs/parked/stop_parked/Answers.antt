@@ -1,7 +1,7 @@
 use Rattle.std.proofs.Common.{◌≤◌, length, ◌≡◌, ◌++◌, sym, subst}
 use Rattle.collation_matches.specs.Sought.{IsCompiledFrom, settled_in}
 use Rattle.collation_matches.specs.GoodPrefix.{whole}
-use Rattle.collation_search.specs.declared.matching.TheConstants.{MOST_FOUND}
+use Rattle.collation_walk.specs.declared.matching.TheConstants.{MOST_FOUND}
 use Rattle.colfind_c.specs.Queues.{Gets}
 use Rattle.colfind_c.proofs.ParkedLemmas.{taken_up}
 use Rattle.colfind_c.proofs.parked.stop_parked.Goals as goal

@@ -5,7 +5,7 @@ use Rattle.collation_matches.specs.declared.faults.TextFault.{TextFault}
 use Rattle.collation_matches.specs.Sought.{Sought}
 use Rattle.collation_search.specs.Resuming.{GoesOn}
 use Rattle.collation_search.specs.Pieces.{joined, most_records_after, most_words, AreUnderWay, HasStates}
-use Rattle.collation_search.proofs.FeedLemmas.{folds-append}
+use Rattle.collation_walk.proofs.Folds.{folds-append}
 use Rattle.collation_search.proofs.PieceLemmas.{told, most-more, under_way-begun, under_way-on, under_way-more, under_way-ends, has_states-more}
 use Rattle.collation_search.proofs.StateLemmas.{state_laws}
 use Rattle.collation_search.proofs.UnderWay.{none-more, under_way-records, most_records-more}

@@ -1,6 +1,6 @@
 use Rattle.std.proofs.Common.{rules, refl}
 use Rattle.std.specs.Prelude.{Ok, Err}
-use Rattle.collation_search.specs.declared.matching.TheConstants.{MOST_FOUND}
+use Rattle.collation_walk.specs.declared.matching.TheConstants.{MOST_FOUND}
 use Rattle.colfind_c.proofs.SessionLemmas.{when_ok, finish_refused, fits_at, all_kept, session_finished}
 use Rattle.colfind_c.proofs.owned.Session.finish.Goals as goal
 

@@ -1,5 +1,5 @@
 use Rattle.std.proofs.Common.{rules, refl}
-use Rattle.collation_search.specs.declared.matching.TheConstants.{MOST_FOUND}
+use Rattle.collation_walk.specs.declared.matching.TheConstants.{MOST_FOUND}
 use Rattle.colfind_c.proofs.SessionLemmas.{when_ok, stop_refused, fits_at, all_kept, session_stopped}
 use Rattle.colfind_c.proofs.owned.Session.stop.Goals as goal
 

@@ -5,7 +5,8 @@ use Rattle.std.proofs.Math.Seq.{split_at, take-add}
 use Rattle.std.proofs.lemmas.List.{take_more, take_all, take_rest, length-drop, length-take-le}
 use Rattle.std.proofs.lemmas.Option.{none-some}
 use Rattle.collation_search.specs.Feeding.{Takes}
-use Rattle.collation_search.proofs.FeedLemmas.{folds-append, takes-append, takes-stop, takes-byte, feeds-of, feeds-reported}
+use Rattle.collation_walk.proofs.Folds.{folds-append}
+use Rattle.collation_search.proofs.FeedLemmas.{takes-append, takes-stop, takes-byte, feeds-of, feeds-reported}
 use Rattle.collation_search.proofs.StateLemmas.{state_laws}
 use Rattle.collation_search.proofs.search.Search.feed_with.Goals as goal
 

@@ -3,7 +3,7 @@ use Rattle.std.proofs.Common.{◌≡◌, ◌∙◌, ◌∷◌, ◌++◌, ap, sub
 use Rattle.collation_matches.specs.GoodPrefix.{whole}
 use Rattle.collation_search.specs.Search.{sought}
 use Rattle.collation_matches.specs.Sought.{Sought}
-use Rattle.collation_search.specs.Walks.{WalksOver}
+use Rattle.collation_walk.specs.Walks.{WalksOver}
 use Rattle.collation_search.proofs.SearchAnswers.{answer-at_fault, items_in}
 use Rattle.collation_search.proofs.StateLemmas.{reported-at_fault}
 use Rattle.collation_search.proofs.search.Search.step_on.Goals as goal

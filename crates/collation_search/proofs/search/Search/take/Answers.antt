@@ -8,7 +8,7 @@ use Rattle.nfd_points.specs.PointFaults.{point_fault}
 use Rattle.collation_table.specs.Table.{TableMap}
 use Rattle.collation_pattern.specs.Compiled.{Compiled}
 use Rattle.collation_matches.specs.GoodPrefix.{most_bytes, whole}
-use Rattle.collation_search.specs.Finding.{FinderStandsFor}
+use Rattle.collation_finder.specs.Finding.{FinderStandsFor}
 use Rattle.collation_search.specs.Early.{IsCutUpTo, Taken}
 use Rattle.collation_matches.proofs.TextCheckLemmas.{fault_by_length, not_open_by_length, open_good, same_codes, still_open, fault_by_code, not_open_by_code, IsIllAfter, ill_after, fault_ill, not_open_ill}
 use Rattle.collation_search.proofs.ByteLemmas.{came, character-at_fault}

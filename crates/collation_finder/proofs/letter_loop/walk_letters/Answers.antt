@@ -1,0 +1,216 @@
+use Rattle.std.specs.Char.{len_utf8}
+use Rattle.std.specs.Str.{chars}
+use Rattle.std.specs.List.{FoldsTo}
+use Rattle.std.proofs.Common.{◌≡◌, ◌∙◌, ℕ, ◌+◌, ◌-◌, true, List, [], ◌∷◌, ◌++◌, length, take, drop, refl, sym, ap, subst, arith}
+use Rattle.std.proofs.lemmas.List.{append-nil, take_rest, length-drop}
+use Rattle.std.proofs.lemmas.Str.{len_utf8_bounds}
+use Rattle.utf8_cut.specs.Sequences.{SpellsCharacter}
+use Rattle.nfd_points.specs.Points.{points_of, points_from, begins_with_starter}
+use Rattle.collation_elements.specs.Units.{units}
+use Rattle.collation_letters.specs.Letters.{IsLetter}
+use Rattle.collation_walk.specs.declared.matching.Matcher.{Matcher}
+use Rattle.collation_walk.specs.declared.walk.Walk.{Walk}
+use Rattle.collation_walk.specs.Walked.{HasWalkedOn}
+use Rattle.collation_finder.specs.LetterRun.{AreNext, HasComeTo}
+use Rattle.collation_walk.specs.Walks.{passed_to}
+use Rattle.collation_finder.proofs.CharacterLemmas.{part-more, one_part, one_taken, chars-len, some-bytes}
+use Rattle.collation_walk.proofs.Folds.{folds-append}
+use Rattle.collation_finder.proofs.LoopSteps.{come-none, come-further, next-n}
+use Rattle.collation_walk.proofs.WalkSteps.{keeps-on}
+use Rattle.collation_finder.proofs.letter_loop.walk_letters.Given as given
+use Rattle.collation_finder.proofs.letter_loop.walk_letters.Goals.{After-walk_letter}
+use Rattle.collation_finder.proofs.letter_loop.walk_letters.Goals as goal
+
+pub characters-init : goal.characters-init
+characters-init g c =
+    let table = g.W.Weights.table c.args.query.now.table.now in
+    let pattern = c.args.query.now.pattern.now in
+    let piece = c.args.front.piece.now in
+    let laws = c.laws_of_characters.ensures in
+    let part = one_part piece 0 c.len_utf8-end.result c.args.from.next (omega (arith, c.len_utf8-end.ensures.value)) c.requires.first.1 in
+    record {
+      callable = c.requires.callable;
+      right = c.requires.right;
+      keeps = record { state = c.requires.state; select = refl; room = refl };
+      forth = omega arith;
+      ends = omega (arith, c.len_utf8-end.ensures.value, c.requires.first.0);
+      part = part.0;
+      first = ([], part.1);
+      letter = subst (λ (cs : List ℕ). IsLetter table pattern cs c.args.from.letter) (sym part.1) c.requires.letter;
+      come = ([], refl, come-none laws table pattern piece c.args.front.offset c.args.front.reach c.args.from.next c.args.matcher.now c.requires.first.0 c.requires.first.1 c.requires.begins);
+    }
+
+-- the characters of the letter and the next one are one unit
+pub characters-preserved-then-not-is_next : goal.characters-preserved-then-not-is_next
+characters-preserved-then-not-is_next g c =
+    let table = g.W.Weights.table c.args.query.now.table.now in
+    let pattern = c.args.query.now.pattern.now in
+    let piece = c.args.front.piece.now in
+    let l = c.characters in
+    let i = l.invariant in
+    let next = c.in-Some.next in
+    let n = c.in-Some.len in
+    let rest = take_rest piece l.end in
+    let long = ap length rest ∙ length-drop l.end piece in
+    let some = c.in-Some.ensures.some in
+    let value = c.in-Some.ensures.len in
+    let spelled = subst (λ (bs : List ℕ). SpellsCharacter (take (len_utf8 next) bs) next) rest some.1 in
+    let one = one_taken (drop l.end piece) n next value spelled in
+    let all = part-more piece l.at l.end n next i.forth i.part one.0 one.1 in
+    let so_far = chars (take (l.end - l.at) (drop l.at piece)) in
+    record {
+      callable = i.callable;
+      right = (c.in-Some-join.ensures.right, i.right.1);
+      keeps = i.keeps;
+      forth = omega (arith, i.forth);
+      ends = omega (arith, some.0, long, value, i.ends);
+      part = all.0;
+      first = (i.first.0 ++ next ∷ [], all.1 ∙ ap (λ (t : List ℕ). t ++ next ∷ []) i.first.1);
+      letter = subst (λ (cs : List ℕ). IsLetter table pattern cs c.in-Some-join.both) (sym all.1)
+          (c.in-Some-join.ensures.joined so_far (λ len. (one_part piece l.at l.end l.c (omega (arith, len, i.forth)) i.come.2.next).1) i.letter c.letter-following.ensures.letter);
+      come = i.come;
+    }
+
+-- ---- the characters of the letter, which were walked over
+
+following : (g : given.Over) (c : After-walk_letter g) → AreNext (g.W.Weights.table c.args.query.now.table.now) c.args.front.piece.now c.args.front.offset c.args.front.reach c.characters.at c.characters.end c.characters.c c.in-Some.next
+following g c =
+    let piece = c.args.front.piece.now in
+    let l = c.characters in
+    let i = l.invariant in
+    let next = c.in-Some.next in
+    let rest = take_rest piece l.end in
+    let long = ap length rest ∙ length-drop l.end piece in
+    let some = c.in-Some.ensures.some in
+    record {
+      forth = i.forth;
+      near = omega (arith, c.if-end-reach.false);
+      within = omega (arith, some.0, long, i.ends);
+      spelled = subst (λ (bs : List ℕ). SpellsCharacter (take (len_utf8 next) bs) next) rest some.1;
+      part = i.part;
+      first = i.first;
+      ends = c.is_next.ensures.apart c.if-not-is_next.false (g.W.Weights.table c.args.query.now.table.now) c.args.query.now.pattern.now (c.args.front.offset + l.at) (chars (take (l.end - l.at) (drop l.at piece))) next i.letter c.letter-following.ensures.letter;
+    }
+
+come : (g : given.Over) (c : After-walk_letter g) → HasComeTo (g.W.Weights.table c.args.query.now.table.now) c.args.query.now.pattern.now c.args.front.piece.now c.args.front.offset c.args.front.reach c.args.from.next c.args.matcher.now c.walk_letter.new.matcher c.characters.end c.in-Some.next
+    (c.characters.invariant.come.0 ++ c.walk_letter.ensures.walked.0)
+come g c =
+    let l = c.characters in
+    let i = l.invariant in
+    let piece = c.args.front.piece.now in
+    let walked = c.walk_letter.ensures.walked in
+    come-further c.laws_of_characters.ensures (g.W.Weights.table c.args.query.now.table.now) c.args.query.now.pattern.now piece c.args.front.offset c.args.front.reach c.args.from.next l.at l.end l.c c.in-Some.next c.args.matcher.now l.matcher c.walk_letter.new.matcher i.come.0 walked.0
+    i.come.2 (following g c) (walked.2 (chars (take (l.end - l.at) (drop l.at piece))) i.letter)
+
+-- nothing is passed by behind them
+pub characters-preserved-then-at-due : goal.characters-preserved-then-at-due
+characters-preserved-then-at-due g c =
+    let here = (goal.at.characters-preserved-then-at-due g c).After-walk_letter in
+    let l = c.characters in
+    let i = l.invariant in
+    let n = c.in-Some.len in
+    let value = c.in-Some.ensures.len in
+    let walked = c.walk_letter.ensures.walked in
+    let next = following g here in
+    let part = one_part c.args.front.piece.now l.end (l.end + n) c.in-Some.next (omega (arith, value)) next.spelled in
+    record {
+      callable = c.walk_letter.ensures.callable;
+      right = (c.letter-following.ensures.right, i.right.1);
+      keeps = keeps-on c.args.query.now.pattern.now _ _ _ i.keeps c.walk_letter.ensures.keeps;
+      forth = omega arith;
+      ends = omega (arith, next.within, value);
+      part = part.0;
+      first = ([], part.1);
+      letter = subst (λ (cs : List ℕ). IsLetter (g.W.Weights.table c.args.query.now.table.now) c.args.query.now.pattern.now cs c.letter-following.result) (sym part.1) c.letter-following.ensures.letter;
+      come = (
+        i.come.0 ++ walked.0,
+        folds-append (λ f range t. goal.F-step g f range.0 range.1 tt t) c.args.sink.now i.come.0 walked.0 l.sink c.walk_letter.new.sink i.come.1 walked.1,
+        come g here,
+      );
+    }
+
+pub skip-skipped-requires-clause-begins : goal.skip-skipped-requires-clause-begins
+skip-skipped-requires-clause-begins g c =
+    let here = come g (goal.at.skip-skipped-requires-clause-begins g c).After-walk_letter in
+    let len = chars-len c.args.front.piece.now c.characters.end (omega (arith, here.within)) here.text in
+    subst (λ k. begins_with_starter (points_of (c.args.front.offset + k) c.in-Some.next) ≡ true) len here.apart.next_begins
+
+pub skip-skipped-requires-clause-later : goal.skip-skipped-requires-clause-later
+skip-skipped-requires-clause-later g c =
+    let l = c.characters in
+    let i = l.invariant in
+    omega (arith, some-bytes (drop l.at c.args.front.piece.now) (l.end - l.at) l.c i.first.0 i.first.1)
+
+pub characters-preserved-in_default-skipped : goal.characters-preserved-in_default-skipped
+characters-preserved-in_default-skipped g c =
+    let here = (goal.at.characters-preserved-in_default-skipped g c).After-walk_letter in
+    let l = c.characters in
+    let i = l.invariant in
+    let n = c.in-Some.len in
+    let value = c.in-Some.ensures.len in
+    let walked = c.walk_letter.ensures.walked in
+    let next = following g here in
+    let part = one_part c.args.front.piece.now l.end (l.end + n) c.in-Some.next (omega (arith, value)) next.spelled in
+    record {
+      callable = c.walk_letter.ensures.callable;
+      right = c.in_default-skipped.ensures.right;
+      keeps = keeps-on c.args.query.now.pattern.now _ _ _ i.keeps c.walk_letter.ensures.keeps;
+      forth = omega arith;
+      ends = omega (arith, next.within, value);
+      part = part.0;
+      first = ([], part.1);
+      letter = subst (λ (cs : List ℕ). IsLetter (g.W.Weights.table c.args.query.now.table.now) c.args.query.now.pattern.now cs c.letter-following.result) (sym part.1) c.letter-following.ensures.letter;
+      come = (
+        i.come.0 ++ walked.0,
+        folds-append (λ f range t. goal.F-step g f range.0 range.1 tt t) c.args.sink.now i.come.0 walked.0 l.sink c.walk_letter.new.sink i.come.1 walked.1,
+        come g here,
+      );
+    }
+
+-- text behind them was passed by
+pub characters-preserved : goal.characters-preserved
+characters-preserved g c =
+    let table = g.W.Weights.table c.args.query.now.table.now in
+    let pattern = c.args.query.now.pattern.now in
+    let piece = c.args.front.piece.now in
+    let laws = c.laws_of_characters.ensures in
+    let l = c.characters in
+    let i = l.invariant in
+    let walked = c.walk_letter.ensures.walked in
+    let rest = take_rest piece l.end in
+    let next = c.in-Some.next in
+    let so_far = come g (goal.at.characters-preserved g c).After-walk_letter in
+    let s = c.in-Some-skipped.skipped in
+    let e = c.in-Some-skipped.ensures in
+    let start = c.args.front.offset + l.end in
+    let to = l.end + s.end in
+    let text : List ℕ = take (length piece - l.end) (drop l.end piece) in
+    let matcher = c.walk_letter.new.matcher in
+    let now : Matcher = record matcher { walk = c.pass_to.new.self } in
+    let skipped : AreNext table piece c.args.front.offset c.args.front.reach l.end to next s.next =
+    next-n table piece text c.args.front.offset c.args.front.reach l.end next s.end s.next rest (omega (arith, c.if-end-reach.false)) e.passes.reach e.passes.within e.passes.next e.passes.text e.begun e.apart (len_utf8_bounds s.next).0 in
+    let count : s.end ≡ to - l.end = omega arith in
+    let part' : take s.end text ≡ take (to - l.end) (drop l.end piece) = ap (take s.end) rest ∙ ap (λ k. take k (drop l.end piece)) count in
+    let goes : HasWalkedOn table pattern matcher now (units table (points_from start (chars (take (to - l.end) (drop l.end piece))))) [] =
+    subst (λ (v : Walk). HasWalkedOn table pattern matcher (record matcher { walk = v }) (units table (points_from start (chars (take (to - l.end) (drop l.end piece))))) []) (sym c.pass_to.ensures)
+    (subst (λ (t : List ℕ). HasWalkedOn table pattern matcher (record matcher { walk = passed_to matcher.walk (start + s.start) }) (units table (points_from start (chars t))) []) part'
+    (e.walked matcher (sym c.after_variable.ensures ∙ c.if-after_variable.false) (omega (arith, c.if-matcher-ne0.false)))) in
+    let further = come-further laws table pattern piece c.args.front.offset c.args.front.reach c.args.from.next l.end to next s.next c.args.matcher.now matcher now (i.come.0 ++ walked.0) [] so_far skipped goes in
+    let last = one_part piece to (to + c.len_utf8.result) s.next (omega (arith, c.len_utf8.ensures.value)) skipped.spelled in
+    record {
+      callable = c.walk_letter.ensures.callable;
+      right = e.right;
+      keeps = keeps-on pattern _ _ _ (keeps-on pattern _ _ _ i.keeps c.walk_letter.ensures.keeps)
+          (record { state = omega (arith, ap (λ v. v.state) c.pass_to.ensures); select = ap (λ v. v.select) c.pass_to.ensures; room = ap (λ v. v.places.capacity) c.pass_to.ensures });
+      forth = omega arith;
+      ends = omega (arith, skipped.within, c.len_utf8.ensures.value);
+      part = last.0;
+      first = ([], last.1);
+      letter = subst (λ (cs : List ℕ). IsLetter table pattern cs s.letter) (sym last.1) e.passes.letter;
+      come = (
+        (i.come.0 ++ walked.0) ++ [],
+        subst (λ (t : List (ℕ × ℕ)). FoldsTo (λ f range t'. goal.F-step g f range.0 range.1 tt t') c.args.sink.now t c.walk_letter.new.sink) (sym (append-nil (i.come.0 ++ walked.0)))
+            (folds-append (λ f range t. goal.F-step g f range.0 range.1 tt t) c.args.sink.now i.come.0 walked.0 l.sink c.walk_letter.new.sink i.come.1 walked.1),
+        further,
+      );
+    }

@@ -1,0 +1,38 @@
+-- A matcher that goes over letters.
+use Rattle.std.specs.Prelude.{◌≡◌, ℕ, ◌+◌, ◌-◌, ◌≤◌, List, [], ◌∷◌, ◌++◌, length, take, drop}
+use Rattle.std.specs.Char.{len_utf8}
+use Rattle.std.specs.Str.{chars, IsUtf8}
+use Rattle.utf8_cut.specs.Sequences.{SpellsCharacter}
+use Rattle.nfd_points.specs.Points.{points_from}
+use Rattle.collation_elements.specs.Units.{units}
+use Rattle.collation_letters.specs.Apart.{IsNext}
+use Rattle.collation_table.specs.Table.{TableMap}
+use Rattle.collation_pattern.specs.Compiled.{Compiled}
+use Rattle.collation_walk.specs.declared.matching.Matcher.{Matcher}
+use Rattle.collation_walk.specs.Walked.{HasWalkedOn}
+use Rattle.collation_finder.specs.Apart.{AreApart}
+
+-- a character stands at the front of a piece
+abbrev pub StandsInFront : List ℕ → ℕ → Type 0
+StandsInFront piece c = (len_utf8 c ≤ length piece) × SpellsCharacter (take (len_utf8 c) piece) c
+
+-- A matcher that went over characters at the front of a piece, which stands at an offset, stands before the character c: these
+-- have so many bytes, and no unit reaches from them to c.
+pub record HasComeTo (table : TableMap) (pattern : Compiled) (piece : List ℕ) (offset reach first : ℕ) (matcher now : Matcher) (at c : ℕ) (ranges : List (ℕ × ℕ)) : Type 0 where
+  pub near : at ≤ reach
+  pub within : at + len_utf8 c ≤ length piece
+  pub next : SpellsCharacter (take (len_utf8 c) (drop at piece)) c
+  pub text : IsUtf8 (take at piece)
+  pub begun : (others : List ℕ) × (chars (take at piece) ++ c ∷ [] ≡ first ∷ others)
+  pub apart : AreApart table offset (chars (take at piece)) c
+  pub walked : HasWalkedOn table pattern matcher now (units table (points_from offset (chars (take at piece)))) ranges
+
+-- The next characters of the piece, up to a place, which begin with c: no unit reaches from them to the character that follows.
+pub record AreNext (table : TableMap) (piece : List ℕ) (offset reach at to c next : ℕ) : Type 0 where
+  pub forth : at ≤ to
+  pub near : to ≤ reach
+  pub within : to + len_utf8 next ≤ length piece
+  pub spelled : SpellsCharacter (take (len_utf8 next) (drop to piece)) next
+  pub part : IsUtf8 (take (to - at) (drop at piece))
+  pub first : (others : List ℕ) × (chars (take (to - at) (drop at piece)) ≡ c ∷ others)
+  pub ends : IsNext table (offset + at) (chars (take (to - at) (drop at piece))) next

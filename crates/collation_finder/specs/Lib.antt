@@ -1,0 +1,6 @@
+pub mod Matching
+pub mod Finding
+pub mod Early
+pub mod Apart
+pub mod LetterRun
+pub mod Caches

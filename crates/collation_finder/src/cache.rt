@@ -1,0 +1,145 @@
+//! Text that can't match is passed by, where no key waits.
+use collation_elements::weighers_go_on;
+use collation_letters::{Letters, laws_of_symbols};
+use collation_pattern::Pattern;
+use collation_pattern::laws::laws_of_borders;
+use collation_skip::{Passed, Skip};
+use collation_table::Weights;
+use collation_walk::Query;
+use std::alloc::{AllocError, Global};
+
+/// The most bytes that are walked over before text is passed by again.
+const MOST_HELD: usize = 2_048;
+
+/// How many bytes are worth the passing by.
+const WORTH: usize = 2;
+
+/// The fewest bytes that are walked over before text is passed by again.
+const FEWEST_HELD: usize = 1;
+
+/// The fewest bytes that may be passed by: fewer are walked over sooner.
+const SHORTEST: usize = 8;
+
+/// The most keys of a pattern for which letters are found from the first piece on.
+const MOST_KEYS: usize = 1_024;
+
+/// How many bytes go by steps first where the pattern has more keys: only a longer text gives back what finding its letters, and what
+/// passes it by, costs.
+const BY_STEPS: usize = 32_768;
+
+/// What a search has found out of the characters that it met, for its table and its pattern.
+#[derive(Drop)]
+pub struct Cache {
+    pub letters: Letters,
+    pub skip: Skip,
+    /// How many bytes are walked over before text is passed by: few where that was worth it, more where it was not.
+    pub(crate) hold: usize,
+    /// How many bytes more go by steps alone, as long as no piece has more: for one short text letters cost more than the steps that they
+    /// save.
+    pub by_steps: usize,
+    /// The allocator of the search.
+    pub alloc: Global,
+}
+
+impl Cache {
+    ghost use Rattle.std.specs.Prelude.{◌≡◌, ℕ, ◌+◌, ◌<◌, ◌≤◌, List, [], ◌∷◌, length, take, true, false, IfOk, IfSome};
+    ghost use Rattle.std.specs.Char.{len_utf8};
+    ghost use Rattle.std.specs.Str.{chars};
+    ghost use Rattle.nfd_points.specs.Points.{points_of, points_from, begins_with_starter};
+    ghost use Rattle.collation_table.specs.Table.{TableMap};
+    ghost use Rattle.collation_elements.specs.Units.{units};
+    ghost use Rattle.collation_pattern.specs.Compiled.{Compiled};
+    ghost use Rattle.collation_letters.specs.Apart.{IsNext};
+    ghost use Rattle.collation_elements.specs.Weighing.{is_after_variable};
+    ghost use Rattle.collation_skip.specs.Passed.{PassesTo};
+    ghost use Rattle.collation_walk.specs.declared.matching.Matcher.{Matcher};
+    ghost use Rattle.collation_finder.specs.declared.cache.TheConstants.{MOST_KEYS};
+    ghost use Rattle.collation_walk.specs.Walked.{HasWalkedOn};
+    ghost use Rattle.collation_finder.specs.Caches.{AreRight};
+    ghost use Rattle.collation_finder.specs.LetterRun.{StandsInFront};
+    ghost use Rattle.collation_walk.specs.Walks.{passed_to};
+
+    /// Nothing is known yet.
+    ///
+    /// # Errors
+    ///
+    /// Only where memory was refused.
+    pub fn new<W: Weights>(alloc: Global, table: &W, pattern: &Pattern) -> Result<Cache, AllocError>
+        ensures right { IfOk result (λ cache. (table : TableMap) (pattern : Compiled)
+            → AreRight table pattern cache) }
+        ensures at_once { length pattern.now.keys ≤ MOST_KEYS
+            → IfOk result (λ cache. cache.by_steps ≡ 0) }
+    {
+        Ok(Cache {
+            letters: Letters::for_long_patterns(alloc, table)?,
+            skip: Skip::new(alloc),
+            hold: FEWEST_HELD,
+            by_steps: if pattern.len() > MOST_KEYS {
+                BY_STEPS
+            } else {
+                0
+            },
+            alloc,
+        })
+    }
+
+    /// Passes by text at the front of a piece, which stands at a byte offset, where no key waits. It ends at `reach` or before it.
+    #[inline(never)]
+    pub(crate) fn skip<W: Weights>(
+        &mut self,
+        query: &Query<'_, W>,
+        piece: &[u8],
+        first: char,
+        reach: usize,
+        offset: u64,
+    ) -> Option<Passed>
+        requires first { StandsInFront piece.now first }
+        requires begins { begins_with_starter (points_of offset first) ≡ true }
+        requires later { 0 < offset }
+        requires right { AreRight (W.table query.now.table.now) query.now.pattern.now self.old }
+        ensures some { IfSome result (λ s. len_utf8 first ≤ s.end) }
+        ensures passes { IfSome result (PassesTo (W.table query.now.table.now)
+            query.now.pattern.now piece.now reach) }
+        ensures begun { IfSome result (λ s. (others : List ℕ)
+            × (chars (take s.end piece.now) ≡ first ∷ others)) }
+        ensures apart { IfSome result (λ s.
+            IsNext (W.table query.now.table.now) offset (chars (take s.end piece.now)) s.next) }
+        ensures walked { IfSome result (λ s. (matcher : Matcher)
+            → is_after_variable matcher.weigher ≡ false → matcher.walk.state ≡ 0
+            → HasWalkedOn (W.table query.now.table.now) query.now.pattern.now matcher
+            (record matcher { walk = passed_to matcher.walk (offset + s.start) })
+            (units (W.table query.now.table.now)
+            (points_from offset (chars (take s.end piece.now)))) []) }
+        ensures right { AreRight (W.table query.now.table.now) query.now.pattern.now self.new }
+    {
+        laws_of_symbols();
+        laws_of_borders();
+        weighers_go_on();
+        if reach < SHORTEST {
+            return None;
+        }
+        let Some(passed) = self.skip.pass(
+            query.table,
+            query.pattern,
+            &mut self.letters,
+            piece,
+            reach,
+        )
+        else {
+            self.hold = held_after(self.hold, 0);
+            return None;
+        };
+        self.hold = held_after(self.hold, passed.end);
+        Some(passed)
+    }
+}
+
+/// How many bytes are walked over before text is passed by again, where so many were before, and so many were passed by then: a quarter
+/// where that was worth it, else twice as many.
+fn held_after(hold: usize, passed: usize) -> usize {
+    if passed >= WORTH {
+        (hold / 4).max(FEWEST_HELD)
+    } else {
+        hold.saturating_mul(2).min(MOST_HELD)
+    }
+}

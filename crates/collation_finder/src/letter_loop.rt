@@ -1,0 +1,161 @@
+//! The loop over letters: characters whose units, keys and cluster starts are their own, one after the other.
+ghost use Rattle.std.specs.Prelude.{◌≡◌, ℕ, ◌+◌, ◌<◌, ◌≤◌, List, [], ◌∷◌, ◌++◌, length, true, IfSome};
+ghost use Rattle.std.specs.Char.{len_utf8};
+ghost use Rattle.std.specs.List.{FoldsTo};
+ghost use Rattle.nfd_points.specs.Points.{points_of, begins_with_starter};
+ghost use Rattle.collation_letters.specs.Letters.{IsLetter, is_mark};
+ghost use Rattle.collation_letters.specs.Store.{AreLetters};
+ghost use Rattle.collation_matches.specs.GoodPrefix.{most_bytes};
+ghost use Rattle.collation_finder.specs.Caches.{AreRight};
+ghost use Rattle.collation_finder.specs.LetterRun.{StandsInFront, HasComeTo};
+ghost use Rattle.collation_walk.specs.Walks.{KeepsWalk};
+
+use crate::cache::Cache;
+use collation_letters::{Letter, Letters, is_next, laws_of_characters};
+use collation_table::Weights;
+use collation_walk::{Matcher, Query, walk_letter};
+use utf8_cut::sized_character;
+
+/// A character and the marks behind it, or what was walked over.
+#[derive(Clone, Copy)]
+pub(crate) struct Walked {
+    /// How many bytes they have.
+    pub(crate) len: usize,
+    /// The character that follows, and its letter.
+    pub(crate) next: char,
+    pub(crate) letter: Letter,
+}
+
+/// What is left of a piece, and how far letters of it are taken.
+#[derive(Clone, Copy)]
+pub struct Front<'a> {
+    pub piece: &'a [u8],
+    /// Where it stands, in bytes from the beginning of the text.
+    pub offset: u64,
+    /// The place of the last character that may be taken, in bytes from its own beginning.
+    pub reach: usize,
+}
+
+/// Walks over characters at the front of a piece, of which the first is the one that follows `from`, as long as no unit reaches from one
+/// to the next, and that does not begin after `reach`. It answers how many bytes these have, and the character that follows.
+#[inline(never)]
+pub(crate) fn walk_letters<W: Weights, F: FnMut(u64, u64)>(
+    matcher: &mut Matcher,
+    query: &Query<'_, W>,
+    cache: &mut Cache,
+    front: Front<'_>,
+    from: Walked,
+    sink: &mut F,
+) -> Walked
+    requires first { StandsInFront front.piece.now from.next }
+    requires letter { IsLetter (W.table query.now.table.now) query.now.pattern.now
+        (from.next ∷ []) from.letter }
+    requires begins { begins_with_starter (points_of front.offset from.next) ≡ true }
+    requires right { AreRight (W.table query.now.table.now) query.now.pattern.now cache.old }
+    requires fits { front.offset + length front.piece.now ≤ most_bytes }
+    requires state { matcher.old.walk.state ≤ length query.now.pattern.now.keys }
+    requires callable { F.IsAlwaysCallable sink.old }
+    ensures come { (ranges : List (ℕ × ℕ))
+        × FoldsTo (λ f range g. F.step f range.0 range.1 tt g) sink.old ranges sink.new
+        × HasComeTo (W.table query.now.table.now) query.now.pattern.now
+        front.entry.piece.now front.entry.offset front.entry.reach from.next matcher.old matcher.new
+        result.len result.next ranges }
+    ensures right { AreRight (W.table query.now.table.now) query.now.pattern.now cache.new }
+    ensures keeps { KeepsWalk query.now.pattern.now matcher.old.walk matcher.new.walk }
+    ensures callable { F.IsAlwaysCallable sink.new }
+{
+    laws_of_characters();
+    let Front {
+        piece,
+        offset,
+        reach,
+    } = front;
+    let mut at = 0;
+    let mut c = from.next;
+    let mut end = c.len_utf8();
+    let mut letter = from.letter;
+    let mut due = cache.hold;
+    'characters: loop {
+        let Some((next, len)) = sized_character(&piece[end..]) else {
+            break;
+        };
+        let following = cache.letters.letter(query.table, query.pattern, next);
+        if !is_next(&letter, &following) {
+            let Some(both) = join(
+                query,
+                &mut cache.letters,
+                &letter,
+                c,
+                end - at,
+                next,
+                &following,
+            ) else {
+                break;
+            };
+            letter = both;
+            end += len;
+            continue;
+        }
+        if end > reach {
+            break;
+        }
+        walk_letter(matcher, query, &letter, offset + at as u64, sink);
+        at = end;
+        end += len;
+        c = next;
+        letter = following;
+        if at < due || matcher.walk.state != 0 || matcher.weigher.after_variable() {
+            continue;
+        }
+        let start = offset + at as u64;
+        let skipped = cache.skip(query, &piece[at..], c, reach - at, start);
+        due = at.saturating_add(cache.hold);
+        let Some(skipped) = skipped else {
+            continue;
+        };
+        due = due.saturating_add(skipped.end);
+        matcher.walk.pass_to(start + skipped.start as u64);
+        at += skipped.end;
+        c = skipped.next;
+        end = at + c.len_utf8();
+        letter = skipped.letter;
+    }
+    Walked {
+        len: at,
+        next: c,
+        letter,
+    }
+}
+
+/// The letter of some characters, of which the first is `first`, and the one that follows them, where they are one unit: a mark that
+/// joins, or a mapped string of two characters; `None` where that is left to the steps.
+#[inline(never)]
+fn join<W: Weights>(
+    query: &Query<'_, W>,
+    letters: &mut Letters,
+    letter: &Letter,
+    first: char,
+    len: usize,
+    next: char,
+    following: &Letter,
+) -> Option<Letter>
+    requires right { AreLetters (W.table query.now.table.now) query.now.pattern.now letters.old }
+    ensures joined { IfSome result (λ both. (cs : List ℕ) → (len ≡ len_utf8 first → cs ≡ first ∷ [])
+        → IsLetter (W.table query.now.table.now) query.now.pattern.now cs letter.now
+        → IsLetter (W.table query.now.table.now) query.now.pattern.now (next ∷ []) following.now
+        → IsLetter (W.table query.now.table.now) query.now.pattern.now (cs ++ next ∷ []) both) }
+    ensures right { AreLetters (W.table query.now.table.now) query.now.pattern.now letters.new }
+{
+    if following.role.is_mark() {
+        return letter.with_mark(*following);
+    }
+    if len != first.len_utf8() {
+        return None;
+    }
+    let pair = letters.pair(query.table, query.pattern, first, next);
+    if pair.role.is_steps() {
+        None
+    } else {
+        Some(pair)
+    }
+}

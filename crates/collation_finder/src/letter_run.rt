@@ -1,0 +1,250 @@
+//! Goes over the letters at the front of a piece, as long as no unit reaches into or out of one of them: its units, keys and the
+//! start of its cluster are then its own, whatever stands around it. What the window holds is cut before, as if the text ended
+//! there, and none of the characters comes into the window but the last one, with which the steps go on.
+ghost use Rattle.std.specs.Prelude.{◌≡◌, ℕ, ◌+◌, ◌≤◌, List, [], ◌∷◌, length, take, drop, true, false, IfSome};
+ghost use Rattle.std.specs.Char.{len_utf8};
+ghost use Rattle.std.specs.Str.{chars, IsUtf8};
+ghost use Rattle.utf8_cut.specs.Sequences.{SpellsCharacter};
+ghost use Rattle.collation_letters.specs.Letters.{IsLetter, is_mark};
+ghost use Rattle.collation_letters.specs.Store.{AreLetters};
+ghost use Rattle.collation_finder.specs.LetterRun.{StandsInFront};
+
+use crate::cache::Cache;
+use crate::finder::Finder;
+use crate::letter_loop::{Front, Walked, walk_letters};
+use collation_elements::units_stay_apart;
+use collation_letters::{Letter, Letters, is_next, laws_of_characters};
+use collation_table::Weights;
+use collation_walk::{Found, Query, hand_out};
+use utf8_cut::first_character;
+
+/// The character `c` at the front of a piece, which has this letter, with the marks behind it: their letter, and the character that
+/// follows; `None` where a mark is left to the steps, or no whole character follows.
+#[inline(always)]
+fn read_letter<W: Weights>(
+    query: &Query<'_, W>,
+    letters: &mut Letters,
+    piece: &[u8],
+    c: char,
+    letter: Letter,
+) -> Option<(Letter, Walked)>
+    requires c { StandsInFront piece.now c }
+    requires letter { IsLetter (W.table query.now.table.now) query.now.pattern.now (c ∷ []) letter }
+    requires right { AreLetters (W.table query.now.table.now) query.now.pattern.now letters.old }
+    ensures within { IfSome result (λ r. r.1.len + len_utf8 r.1.next ≤ length piece.now) }
+    ensures next { IfSome result (λ r.
+        SpellsCharacter (take (len_utf8 r.1.next) (drop r.1.len piece.now)) r.1.next) }
+    ensures letter { IfSome result (λ r.
+        IsLetter (W.table query.now.table.now) query.now.pattern.now (r.1.next ∷ []) r.1.letter) }
+    ensures text { IfSome result (λ r. IsUtf8 (take r.1.len piece.now)) }
+    ensures begun { IfSome result (λ r. (others : List ℕ)
+        × (chars (take r.1.len piece.now) ≡ c ∷ others)) }
+    ensures all { IfSome result (λ r.
+        IsLetter (W.table query.now.table.now) query.now.pattern.now
+        (chars (take r.1.len piece.now)) r.0) }
+    ensures right { AreLetters (W.table query.now.table.now) query.now.pattern.now letters.new }
+{
+    let mut all = letter;
+    let mut len = c.len_utf8();
+    'marks: loop {
+        let next = first_character(&piece[len..])?;
+        let following = letters.letter(query.table, query.pattern, next);
+        if !following.role.is_mark() {
+            return Some((
+                all,
+                Walked {
+                    len,
+                    next,
+                    letter: following,
+                },
+            ));
+        }
+        all = all.with_mark(following)?;
+        len += next.len_utf8();
+    }
+}
+
+/// The character that follows `c`, or its marks, at the front of a piece; `None` where a unit may reach to it from them.
+fn next_apart<W: Weights>(
+    query: &Query<'_, W>,
+    letters: &mut Letters,
+    piece: &[u8],
+    c: char,
+    letter: Letter,
+) -> Option<Walked>
+    requires c { StandsInFront piece.now c }
+    requires letter { IsLetter (W.table query.now.table.now) query.now.pattern.now (c ∷ []) letter }
+    requires right { AreLetters (W.table query.now.table.now) query.now.pattern.now letters.old }
+    ensures within { IfSome result (λ w. w.len + len_utf8 w.next ≤ length piece.now) }
+    ensures next { IfSome result (λ w.
+        SpellsCharacter (take (len_utf8 w.next) (drop w.len piece.now)) w.next) }
+    ensures letter { IfSome result (λ w.
+        IsLetter (W.table query.now.table.now) query.now.pattern.now (w.next ∷ []) w.letter) }
+    ensures right { AreLetters (W.table query.now.table.now) query.now.pattern.now letters.new }
+{
+    let (all, walked) = read_letter(query, letters, piece, c, letter)?;
+    if is_next(&all, &walked.letter) {
+        Some(walked)
+    } else {
+        None
+    }
+}
+
+/// Whether it is worth while to begin with a character of this letter at the front of a piece: no unit reaches to it, the next one does
+/// not begin after `reach`, and no unit is seen to reach from it to what follows, nor from the next one, unless it is one letter with
+/// the character behind it.
+fn can_begin<W: Weights>(
+    query: &Query<'_, W>,
+    letters: &mut Letters,
+    piece: &[u8],
+    first: char,
+    letter: Letter,
+    reach: usize,
+) -> bool
+    requires first { StandsInFront piece.now first }
+    requires letter { IsLetter (W.table query.now.table.now) query.now.pattern.now
+        (first ∷ []) letter }
+    requires right { AreLetters (W.table query.now.table.now) query.now.pattern.now letters.old }
+    ensures apart { result ≡ true → letter.is_apart ≡ true }
+    ensures right { AreLetters (W.table query.now.table.now) query.now.pattern.now letters.new }
+{
+    if !letter.is_apart || first.len_utf8() > reach {
+        return false;
+    }
+    let Some(second) = next_apart(query, letters, piece, first, letter) else {
+        return false;
+    };
+    let piece = &piece[second.len..];
+    next_apart(query, letters, piece, second.next, second.letter).is_some()
+        || joins_next(query, letters, piece, second.next, second.letter)
+}
+
+/// Whether a character at the front of a piece, out of which a unit may reach, is one letter with the one that follows it.
+fn joins_next<W: Weights>(
+    query: &Query<'_, W>,
+    letters: &mut Letters,
+    piece: &[u8],
+    first: char,
+    letter: Letter,
+) -> bool
+    requires first { StandsInFront piece.now first }
+    requires right { AreLetters (W.table query.now.table.now) query.now.pattern.now letters.old }
+    ensures right { AreLetters (W.table query.now.table.now) query.now.pattern.now letters.new }
+{
+    if letter.is_closed {
+        return false;
+    }
+    let Some(next) = first_character(&piece[first.len_utf8()..]) else {
+        return false;
+    };
+    let following = letters.letter(query.table, query.pattern, next);
+    if following.is_apart || following.role.is_mark() {
+        return false;
+    }
+    let both = letters.pair(query.table, query.pattern, first, next);
+    !both.role.is_steps()
+}
+
+impl Finder {
+    ghost use Rattle.std.specs.Prelude.{◌≡◌, ℕ, ◌+◌, ◌≤◌, List, [], ◌++◌, length, take, false};
+    ghost use Rattle.std.specs.Char.{len_utf8};
+    ghost use Rattle.std.specs.Str.{chars, IsUtf8};
+    ghost use Rattle.std.specs.List.{FoldsTo};
+    ghost use Rattle.utf8_cut.specs.Sequences.{SpellsCharacter};
+    ghost use Rattle.nfd_points.specs.Points.{byte_len};
+    ghost use Rattle.collation_finder.specs.Caches.{AreRight};
+    ghost use Rattle.collation_matches.specs.GoodPrefix.{most_bytes};
+    ghost use Rattle.collation_finder.specs.Apart.{IsPaused};
+    ghost use Rattle.collation_finder.specs.Early.{IsCutUpTo};
+    ghost use Rattle.collation_finder.specs.Finding.{FinderStandsFor, IsMadeFor, KeepsSetup};
+
+    /// Takes characters at the front of a piece, which stands at a byte offset, and calls the sink once for each range that became
+    /// known, in order. It answers how many bytes it took: those up to the first character that it can't take so, or that begins
+    /// after `reach`; none where that is the first one. `found` is room that it uses.
+    pub fn take_letters<W: Weights, F: FnMut(u64, u64)>(
+        &mut self,
+        query: &Query<'_, W>,
+        cache: &mut Cache,
+        front: Front<'_>,
+        found: &mut Found,
+        sink: &mut F,
+    ) -> usize
+        requires open { self.old.window.has_ended ≡ false }
+        requires made { IsMadeFor (W.table query.now.table.now) query.now.pattern.now self.old }
+        requires right { AreRight (W.table query.now.table.now) query.now.pattern.now cache.old }
+        requires fits { front.offset + length front.piece.now ≤ most_bytes }
+        requires callable { F.IsAlwaysCallable sink.old }
+        ensures within { result ≤ length front.entry.piece.now }
+        ensures text { IsUtf8 (take result front.entry.piece.now) }
+        ensures taken { (ranges : List (ℕ × ℕ))
+            × FoldsTo (λ f range g. F.step f range.0 range.1 tt g) sink.old ranges sink.new
+            × ((taken : List ℕ) (handed : List (ℕ × ℕ))
+            → FinderStandsFor (W.table query.now.table.now) query.now.pattern.now
+            self.old taken handed
+            → front.entry.offset ≡ byte_len taken
+            → FinderStandsFor (W.table query.now.table.now) query.now.pattern.now self.new
+            (taken ++ chars (take result front.entry.piece.now)) (handed ++ ranges)) }
+        // units may be cut early, but only before a character that does not begin after `reach`
+        ensures left { (place : ℕ) (taken : List ℕ) (handed : List (ℕ × ℕ))
+            → FinderStandsFor (W.table query.now.table.now) query.now.pattern.now
+            self.old taken handed
+            → front.entry.offset ≡ byte_len taken → front.entry.offset + front.entry.reach ≤ place
+            → IsCutUpTo (W.table query.now.table.now) place taken self.old.window.points
+            → IsCutUpTo (W.table query.now.table.now) place (taken ++ chars
+            (take result front.entry.piece.now)) self.new.window.points }
+        ensures right { AreRight (W.table query.now.table.now) query.now.pattern.now cache.new }
+        ensures open { self.new.window.has_ended ≡ false }
+        ensures setup { KeepsSetup self.old self.new }
+        ensures callable { F.IsAlwaysCallable sink.new }
+    {
+        laws_of_characters();
+        units_stay_apart();
+        let Some(first) = first_character(front.piece) else {
+            return 0;
+        };
+        let letter = cache.letters.letter(query.table, query.pattern, first);
+        if !can_begin(
+            query,
+            &mut cache.letters,
+            front.piece,
+            first,
+            letter,
+            front.reach,
+        ) {
+            return 0;
+        }
+        self.pause(query, found);
+        hand_out(found.as_slice(), sink);
+        let from = Walked {
+            len: 0,
+            next: first,
+            letter,
+        };
+        let walked = walk_letters(&mut self.matcher, query, cache, front, from, sink);
+        let at = front.offset + walked.len as u64;
+        found.clear();
+        // where no point waits no character is at fault
+        let _ = self.take(query.table, query.pattern, walked.next, at, found);
+        hand_out(found.as_slice(), sink);
+        walked.len + walked.next.len_utf8()
+    }
+
+    /// Cuts all that it holds, as if the text ended here, and puts the ranges that became known into `found`, which is emptied before.
+    fn pause<W: Weights>(&mut self, query: &Query<'_, W>, found: &mut Found)
+        requires open { self.old.window.has_ended ≡ false }
+        requires made { IsMadeFor (W.table query.now.table.now) query.now.pattern.now self.old }
+        ensures paused { (taken : List ℕ) (ranges : List (ℕ × ℕ))
+            → FinderStandsFor (W.table query.now.table.now) query.now.pattern.now
+            self.old taken ranges
+            → IsPaused (W.table query.now.table.now) query.now.pattern.now
+            self.new.reorder self.new.window self.new.matcher
+            taken (ranges ++ found.new.items) }
+        ensures open { self.new.window.has_ended ≡ false }
+        ensures none_waits { self.new.reorder.held ≡ [] }
+        ensures setup { KeepsSetup self.old self.new }
+    {
+        found.clear();
+        self.end(query.table, query.pattern, found);
+        self.window.clear();
+    }
+}

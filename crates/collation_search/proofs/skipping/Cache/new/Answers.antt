@@ -1,4 +1,0 @@
-use Rattle.collation_search.proofs.skipping.Cache.new.Goals as goal
-
-pub returns-clause-right : goal.returns-clause-right
-returns-clause-right g c = λ table pattern. (c.in_ok-for_long_patterns.ensures table pattern, c.new.ensures table pattern)
