@@ -115,3 +115,7 @@ pub record IsLetter (table : TableMap) (pattern : Compiled) (cs : List ℕ) (l :
   pub apart : l.is_apart ≡ true → AreApart table (points_from 0 cs)
   pub known : l.role ≢ Steps → IsKnown table pattern (points_from 0 cs) l
   pub plain : l.role ≡ Plain → IsPlain l
+
+-- the letter is a cluster out of which no unit reaches, with a last key that the pattern does not have
+abbrev pub IsClean : Letter → Type 0
+IsClean l = (l.role ≡ Plain) × (l.symbols.third ≡ 0)

@@ -2,7 +2,7 @@
 ghost use Rattle.std.specs.Prelude.{◌≡◌, true};
 ghost use Rattle.collation_letters.specs.Letters.{begins_cluster, is_mark};
 
-use crate::symbols::{NO_SYMBOL, NO_SYMBOLS, Symbols};
+use crate::symbols::{FOREIGN, NO_SYMBOL, NO_SYMBOLS, Symbols};
 
 /// What a search does with a character.
 #[derive(Clone, Copy, Debug, PartialEq, Eq)]
@@ -104,11 +104,12 @@ impl Role {
 }
 
 impl Letter {
-    ghost use Rattle.std.specs.Prelude.{◌≡◌, ℕ, List, true, false};
+    ghost use Rattle.std.specs.Prelude.{◌≡◌, ℕ, List, [], ◌∷◌, true, false};
     ghost use Rattle.nfd_points.specs.Points.{begins_with_starter, points_from};
     ghost use Rattle.collation_table.specs.Table.{TableMap};
     ghost use Rattle.collation_pattern.specs.Compiled.{Compiled};
-    ghost use Rattle.collation_letters.specs.Letters.{IsLetter};
+    ghost use Rattle.collation_letters.specs.Letters.{IsClean, IsLetter, flag_after};
+    ghost use Rattle.collation_letters.specs.Symbols.{listed};
     ghost use Rattle.collation_letters.specs.declared.letter.Role.TheVariants.{Base};
 
     /// Whether its role says that its characters begin with a starter.
@@ -134,6 +135,36 @@ impl Letter {
         match self.role {
             Role::Plain | Role::Base | Role::VariableBase | Role::Silent => true,
             Role::Steps | Role::PrimaryMark | Role::Mark => self.is_apart,
+        }
+    }
+
+    /// Whether it is a cluster out of which no unit reaches, with a last key that the pattern does not have.
+    #[inline(always)]
+    pub fn is_clean(&self) -> bool
+        ensures { result ≡ true → IsClean self.now }
+    {
+        match self.role {
+            Role::Plain => self.symbols.third == FOREIGN,
+            _ => false,
+        }
+    }
+
+    /// Whether it begins a cluster, has one symbol, that of keys that the pattern does not have, and leaves no variable element behind.
+    #[inline(always)]
+    pub fn is_foreign(&self) -> bool
+        ensures begins { result ≡ true → begins_cluster self.now.role ≡ true }
+        ensures flag { result ≡ true → flag_after self.now.role false ≡ false }
+        ensures flag_after { result ≡ true → flag_after self.now.role true ≡ false }
+        ensures symbols { result ≡ true → listed self.now.symbols ≡ 0 ∷ [] }
+    {
+        let symbols = self.symbols;
+        match self.role {
+            Role::Plain | Role::Base => {
+                symbols.first == NO_SYMBOL
+                    && symbols.second == NO_SYMBOL
+                    && symbols.third == FOREIGN
+            }
+            _ => false,
         }
     }
 

@@ -32,9 +32,11 @@ use Rattle.collation_letters.proofs.CharacterLemmas.{points_are_shifted}
 use Rattle.collation_letters.proofs.JoiningLemmas.{after-plain}
 use Rattle.collation_letters.proofs.LetterApart.{BeforeLaw}
 use Rattle.collation_skip.specs.declared.classes.Classes.{Classes}
-use Rattle.collation_skip.specs.Blocks.{in_set, items_at, StartsInFront, most, AreClassesRight, Passes}
+use Rattle.byte_blocks.specs.Ascii.{Passes}
+use Rattle.byte_blocks.specs.Sets.{in_set}
+use Rattle.collation_skip.specs.Blocks.{items_at, StartsInFront, most, AreClassesRight}
 use Rattle.collation_skip.specs.Passed.{IsQuiet}
-use Rattle.collation_skip.proofs.LaneLemmas.{min-zero}
+use Rattle.byte_blocks.proofs.LaneLemmas.{min-zero}
 
 abbrev pub GoesOnLaw : Type 0
 GoesOnLaw =
@@ -148,11 +150,11 @@ ends-one laws table at end c d less (inr apart) = λ x is more.
 
 -- ---- bytes that pass
 
-pub ascii-at : (classes : Classes) (bytes : List ℕ) (total i : ℕ) → Passes classes bytes total → i < total → get_or bytes i 0 < 128
+pub ascii-at : (classes : Classes) (bytes : List ℕ) (total i : ℕ) → Passes classes.sets bytes total → i < total → get_or bytes i 0 < 128
 ascii-at classes bytes total zero p less = p.ascii less
 ascii-at classes bytes total (suc i) p less = (p.each i less).ascii
 
-going-at : (classes : Classes) (bytes : List ℕ) (total i : ℕ) → Passes classes bytes total → i < total → in_set classes.halt (get_or bytes i 0) ≡ 0
+going-at : (classes : Classes) (bytes : List ℕ) (total i : ℕ) → Passes classes.sets bytes total → i < total → in_set classes.sets.halt (get_or bytes i 0) ≡ 0
 going-at classes bytes total zero p less = p.going less
 going-at classes bytes total (suc i) p less = (p.each i less).going
 
@@ -168,7 +170,7 @@ pub record HasRun (table : TableMap) (pattern : Compiled) (classes : Classes) (s
   pub later : (at : ℕ) → Contains (run_items table pattern start bytes n) (ClusterStart at) → start ≤ at
   pub state : border pattern.keys (item_keys (run_items table pattern start bytes n)) ≤ most pattern.keys classes.place
   pub none : n ≡ 0 → border pattern.keys (item_keys (run_items table pattern start bytes n)) ≤ classes.place
-  pub other : (p : ℕ) → n ≡ suc p → in_set classes.key (get_or bytes p 0) ≡ 0 → border pattern.keys (item_keys (run_items table pattern start bytes n)) ≤ classes.place
+  pub other : (p : ℕ) → n ≡ suc p → in_set classes.sets.key (get_or bytes p 0) ≡ 0 → border pattern.keys (item_keys (run_items table pattern start bytes n)) ≤ classes.place
 
 border-nil : (pattern : List Key) → border pattern [] ≡ 0
 border-nil pattern = let e : min (length pattern) 0 ≡ 0 = omega arith in ap (border_up_to pattern []) e
@@ -194,11 +196,11 @@ run-none laws table pattern classes start bytes less =
     }
 
 -- before the next character not more keys have matched than the place says, or its key is not the one behind the place
-low-or-not-later : (table : TableMap) (pattern : Compiled) (classes : Classes) (start : ℕ) (bytes : List ℕ) (total n : ℕ) → Passes classes bytes total → n < total → HasRun table pattern classes start bytes n →
-    (border pattern.keys (item_keys (run_items table pattern start bytes n)) ≤ classes.place) ⊎ (in_set classes.later (get_or bytes n 0) ≡ 0)
+low-or-not-later : (table : TableMap) (pattern : Compiled) (classes : Classes) (start : ℕ) (bytes : List ℕ) (total n : ℕ) → Passes classes.sets bytes total → n < total → HasRun table pattern classes start bytes n →
+    (border pattern.keys (item_keys (run_items table pattern start bytes n)) ≤ classes.place) ⊎ (in_set classes.sets.later (get_or bytes n 0) ≡ 0)
 low-or-not-later table pattern classes start bytes total zero p less h = inl (h.none refl)
 low-or-not-later table pattern classes start bytes total (suc n) p less h =
-    elim (min-zero (in_set classes.key (get_or bytes n 0)) (in_set classes.later (get_or bytes (suc n) 0)) (p.each n less).keys) [
+    elim (min-zero (in_set classes.sets.key (get_or bytes n 0)) (in_set classes.sets.later (get_or bytes (suc n) 0)) (p.each n less).keys) [
       | inl none ↦ inl (h.other n refl none)
       | inr none ↦ inr none
     ]
@@ -231,7 +233,7 @@ run-items-more laws table pattern start bytes n less ends =
       ap (λ (t : List ℕ). after_units table pattern.variable false (units table (points_from start t))) more ∙ next.1,
     )
 
-run-more : RunLaws → (table : TableMap) (pattern : Compiled) (classes : Classes) → AreClassesRight table pattern classes → (start : ℕ) (bytes : List ℕ) (total n : ℕ) → Passes classes bytes total → suc n < total → HasRun table pattern classes start bytes n →
+run-more : RunLaws → (table : TableMap) (pattern : Compiled) (classes : Classes) → AreClassesRight table pattern classes → (start : ℕ) (bytes : List ℕ) (total n : ℕ) → Passes classes.sets bytes total → suc n < total → HasRun table pattern classes start bytes n →
     HasRun table pattern classes start bytes (suc n)
 run-more laws table pattern classes rights start bytes total n p less h =
     let cs = take n bytes in
@@ -252,7 +254,7 @@ run-more laws table pattern classes rights start bytes total n p less h =
     let keys : item_keys (run_items table pattern start bytes (suc n)) ≡ K ++ item_keys J = ap item_keys all ∙ keys-append I J in
     let bound : most pattern.keys classes.place < length pattern.keys = let place = rights.place in omega (arith, place) in
     let which = low-or-not-later table pattern classes start bytes total n p here' h in
-    let ends = elim (min-zero (in_set classes.joins c) (in_set classes.inner d) (p.each n less).units) as (λ _. AreClosed table (points_from 0 (c ∷ [])) ⊎ AreApart table (points_from 0 (d ∷ []))) [
+    let ends = elim (min-zero (in_set classes.sets.joins c) (in_set classes.sets.inner d) (p.each n less).units) as (λ _. AreClosed table (points_from 0 (c ∷ [])) ⊎ AreApart table (points_from 0 (d ∷ []))) [
       | inl none ↦ inl (right.closed none)
       | inr none ↦ inr ((rights.each d (ascii-at classes bytes total (suc n) p less)).apart none)
     ] in
@@ -272,14 +274,14 @@ run-more laws table pattern classes rights start bytes total n p less h =
       none = λ e. absurd (omega (arith, e));
       other = λ q e none'.
           let same : q ≡ n = omega (arith, e) in
-          let none = subst (λ i. in_set classes.key (get_or bytes i 0) ≡ 0) same none' in
+          let none = subst (λ i. in_set classes.sets.key (get_or bytes i 0) ≡ 0) same none' in
           subst (λ (ks : List Key). border pattern.keys ks ≤ classes.place) (sym keys) (elim which as (λ _. border pattern.keys (K ++ item_keys J) ≤ classes.place) [
             | inl low ↦ right.other halt none flag may at K low
             | inr not_later ↦ right.back halt none not_later flag may at K h.state
           ]);
     }
 
-pub run-to : RunLaws → (table : TableMap) (pattern : Compiled) (classes : Classes) → AreClassesRight table pattern classes → (start : ℕ) (bytes : List ℕ) (total n : ℕ) → Passes classes bytes total → n < total → HasRun table pattern classes start bytes n
+pub run-to : RunLaws → (table : TableMap) (pattern : Compiled) (classes : Classes) → AreClassesRight table pattern classes → (start : ℕ) (bytes : List ℕ) (total n : ℕ) → Passes classes.sets bytes total → n < total → HasRun table pattern classes start bytes n
 run-to laws table pattern classes rights start bytes total zero p less = run-none laws table pattern classes start bytes (p.ascii less)
 run-to laws table pattern classes rights start bytes total (suc n) p less =
     run-more laws table pattern classes rights start bytes total n p less (run-to laws table pattern classes rights start bytes total n p (omega (arith, less)))

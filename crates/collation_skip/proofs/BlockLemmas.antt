@@ -18,13 +18,14 @@ use Rattle.collation_elements.specs.Weighing.{after_units}
 use Rattle.collation_pattern.specs.Compiled.{Compiled}
 use Rattle.collation_letters.specs.Apart.{IsNext}
 use Rattle.collation_letters.specs.declared.letter.Letter.{Letter}
-use Rattle.collation_letters.specs.Letters.{begins_cluster, is_mark, flag_after, keys_alone, IsLetter}
+use Rattle.collation_letters.specs.Letters.{IsClean, begins_cluster, is_mark, flag_after, keys_alone, IsLetter}
 use Rattle.collation_letters.specs.Symbols.{AreLastSymbols, SymbolsAreListed, some_symbol}
 use Rattle.collation_letters.proofs.ApartLemmas.{from_first, next-more, next_of_one}
 use Rattle.collation_letters.proofs.CharacterLemmas.{points_are_shifted}
 use Rattle.collation_letters.proofs.LetterApart.{plain-known}
 use Rattle.collation_skip.specs.declared.classes.Classes.{Classes}
-use Rattle.collation_skip.specs.Blocks.{AreClassesRight, IsClean, Passes}
+use Rattle.byte_blocks.specs.Ascii.{Passes}
+use Rattle.collation_skip.specs.Blocks.{AreClassesRight}
 use Rattle.collation_skip.specs.Passed.{IsPassed}
 use Rattle.collation_skip.proofs.ClassLemmas.{begun_items, letter-items, letter-symbols}
 use Rattle.collation_skip.proofs.AsciiLemmas.{RunLaws, possible, ascii-at, begins-ascii, ends-one, bytes-len, run_items, run-to, run-items-more, quiet-more, front-one}
@@ -58,7 +59,7 @@ begins-first law start (b ∷ bytes) n some less =
 -- ---- what was passed
 
 -- up to a character before another of ASCII, which need not pass
-pub passed-of : RunLaws → SymbolsAreListed → (table : TableMap) (pattern : Compiled) (classes : Classes) → AreClassesRight table pattern classes → (bytes : List ℕ) (total i : ℕ) → Passes classes bytes total → i < total → suc i < length bytes →
+pub passed-of : RunLaws → SymbolsAreListed → (table : TableMap) (pattern : Compiled) (classes : Classes) → AreClassesRight table pattern classes → (bytes : List ℕ) (total i : ℕ) → Passes classes.sets bytes total → i < total → suc i < length bytes →
     get_or bytes (suc i) 0 < 128 → (l : Letter) → IsLetter table pattern (get_or bytes i 0 ∷ []) l → IsClean l → (start : ℕ) → IsPassed table pattern start (start + i) (take (suc i) bytes) (get_or bytes (suc i) 0)
 passed-of laws listed table pattern classes rights bytes total i p here followed ascii l h clean start =
     let within : i < length bytes = omega (arith, followed) in

@@ -21,12 +21,11 @@ use Rattle.collation_pattern.specs.Border.{border}
 use Rattle.collation_pattern.specs.Compiled.{Compiled}
 use Rattle.collation_letters.specs.Apart.{IsNext}
 use Rattle.collation_letters.specs.declared.letter.Letter.{Letter}
-use Rattle.collation_letters.specs.Letters.{begins_cluster, is_mark, not_mark, flag_after, IsLetter}
+use Rattle.collation_letters.specs.Letters.{IsClean, begins_cluster, is_mark, not_mark, flag_after, IsLetter}
 use Rattle.collation_letters.specs.Symbols.{AreLastSymbols, is_symbol, NothingWaitsBehindForeignKeys, OneSymbolIsOfTheLastKey}
 use Rattle.collation_letters.specs.Laws.{LetterLaws}
 use Rattle.collation_letters.proofs.ApartLemmas.{from_none, next-more, next-none}
 use Rattle.collation_letters.proofs.LetterApart.{plain-known}
-use Rattle.collation_skip.specs.Blocks.{IsClean}
 use Rattle.collation_skip.specs.Passed.{IsPassed, IsQuiet}
 use Rattle.collation_skip.specs.Reached.{items_from}
 use Rattle.collation_skip.proofs.ItemLemmas.{letter_items, keys-append, keys-letter, quiet-more, later-more}

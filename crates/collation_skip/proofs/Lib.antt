@@ -8,8 +8,6 @@ pub mod RunLemmas
 pub mod BorderSteps
 pub mod AsciiLemmas
 pub mod ClassLemmas
-pub mod LaneLemmas
 pub mod BlockLemmas
 pub mod ForeignLemmas
-pub mod PassLemmas
 pub mod TwoByteLemmas

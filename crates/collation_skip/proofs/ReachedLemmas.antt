@@ -142,7 +142,7 @@ reached-longer table pattern s l at bytes byte c spelled r h =
 -- ---- a letter more
 
 -- the last letter is one behind which no key waits
-pub record IsClean (s t : State) : Type 0 where
+pub record MayBeLeft (s t : State) : Type 0 where
   pub len : t.before ≡ s.len
   pub begins : begins_cluster s.letter.role ≡ true
   pub flag : (after : Bool) → flag_after s.letter.role after ≡ false
@@ -161,7 +161,7 @@ begins-more laws table at (b ∷ before) first others h next =
 pub reached-next : LetterLaws → PointsAreShifted → (table : TableMap) (pattern : Compiled) (s t : State) (at : ℕ) (bytes : List ℕ) (byte c : ℕ) → SpellsCharacter (begun_bytes s.begun ++ byte ∷ []) c →
     s.letter.role ≢ Steps → is_mark s.letter.role ≡ false → ((start : ℕ) (cs : List ℕ) → IsLetter table pattern cs s.letter → IsNext table start cs c) →
     ((before keys : List Key) → AreLastSymbols pattern.keys keys (listed s.letter.symbols) → border pattern.keys before ≡ s.depth → border pattern.keys (before ++ keys) ≡ t.depth) →
-    t.depth < length pattern.keys → IsLetter table pattern (c ∷ []) t.letter → t.len ≡ len_utf8 c → (t.letter.is_closed ≡ false → c ≡ t.character) → t.begun ≡ Whole → (0 < t.before → IsClean s t) →
+    t.depth < length pattern.keys → IsLetter table pattern (c ∷ []) t.letter → t.len ≡ len_utf8 c → (t.letter.is_closed ≡ false → c ≡ t.character) → t.begun ≡ Whole → (0 < t.before → MayBeLeft s t) →
     IsReached table pattern s at bytes → IsReached table pattern t at (bytes ++ byte ∷ [])
 reached-next laws shift table pattern s t at bytes byte c spelled known starter apart deeper below h len character begun clean r =
     let f = further table pattern s at bytes byte c spelled r in

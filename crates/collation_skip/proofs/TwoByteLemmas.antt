@@ -24,20 +24,22 @@ use Rattle.collation_pattern.specs.Border.{border}
 use Rattle.collation_pattern.specs.Compiled.{Compiled}
 use Rattle.collation_letters.specs.Apart.{IsNext}
 use Rattle.collation_letters.specs.declared.letter.Letter.{Letter}
-use Rattle.collation_letters.specs.Letters.{AreApart, IsLetter}
+use Rattle.collation_letters.specs.Letters.{IsClean, AreApart, IsLetter}
 use Rattle.collation_letters.proofs.ApartLemmas.{begins_anywhere, from_one, next-more, next_of_one}
 use Rattle.collation_letters.proofs.CharacterLemmas.{points_are_shifted}
 use Rattle.collation_skip.specs.declared.two_byte_blocks.Ending.{Ending}
-use Rattle.collation_skip.specs.declared.two_byte_sets.TwoByteSets.{TwoByteSets}
-use Rattle.collation_skip.specs.declared.two_byte_sets.TheConstants.{LEADS, TRAILS}
-use Rattle.collation_skip.specs.Blocks.{IsClean, Says, items_at, most}
+use Rattle.collation_skip.specs.declared.two_byte_sets.TwoByteClasses.{TwoByteClasses}
+use Rattle.byte_blocks.specs.declared.sets.TheConstants.{LEADS, TRAILS}
+use Rattle.collation_skip.specs.Blocks.{Says, items_at, most}
 use Rattle.collation_skip.specs.Passed.{IsPassed, IsQuiet}
 use Rattle.collation_skip.specs.Reached.{items_from}
-use Rattle.collation_skip.specs.TwoBytes.{IsEnding, AreRightOf, AreSetsRight, DoesNotGoOn, GoesOn, Pass, StopsAt, character_of, is_in, leads, trails}
+use Rattle.byte_blocks.specs.TwoBytes.{DoesNotGoOn, GoesOn, Pass, StopsAt}
+use Rattle.byte_blocks.specs.Sets.{is_in, leads, trails}
+use Rattle.collation_skip.specs.TwoBytes.{IsEnding, AreRightOf, AreSetsRight, character_of}
 use Rattle.collation_skip.proofs.AsciiLemmas.{RunLaws, contained, items-next, keys-append, possible, quiet-more}
 use Rattle.collation_skip.proofs.BlockLemmas.{spells-ascii}
 use Rattle.collation_skip.proofs.ForeignLemmas.{AreQuiet, ForeignLaws, chars-on, no-keys, passed-on, quiet-begin, text-on}
-use Rattle.collation_skip.proofs.LaneLemmas.{min-zero, or-left, or-right, or-none}
+use Rattle.byte_blocks.proofs.LaneLemmas.{min-zero, or-left, or-right, or-none}
 use Rattle.collation_skip.proofs.ReachedLemmas.{begins-more}
 use Rattle.collation_skip.proofs.TextLemmas.{same-character}
 
@@ -49,91 +51,6 @@ each-more P n before here c less = elim (cases_lt c n) [
   | inl lower ↦ before c lower
   | inr not_lower ↦ (let same : n ≡ c = omega (arith, less, not_lower) in subst P same here)
 ]
-
--- ---- bytes that pass
-
--- the first two bytes
-pub pass-begins : (sets : TwoByteSets) (bytes : List ℕ) → 2 ≤ length bytes → is_in sets.halt (get_or bytes 0 0) ≡ 0 → trails (get_or bytes 0 0) ≡ 0 → GoesOn sets 0 (get_or bytes 0 0) (get_or bytes 1 0) → Pass sets bytes 2
-pass-begins sets bytes long going begins second = record {
-  within = long;
-  going = λ _. going;
-  begins = λ _. begins;
-  each = λ i less. at i less;
-}
-  where
-    at : (i : ℕ) → suc i < 2 → GoesOn sets (get_or (0 ∷ bytes) i 0) (get_or bytes i 0) (get_or bytes (suc i) 0)
-    at zero less = second
-    at (suc i) less = absurd (omega (arith, less))
-
--- the bytes before a place, as they are asked for and as they are loaded
-moved : (sets : TwoByteSets) (bytes : List ℕ) (i a b c : ℕ) → 1 ≤ i → a ≡ i - 1 → b ≡ i → c ≡ suc i → GoesOn sets (get_or bytes a 0) (get_or bytes b 0) (get_or bytes c 0) → GoesOn sets (get_or (0 ∷ bytes) i 0) (get_or bytes i 0) (get_or bytes (suc i) 0)
-moved sets bytes zero a b c some first second third goes = absurd (omega (arith, some))
-moved sets bytes (suc i) a b c some first second third goes =
-    let here : a ≡ i = omega (arith, first) in
-    subst (λ j. GoesOn sets (get_or bytes i 0) (get_or bytes (suc i) 0) (get_or bytes j 0)) third
-    (subst (λ j. GoesOn sets (get_or bytes i 0) (get_or bytes j 0) (get_or bytes c 0)) second
-    (subst (λ j. GoesOn sets (get_or bytes j 0) (get_or bytes b 0) (get_or bytes c 0)) here goes))
-
--- a block that begins amid the bytes that pass
-pub pass-over : (sets : TwoByteSets) (bytes : List ℕ) (len at lanes n : ℕ) → 2 ≤ at → at ≤ len → at + lanes ≤ length bytes → len ≤ n → n ≤ max len (at + lanes) → Pass sets bytes len →
-    ((k : ℕ) → k < lanes → GoesOn sets (get_or bytes (at - 2 + k) 0) (get_or bytes (at - 1 + k) 0) (get_or bytes (at + k) 0)) → Pass sets bytes n
-pass-over sets bytes len at lanes n some amid within more most p block =
-    let long = p.within in
-    record {
-      within = omega (arith, long, within, most);
-      going = λ _. p.going (omega (arith, some, amid));
-      begins = λ _. p.begins (omega (arith, some, amid));
-      each = λ i less. here i less;
-    }
-  where
-    here : (i : ℕ) → suc i < n → GoesOn sets (get_or (0 ∷ bytes) i 0) (get_or bytes i 0) (get_or bytes (suc i) 0)
-    here i less = elim (cases_lt (suc i) len) [
-      | inl before ↦ p.each i before
-      | inr behind ↦
-          let k = suc i - at in
-          moved sets bytes i (at - 2 + k) (at - 1 + k) (at + k) (omega (arith, behind, amid, some)) (omega (arith, behind, amid, some)) (omega (arith, behind, amid, some)) (omega (arith, behind, amid))
-          (block k (omega (arith, behind, less, most, amid)))
-    ]
-
--- a block behind them
-pub pass-more : (sets : TwoByteSets) (bytes : List ℕ) (len lanes : ℕ) → 2 ≤ len → len + lanes ≤ length bytes → Pass sets bytes len →
-    ((k : ℕ) → k < lanes → GoesOn sets (get_or bytes (len - 2 + k) 0) (get_or bytes (len - 1 + k) 0) (get_or bytes (len + k) 0)) → Pass sets bytes (len + lanes)
-pass-more sets bytes len lanes some within p block = pass-over sets bytes len len lanes (len + lanes) some (omega arith) within (omega arith) (omega arith) p block
-
--- a lane, and what it says of its byte
-pub lane-goes-on : (sets : TwoByteSets) (earlier before byte unlike lane : ℕ) → (unlike ≡ 0) ↔ (trails byte ≡ leads before)
-    → lane ≡ bit_or (bit_or (is_in sets.halt byte) unlike) (min (bit_or (is_in sets.key before) (min (leads before) (is_in sets.key earlier))) (is_in sets.later byte))
-    → (lane ≡ 0) ↔ GoesOn sets earlier before byte
-lane-goes-on sets earlier before byte unlike lane same is = (
-  λ none.
-      let all = sym is ∙ none in
-      let first = or-left _ _ all in
-      record {
-        going = or-left _ _ first;
-        form = same.0 (or-right _ _ first);
-        keys = elim (min-zero _ _ (or-right _ _ all)) [
-          | inl waiting ↦ inr (or-left _ _ waiting, min-zero _ _ (or-right _ _ waiting))
-          | inr none_later ↦ inl none_later
-        ];
-      },
-  λ p. is ∙ or-none (or-none p.going (same.1 p.form)) (elim p.keys [
-    | inl none_later ↦ omega (arith, none_later)
-    | inr none_before ↦ (let waiting : bit_or (is_in sets.key before) (min (leads before) (is_in sets.key earlier)) ≡ 0 = or-none none_before.0 (elim none_before.1 [
-      | inl no_lead ↦ omega (arith, no_lead)
-      | inr no_key ↦ omega (arith, no_key)
-    ]) in omega (arith, waiting))
-  ]),
-)
-
--- no more bytes pass than those before one that does not go on
-pub pass-ends : (sets : TwoByteSets) (bytes : List ℕ) (a b m n : ℕ) → 2 ≤ m → m ≤ n → a ≡ m - 2 → b ≡ m - 1 → DoesNotGoOn sets (get_or bytes a 0) (get_or bytes b 0) (get_or bytes m 0) → StopsAt sets bytes n
-pass-ends sets bytes a b zero n some within first second stop p = omega (arith, some)
-pass-ends sets bytes a b (suc zero) n some within first second stop p = omega (arith, some)
-pass-ends sets bytes a b (suc (suc m)) n some within first second stop p =
-    let here : m ≡ a = omega (arith, first) in
-    let next : suc m ≡ b = omega (arith, second) in
-    stop (subst (λ (j : ℕ). GoesOn sets (get_or bytes j 0) (get_or bytes b 0) (get_or bytes (suc (suc m)) 0)) here
-    (subst (λ (j : ℕ). GoesOn sets (get_or bytes m 0) (get_or bytes j 0) (get_or bytes (suc (suc m)) 0)) next (p.each (suc m) (omega (arith, within)))))
 
 -- ---- leading and trailing bytes
 
@@ -257,9 +174,9 @@ gone-more laws table pattern place start cs c next Before Passable Other NotLate
 
 -- ---- the characters of bytes that pass
 
-going-at : (sets : TwoByteSets) (bytes : List ℕ) (n i : ℕ) → Pass sets bytes n → i < n → is_in sets.halt (get_or bytes i 0) ≡ 0
-going-at sets bytes n zero p less = p.going less
-going-at sets bytes n (suc i) p less = (p.each i less).going
+going-at : (classes : TwoByteClasses) (bytes : List ℕ) (n i : ℕ) → Pass classes.sets bytes n → i < n → is_in classes.sets.halt (get_or bytes i 0) ≡ 0
+going-at classes bytes n zero p less = p.going less
+going-at classes bytes n (suc i) p less = (p.each i less).going
 
 two-bytes : (bytes : List ℕ) (i : ℕ) → suc i < length bytes → take 2 (drop i bytes) ≡ get_or bytes i 0 ∷ get_or bytes (suc i) 0 ∷ []
 two-bytes [] i less = absurd (omega (arith, less))
@@ -274,52 +191,52 @@ spells-two bytes i c less spelled =
     (long, (spelled.0, ap (λ n. take n (drop i bytes)) long ∙ two-bytes bytes i less ∙ spelled.1))
 
 -- where the last of these characters has no key at the place, or there is none
-abbrev pub NotAtKey : TwoByteSets → List ℕ → ℕ → Type 0
-NotAtKey sets bytes i = (is_in sets.key (get_or (0 ∷ bytes) i 0) ≡ 0) ⊎ (i ≡ 0)
+abbrev pub NotAtKey : TwoByteClasses → List ℕ → ℕ → Type 0
+NotAtKey classes bytes i = (is_in classes.sets.key (get_or (0 ∷ bytes) i 0) ≡ 0) ⊎ (i ≡ 0)
 
 -- the first i bytes are characters that are gone over, wherever they stand, before one into which no unit reaches
-pub record HasCome (table : TableMap) (pattern : Compiled) (sets : TwoByteSets) (bytes : List ℕ) (i next : ℕ) : Type 0 where
+pub record HasCome (table : TableMap) (pattern : Compiled) (classes : TwoByteClasses) (bytes : List ℕ) (i next : ℕ) : Type 0 where
   pub text : IsUtf8 (take i bytes)
-  pub gone : (start : ℕ) → HasGone table pattern sets.place start (chars (take i bytes)) next (NotAtKey sets bytes i)
+  pub gone : (start : ℕ) → HasGone table pattern classes.place start (chars (take i bytes)) next (NotAtKey classes bytes i)
 
 -- what is known of the two bytes before a place at which a character begins: the last byte of one, or its two
-come-one : RunLaws → (table : TableMap) (pattern : Compiled) (sets : TwoByteSets) → AreSetsRight table pattern sets → (bytes : List ℕ) (n i next : ℕ) → Pass sets bytes n → suc i < n → get_or bytes i 0 < 128 → AreApart table (points_from 0 (next ∷ [])) →
-    HasCome table pattern sets bytes i (get_or bytes i 0) → HasCome table pattern sets bytes (suc i) next
-come-one laws table pattern sets rights bytes n i next p less ascii apart h =
+come-one : RunLaws → (table : TableMap) (pattern : Compiled) (classes : TwoByteClasses) → AreSetsRight table pattern classes → (bytes : List ℕ) (n i next : ℕ) → Pass classes.sets bytes n → suc i < n → get_or bytes i 0 < 128 → AreApart table (points_from 0 (next ∷ [])) →
+    HasCome table pattern classes bytes i (get_or bytes i 0) → HasCome table pattern classes bytes (suc i) next
+come-one laws table pattern classes rights bytes n i next p less ascii apart h =
     let long = p.within in
     let c = get_or bytes i 0 in
-    let going = going-at sets bytes n i p (omega (arith, less)) in
+    let going = going-at classes bytes n i p (omega (arith, less)) in
     let one : len_utf8 c ≡ 1 = len_utf8_ascii c ascii in
     let more : i + 1 ≡ suc i = omega arith in
     let spelled = spells-ascii bytes i (omega (arith, less, long)) ascii in
     record {
       text = subst (λ k. IsUtf8 (take k bytes)) more (text-on bytes i 1 c (sym one) h.text spelled);
       gone = λ start.
-          let on = gone-more laws table pattern sets.place start (chars (take i bytes)) c next (NotAtKey sets bytes i) (is_in sets.halt c ≡ 0) (is_in sets.key c ≡ 0) (is_in sets.later c ≡ 0) rights.place (h.gone start) (rights.one c ascii going) going
+          let on = gone-more laws table pattern classes.place start (chars (take i bytes)) c next (NotAtKey classes bytes i) (is_in classes.sets.halt c ≡ 0) (is_in classes.sets.key c ≡ 0) (is_in classes.sets.later c ≡ 0) rights.place (h.gone start) (rights.one c ascii going) going
           (which i less) apart in
           let same : chars (take i bytes) ++ c ∷ [] ≡ chars (take (suc i) bytes) = sym (ap (λ k. chars (take k bytes)) (sym more) ∙ chars-on bytes i 1 c (sym one) h.text spelled) in
-          let there = subst (λ (cs : List ℕ). HasGone table pattern sets.place start cs next (is_in sets.key c ≡ 0)) same on in
+          let there = subst (λ (cs : List ℕ). HasGone table pattern classes.place start cs next (is_in classes.sets.key c ≡ 0)) same on in
           record { quiet = there.quiet; state = there.state; low = λ other. elim other [ inl none ↦ there.low none | inr none_before ↦ absurd (omega (arith, none_before)) ] };
     }
   where
-    which : (j : ℕ) → suc j < n → NotAtKey sets bytes j ⊎ (is_in sets.later (get_or bytes j 0) ≡ 0)
+    which : (j : ℕ) → suc j < n → NotAtKey classes bytes j ⊎ (is_in classes.sets.later (get_or bytes j 0) ≡ 0)
     which zero less = inl (inr refl)
     which (suc j) less = elim (p.each j (omega (arith, less))).keys [
       | inl none ↦ inr none
       | inr waiting ↦ inl (inl waiting.0)
     ]
 
-come-two : RunLaws → (table : TableMap) (pattern : Compiled) (sets : TwoByteSets) → AreSetsRight table pattern sets → (bytes : List ℕ) (n i next : ℕ) → Pass sets bytes n → suc i < n →
-    (r : AreRightOf table pattern sets (get_or bytes i 0) (get_or bytes (suc i) 0)) → leads (get_or bytes i 0) ≡ 255 → AreApart table (points_from 0 (next ∷ [])) →
-    HasCome table pattern sets bytes i (character_of (get_or bytes i 0) (get_or bytes (suc i) 0)) → HasCome table pattern sets bytes (suc (suc i)) next
-come-two laws table pattern sets rights bytes n i next p less r lead apart h =
+come-two : RunLaws → (table : TableMap) (pattern : Compiled) (classes : TwoByteClasses) → AreSetsRight table pattern classes → (bytes : List ℕ) (n i next : ℕ) → Pass classes.sets bytes n → suc i < n →
+    (r : AreRightOf table pattern classes (get_or bytes i 0) (get_or bytes (suc i) 0)) → leads (get_or bytes i 0) ≡ 255 → AreApart table (points_from 0 (next ∷ [])) →
+    HasCome table pattern classes bytes i (character_of (get_or bytes i 0) (get_or bytes (suc i) 0)) → HasCome table pattern classes bytes (suc (suc i)) next
+come-two laws table pattern classes rights bytes n i next p less r lead apart h =
     let long = p.within in
     let last = get_or bytes (suc i) 0 in
     let c = character_of (get_or bytes i 0) last in
     let goes = p.each i less in
     let both = spells-two bytes i c (omega (arith, less, long)) r.spelled in
     let more : i + 2 ≡ suc (suc i) = omega arith in
-    let which : NotAtKey sets bytes i ⊎ (is_in sets.later last ≡ 0) = elim goes.keys [
+    let which : NotAtKey classes bytes i ⊎ (is_in classes.sets.later last ≡ 0) = elim goes.keys [
       | inl none ↦ inr none
       | inr waiting ↦ elim waiting.1 [
         | inl no_lead ↦ absurd (omega (arith, no_lead, lead))
@@ -329,17 +246,17 @@ come-two laws table pattern sets rights bytes n i next p less r lead apart h =
     record {
       text = subst (λ k. IsUtf8 (take k bytes)) more (text-on bytes i 2 c (sym both.0) h.text both.1);
       gone = λ start.
-          let on = gone-more laws table pattern sets.place start (chars (take i bytes)) c next (NotAtKey sets bytes i) (is_in sets.halt last ≡ 0) (is_in sets.key last ≡ 0) (is_in sets.later last ≡ 0) rights.place (h.gone start) r.right goes.going
+          let on = gone-more laws table pattern classes.place start (chars (take i bytes)) c next (NotAtKey classes bytes i) (is_in classes.sets.halt last ≡ 0) (is_in classes.sets.key last ≡ 0) (is_in classes.sets.later last ≡ 0) rights.place (h.gone start) r.right goes.going
           which apart in
           let same : chars (take i bytes) ++ c ∷ [] ≡ chars (take (suc (suc i)) bytes) = sym (ap (λ k. chars (take k bytes)) (sym more) ∙ chars-on bytes i 2 c (sym both.0) h.text both.1) in
-          let there = subst (λ (cs : List ℕ). HasGone table pattern sets.place start cs next (is_in sets.key last ≡ 0)) same on in
+          let there = subst (λ (cs : List ℕ). HasGone table pattern classes.place start cs next (is_in classes.sets.key last ≡ 0)) same on in
           record { quiet = there.quiet; state = there.state; low = λ other. elim other [ inl none ↦ there.low none | inr none_before ↦ absurd (omega (arith, none_before)) ] };
     }
 
 -- the two bytes from a place on that passes
-two-right : (table : TableMap) (pattern : Compiled) (sets : TwoByteSets) → AreSetsRight table pattern sets → (bytes : List ℕ) (n i : ℕ) → Pass sets bytes n → ((j : ℕ) → get_or bytes j 0 < 256) → suc i < n → 192 ≤ get_or bytes i 0 →
-    AreRightOf table pattern sets (get_or bytes i 0) (get_or bytes (suc i) 0)
-two-right table pattern sets rights bytes n i p fits less high =
+two-right : (table : TableMap) (pattern : Compiled) (classes : TwoByteClasses) → AreSetsRight table pattern classes → (bytes : List ℕ) (n i : ℕ) → Pass classes.sets bytes n → ((j : ℕ) → get_or bytes j 0 < 256) → suc i < n → 192 ≤ get_or bytes i 0 →
+    AreRightOf table pattern classes (get_or bytes i 0) (get_or bytes (suc i) 0)
+two-right table pattern classes rights bytes n i p fits less high =
     let lead = get_or bytes i 0 in
     let trail = get_or bytes (suc i) 0 in
     let goes = p.each i less in
@@ -352,12 +269,12 @@ two-right table pattern sets rights bytes n i p fits less high =
       | inl lower ↦ lower
       | inr higher ↦ absurd (let none = trails-high trail (omega (arith, higher)) (fits (suc i)) in omega (arith, none, is))
     ] in
-    rights.two lead trail high (fits i) low mid (going-at sets bytes n i p (omega (arith, less))) goes.going
+    rights.two lead trail high (fits i) low mid (going-at classes bytes n i p (omega (arith, less))) goes.going
 
 -- before a byte that begins a character stands one of ASCII or a trailing one
-before-one : (sets : TwoByteSets) (bytes : List ℕ) (n i : ℕ) → Pass sets bytes n → ((j : ℕ) → get_or bytes j 0 < 256) → suc i < n → trails (get_or bytes (suc i) 0) ≡ 0 →
+before-one : (classes : TwoByteClasses) (bytes : List ℕ) (n i : ℕ) → Pass classes.sets bytes n → ((j : ℕ) → get_or bytes j 0 < 256) → suc i < n → trails (get_or bytes (suc i) 0) ≡ 0 →
     (get_or bytes i 0 < 128) ⊎ (trails (get_or bytes i 0) ≡ 255)
-before-one sets bytes n i p fits less begins = elim (cases_lt (get_or bytes i 0) 128) [
+before-one classes bytes n i p fits less begins = elim (cases_lt (get_or bytes i 0) 128) [
   | inl ascii ↦ inl ascii
   | inr not_ascii ↦ elim (cases_lt (get_or bytes i 0) 192) [
     | inl trail ↦ inr (trails-mid (get_or bytes i 0) (omega (arith, not_ascii)) trail)
@@ -366,26 +283,26 @@ before-one sets bytes n i p fits less begins = elim (cases_lt (get_or bytes i 0)
   ]
 ]
 
-run-to : RunLaws → (table : TableMap) (pattern : Compiled) (sets : TwoByteSets) → AreSetsRight table pattern sets → (bytes : List ℕ) (n : ℕ) → Pass sets bytes n → ((j : ℕ) → get_or bytes j 0 < 256) → (i next : ℕ) → i < n → trails (get_or bytes i 0) ≡ 0 →
-    AreApart table (points_from 0 (next ∷ [])) → HasCome table pattern sets bytes i next
-run-to laws table pattern sets rights bytes n p fits zero next less begins apart = record {
+run-to : RunLaws → (table : TableMap) (pattern : Compiled) (classes : TwoByteClasses) → AreSetsRight table pattern classes → (bytes : List ℕ) (n : ℕ) → Pass classes.sets bytes n → ((j : ℕ) → get_or bytes j 0 < 256) → (i next : ℕ) → i < n → trails (get_or bytes i 0) ≡ 0 →
+    AreApart table (points_from 0 (next ∷ [])) → HasCome table pattern classes bytes i next
+run-to laws table pattern classes rights bytes n p fits zero next less begins apart = record {
   text = IsUtf8-nil;
-  gone = λ start. subst (λ (cs : List ℕ). HasGone table pattern sets.place start cs next (NotAtKey sets bytes 0)) (sym chars-nil) (gone-none table pattern sets.place start next (NotAtKey sets bytes 0) rights.place apart);
+  gone = λ start. subst (λ (cs : List ℕ). HasGone table pattern classes.place start cs next (NotAtKey classes bytes 0)) (sym chars-nil) (gone-none table pattern classes.place start next (NotAtKey classes bytes 0) rights.place apart);
 }
-run-to laws table pattern sets rights bytes n p fits (suc zero) next less begins apart =
-    elim (before-one sets bytes n zero p fits less begins) [
+run-to laws table pattern classes rights bytes n p fits (suc zero) next less begins apart =
+    elim (before-one classes bytes n zero p fits less begins) [
       | inl ascii ↦
-          let going = going-at sets bytes n zero p (omega (arith, less)) in
-          come-one laws table pattern sets rights bytes n zero next p less ascii apart
-          (run-to laws table pattern sets rights bytes n p fits zero (get_or bytes zero 0) (omega (arith, less)) (trails-low (get_or bytes zero 0) ascii) ((rights.one (get_or bytes zero 0) ascii going).apart going))
+          let going = going-at classes bytes n zero p (omega (arith, less)) in
+          come-one laws table pattern classes rights bytes n zero next p less ascii apart
+          (run-to laws table pattern classes rights bytes n p fits zero (get_or bytes zero 0) (omega (arith, less)) (trails-low (get_or bytes zero 0) ascii) ((rights.one (get_or bytes zero 0) ascii going).apart going))
       | inr is ↦ absurd (let none = p.begins (omega (arith, less)) in omega (arith, none, is))
     ]
-run-to laws table pattern sets rights bytes n p fits (suc (suc j)) next less begins apart =
-    elim (before-one sets bytes n (suc j) p fits less begins) [
+run-to laws table pattern classes rights bytes n p fits (suc (suc j)) next less begins apart =
+    elim (before-one classes bytes n (suc j) p fits less begins) [
       | inl ascii ↦
-          let going = going-at sets bytes n (suc j) p (omega (arith, less)) in
-          come-one laws table pattern sets rights bytes n (suc j) next p less ascii apart
-          (run-to laws table pattern sets rights bytes n p fits (suc j) (get_or bytes (suc j) 0) (omega (arith, less)) (trails-low (get_or bytes (suc j) 0) ascii) ((rights.one (get_or bytes (suc j) 0) ascii going).apart going))
+          let going = going-at classes bytes n (suc j) p (omega (arith, less)) in
+          come-one laws table pattern classes rights bytes n (suc j) next p less ascii apart
+          (run-to laws table pattern classes rights bytes n p fits (suc j) (get_or bytes (suc j) 0) (omega (arith, less)) (trails-low (get_or bytes (suc j) 0) ascii) ((rights.one (get_or bytes (suc j) 0) ascii going).apart going))
       | inr is ↦
           let here : suc j < n = omega (arith, less) in
           let lead : leads (get_or bytes j 0) ≡ 255 = sym ((p.each j here).form) ∙ is in
@@ -393,17 +310,17 @@ run-to laws table pattern sets rights bytes n p fits (suc (suc j)) next less beg
             | inl lower ↦ absurd (let none = leads-low (get_or bytes j 0) lower in omega (arith, none, lead))
             | inr higher ↦ omega (arith, higher)
           ] in
-          let r = two-right table pattern sets rights bytes n j p fits here high in
-          come-two laws table pattern sets rights bytes n j next p here r lead apart
-          (run-to laws table pattern sets rights bytes n p fits j (character_of (get_or bytes j 0) (get_or bytes (suc j) 0)) (omega (arith, less)) (trails-high (get_or bytes j 0) high (fits j)) (r.right.apart (p.each j here).going))
+          let r = two-right table pattern classes rights bytes n j p fits here high in
+          come-two laws table pattern classes rights bytes n j next p here r lead apart
+          (run-to laws table pattern classes rights bytes n p fits j (character_of (get_or bytes j 0) (get_or bytes (suc j) 0)) (omega (arith, less)) (trails-high (get_or bytes j 0) high (fits j)) (r.right.apart (p.each j here).going))
     ]
 
 -- ---- what was passed
 
 -- up to behind a character with a key that the pattern does not have
-pub ending-of : RunLaws → ForeignLaws → (table : TableMap) (pattern : Compiled) (sets : TwoByteSets) → AreSetsRight table pattern sets → (bytes : List ℕ) (n : ℕ) → Pass sets bytes n → ((j : ℕ) → get_or bytes j 0 < 256) → (it : Ending) →
+pub ending-of : RunLaws → ForeignLaws → (table : TableMap) (pattern : Compiled) (classes : TwoByteClasses) → AreSetsRight table pattern classes → (bytes : List ℕ) (n : ℕ) → Pass classes.sets bytes n → ((j : ℕ) → get_or bytes j 0 < 256) → (it : Ending) →
     IsEnding table pattern bytes n it → IsUtf8 (take it.end bytes) × ((at : ℕ) → IsPassed table pattern at (at + it.start) (chars (take it.end bytes)) it.next)
-ending-of laws foreign table pattern sets rights bytes n p fits it is =
+ending-of laws foreign table pattern classes rights bytes n p fits it is =
     let start = it.start in
     let c = it.character in
     let begins = is.begins in
@@ -413,7 +330,7 @@ ending-of laws foreign table pattern sets rights bytes n p fits it is =
     let b = get_or bytes start 0 in
     let into : AreApart table (points_from 0 (c ∷ [])) = elim (cases_lt b 128) [
       | inl ascii ↦
-          let going = going-at sets bytes n start p less in
+          let going = going-at classes bytes n start p less in
           let same : b ≡ c = same-character (drop start bytes) c b spelled (spells-ascii bytes start (omega (arith, less, long)) ascii) in
           subst (λ d. AreApart table (points_from 0 (d ∷ []))) same ((rights.one b ascii going).apart going)
       | inr not_ascii ↦
@@ -422,12 +339,12 @@ ending-of laws foreign table pattern sets rights bytes n p fits it is =
             | inl lower ↦ absurd (let mid = trails-mid b (omega (arith, not_ascii)) lower in omega (arith, mid, begins))
             | inr higher ↦ omega (arith, higher)
           ] in
-          let r = two-right table pattern sets rights bytes n start p fits more high in
+          let r = two-right table pattern classes rights bytes n start p fits more high in
           let d = character_of b (get_or bytes (suc start) 0) in
           let same : d ≡ c = same-character (drop start bytes) c d spelled (spells-two bytes start d (omega (arith, more, long)) r.spelled).1 in
           subst (λ d. AreApart table (points_from 0 (d ∷ []))) same (r.right.apart (p.each start more).going)
     ] in
-    let come = run-to laws table pattern sets rights bytes n p fits start c less begins into in
+    let come = run-to laws table pattern classes rights bytes n p fits start c less begins into in
     let within = is.within in (
       subst (λ k. IsUtf8 (take k bytes)) (sym is.end) (text-on bytes start (len_utf8 c) c refl come.text spelled),
       λ at. subst (λ k. IsPassed table pattern at (at + start) (chars (take k bytes)) it.next) (sym is.end)

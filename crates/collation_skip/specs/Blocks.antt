@@ -1,7 +1,8 @@
 -- Text of ASCII that a search passes in blocks of bytes: the classes of bytes, and what they say of their characters.
-use Rattle.std.specs.Prelude.{◌≡◌, ◌≢◌, ℕ, suc, ◌-◌, ◌/◌, ◌%◌, ◌<◌, ◌≤◌, min, Bool, false, List, [], ◌∷◌, ◌++◌, length, slice_get, slice_index, Some, bit_and}
+use Rattle.std.specs.Prelude.{◌≡◌, ◌≢◌, ℕ, suc, ◌-◌, ◌<◌, ◌≤◌, min, Bool, false, List, [], ◌∷◌, ◌++◌, length, slice_get, Some}
 use Rattle.std.specs.Option.{ForSome}
 use Rattle.nfd_points.specs.Points.{points_from}
+use Rattle.byte_blocks.specs.Sets.{in_set}
 use Rattle.collation_table.specs.Table.{TableMap}
 use Rattle.collation_elements.specs.declared.keys.Key.{Key}
 use Rattle.collation_elements.specs.declared.keys.Item.{Item}
@@ -19,13 +20,6 @@ use Rattle.collation_letters.specs.Symbols.{IsSymbol}
 use Rattle.collation_skip.specs.declared.ascii.AsciiBlocks.{AsciiBlocks}
 use Rattle.collation_skip.specs.declared.classes.Classes.{Classes}
 use Rattle.collation_skip.specs.declared.kinds.Kind.{Kind}
-use Rattle.collation_skip.specs.declared.classes.TheConstants.{COLUMNS}
-
--- ---- sets of bytes
-
--- Not 0 where the byte is in a set of ASCII: bit h of the set's number l says so of the byte 16 h + l.
-abbrev pub in_set : List ℕ → ℕ → ℕ
-in_set set byte = bit_and (slice_index set (byte % 16)) (slice_index COLUMNS (byte / 16))
 
 -- ---- what keys do to the number of the pattern's keys that have matched
 
@@ -82,7 +76,7 @@ pub record Says (table : TableMap) (pattern : Compiled) (place c : ℕ) (Passabl
 -- the classes say what is so of a character of ASCII, by the sets where its byte is not
 abbrev pub IsClassRight : TableMap → Compiled → Classes → ℕ → Type 0
 IsClassRight table pattern classes c =
-    Says table pattern classes.place c (in_set classes.halt c ≡ 0) (in_set classes.key c ≡ 0) (in_set classes.later c ≡ 0) (in_set classes.joins c ≡ 0) (in_set classes.inner c ≡ 0)
+    Says table pattern classes.place c (in_set classes.sets.halt c ≡ 0) (in_set classes.sets.key c ≡ 0) (in_set classes.sets.later c ≡ 0) (in_set classes.sets.joins c ≡ 0) (in_set classes.sets.inner c ≡ 0)
 
 -- and so does a kind, by what it is not
 abbrev pub IsOfKind : TableMap → Compiled → ℕ → ℕ → Kind → Type 0
@@ -97,48 +91,3 @@ pub record AreClassesRight (table : TableMap) (pattern : Compiled) (classes : Cl
 -- so are those that were chosen, if any were
 abbrev pub AreBlocksRight : TableMap → Compiled → AsciiBlocks → Type 0
 AreBlocksRight table pattern blocks = ForSome blocks.classes (AreClassesRight table pattern)
-
--- keys alone decide which bytes pass: each character may be passed, and no unit reaches into one
-pub record KeysDecide (classes : Classes) : Type 0 where
-  pub halt : (byte : ℕ) → byte < 256 → in_set classes.halt byte ≡ 0
-  pub inner : (byte : ℕ) → byte < 256 → in_set classes.inner byte ≡ 0
-
--- The bytes that halt decide alone which bytes pass: a character that may be passed does not have the pattern's key at the place, and no
--- unit reaches into one.
-pub record HaltsDecide (classes : Classes) : Type 0 where
-  pub key : (byte : ℕ) → in_set classes.halt byte ≡ 0 → in_set classes.key byte ≡ 0
-  pub inner : (byte : ℕ) → in_set classes.inner byte ≡ 0
-
--- ---- text that passes
-
--- a byte of ASCII that does not halt
-pub record MayPass (classes : Classes) (byte : ℕ) : Type 0 where
-  pub ascii : byte < 128
-  pub going : in_set classes.halt byte ≡ 0
-
--- A byte passes behind another: it is ASCII and does not halt, the two are not a key and a later one, and no unit reaches from one to
--- the other.
-pub record PassesBehind (classes : Classes) (before byte : ℕ) : Type 0 where
-  pub ascii : byte < 128
-  pub going : in_set classes.halt byte ≡ 0
-  pub keys : min (in_set classes.key before) (in_set classes.later byte) ≡ 0
-  pub units : min (in_set classes.joins before) (in_set classes.inner byte) ≡ 0
-
--- a byte does not pass behind another
-abbrev pub DoesNotPass : Classes → ℕ → ℕ → Type 0
-DoesNotPass classes before byte = PassesBehind classes before byte → ⊥
-
--- the first n bytes pass: the first of them does not halt, and each other one passes behind the one before
-pub record Passes (classes : Classes) (bytes : List ℕ) (n : ℕ) : Type 0 where
-  pub within : n ≤ length bytes
-  pub ascii : 0 < n → slice_index bytes 0 < 128
-  pub going : 0 < n → in_set classes.halt (slice_index bytes 0) ≡ 0
-  pub each : (i : ℕ) → suc i < n → PassesBehind classes (slice_index bytes i) (slice_index bytes (suc i))
-
--- no more than the first n bytes pass
-abbrev pub EndsAt : Classes → List ℕ → ℕ → Type 0
-EndsAt classes bytes n = Passes classes bytes (suc n) → ⊥
-
--- the letter is a cluster out of which no unit reaches, with a last key that the pattern does not have
-abbrev pub IsClean : Letter → Type 0
-IsClean l = (l.role ≡ Plain) × (l.symbols.third ≡ 0)

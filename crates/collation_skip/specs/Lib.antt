@@ -3,6 +3,5 @@ pub mod BegunBytes
 pub mod Reached
 pub mod Rows
 pub mod Blocks
-pub mod Lanes
 pub mod TwoBytes
 pub mod Skips

@@ -3,16 +3,14 @@ ghost use Rattle.std.specs.Prelude.{◌≡◌, ◌<◌, ◌≤◌, ◌∷◌, []
 ghost use Rattle.collation_table.specs.Table.{TableMap};
 ghost use Rattle.collation_letters.specs.Letters.{IsLetter};
 ghost use Rattle.collation_letters.specs.Store.{AreLetters};
-ghost use Rattle.collation_skip.specs.Blocks.{AreClassesRight, IsClassRight, in_set};
+ghost use Rattle.byte_blocks.specs.Sets.{in_set};
+ghost use Rattle.collation_skip.specs.Blocks.{AreClassesRight, IsClassRight};
 
-use crate::blocks::block_passes;
 use crate::kinds::{Kind, kind_of};
+use byte_blocks::{AsciiSets, block_passes, in_set as in_ascii, put};
 use collation_letters::{Letter, Letters};
 use collation_pattern::Pattern;
 use collation_table::Weights;
-
-/// The bit that each high half of a byte has in a set.
-pub(crate) const COLUMNS: [u8; 16] = [1, 2, 4, 8, 16, 32, 64, 128, 0, 0, 0, 0, 0, 0, 0, 0];
 
 /// How many places of a pattern are tried.
 const MOST_PLACES: usize = 16;
@@ -20,33 +18,12 @@ const MOST_PLACES: usize = 16;
 /// How many bytes of a text a place is tried on.
 pub(crate) const SAMPLE: usize = 1_024;
 
-/// Sets of bytes of ASCII, for a place of a pattern: number l of a set has bit h where the byte 16 h + l is in it.
+/// A place of a pattern, and sets of bytes of ASCII for it: those that can't be passed halt; the last key of `key` may be the pattern's at
+/// the place; `later` have no key, or their last one may be the pattern's behind the place; out of `joins` a unit may reach, and into `inner`.
 #[derive(Clone, Copy, Debug)]
 pub(crate) struct Classes {
     pub(crate) place: usize,
-    /// Of those that can't be passed.
-    pub(crate) halt: [u8; 16],
-    /// Of those whose last key may be the pattern's at the place.
-    pub(crate) key: [u8; 16],
-    /// Of those that have no key, or whose last one may be the pattern's behind the place.
-    pub(crate) later: [u8; 16],
-    /// Of those out of which a unit may reach.
-    pub(crate) joins: [u8; 16],
-    /// Of those into which a unit may reach.
-    pub(crate) inner: [u8; 16],
-}
-
-/// Not 0 where a byte is in a set.
-#[inline(always)]
-pub(crate) fn in_set(set: &[u8; 16], byte: u8) -> u8
-    ensures { result ≡ in_set set.now byte }
-{
-    set[(byte % 16) as usize] & COLUMNS[(byte / 16) as usize]
-}
-
-/// Puts a byte into a set.
-pub(crate) fn put(set: &mut [u8; 16], byte: u8) {
-    set[(byte % 16) as usize] |= COLUMNS[(byte / 16) as usize];
+    pub(crate) sets: AsciiSets,
 }
 
 /// The classes for the place of the pattern at which the fewest blocks of a text halt; `None` where they are not known to be right.
@@ -96,11 +73,13 @@ fn classes_at<W: Weights>(
 {
     let mut classes = Classes {
         place,
-        halt: [0; 16],
-        key: [0; 16],
-        later: [0; 16],
-        joins: [0; 16],
-        inner: [0; 16],
+        sets: AsciiSets {
+            halt: [0; 16],
+            key: [0; 16],
+            later: [0; 16],
+            joins: [0; 16],
+            inner: [0; 16],
+        },
     };
     for byte in 0..128u8 {
         let letter = letters.letter(table, pattern, byte as char);
@@ -114,19 +93,19 @@ fn add(classes: &mut Classes, byte: u8, kind: Kind)
     ensures { classes.new.place ≡ classes.old.place }
 {
     if kind.halt {
-        put(&mut classes.halt, byte);
+        put(&mut classes.sets.halt, byte);
     }
     if kind.key {
-        put(&mut classes.key, byte);
+        put(&mut classes.sets.key, byte);
     }
     if kind.later {
-        put(&mut classes.later, byte);
+        put(&mut classes.sets.later, byte);
     }
     if kind.joins {
-        put(&mut classes.joins, byte);
+        put(&mut classes.sets.joins, byte);
     }
     if kind.inner {
-        put(&mut classes.inner, byte);
+        put(&mut classes.sets.inner, byte);
     }
 }
 
@@ -137,7 +116,7 @@ fn halts(classes: &Classes, text: &[u8]) -> usize
     let mut count = 0;
     for block in 0..SAMPLE / 16 {
         let at = 16 * block + 1;
-        if at + 16 <= text.len() && !block_passes(classes, text, at) {
+        if at + 16 <= text.len() && !block_passes(&classes.sets, text, at) {
             count += 1;
         }
     }
@@ -173,24 +152,24 @@ fn is_right(pattern: &Pattern, classes: &Classes, byte: u8, letter: &Letter) -> 
         → IsClassRight table pattern.now classes.now byte }
 {
     let kind = kind_of(pattern, letter, classes.place);
-    if !has(&classes.halt, byte, kind.halt) {
+    if !has(&classes.sets.halt, byte, kind.halt) {
         return false;
     }
-    if !has(&classes.key, byte, kind.key) {
+    if !has(&classes.sets.key, byte, kind.key) {
         return false;
     }
-    if !has(&classes.later, byte, kind.later) {
+    if !has(&classes.sets.later, byte, kind.later) {
         return false;
     }
-    if !has(&classes.joins, byte, kind.joins) {
+    if !has(&classes.sets.joins, byte, kind.joins) {
         return false;
     }
-    has(&classes.inner, byte, kind.inner)
+    has(&classes.sets.inner, byte, kind.inner)
 }
 
 /// Whether a byte is in a set if it must be.
 fn has(set: &[u8; 16], byte: u8, must: bool) -> bool
     ensures { result ≡ true → in_set set.now byte ≡ 0 → must ≡ false }
 {
-    !must || in_set(set, byte) != 0
+    !must || in_ascii(set, byte) != 0
 }

@@ -7,7 +7,6 @@ ghost use Rattle.collation_table.specs.Table.{TableMap};
 ghost use Rattle.collation_letters.specs.Store.{AreLetters};
 ghost use Rattle.collation_skip.specs.Passed.{PassesTo};
 
-use crate::blocks::is_clean;
 use crate::passed::Passed;
 use collation_letters::{Letters, is_next, laws_of_characters, laws_of_symbols};
 use collation_pattern::Pattern;
@@ -34,14 +33,14 @@ pub(crate) fn pass_foreign(
     laws_of_symbols();
     let (first, first_len) = sized_character(piece)?;
     let first_letter = letters.known(first)?;
-    if pattern.keys().is_empty() || !is_clean(&first_letter) {
+    if pattern.keys().is_empty() || !first_letter.is_clean() {
         return None;
     }
     let (mut start, mut end) = (0, 0);
     let mut next = first;
     let mut len = first_len;
     let mut letter = first_letter;
-    while end + len <= reach && is_clean(&letter) {
+    while end + len <= reach && letter.is_clean() {
         let Some((following, following_len)) = sized_character(&piece[end + len..]) else {
             break;
         };

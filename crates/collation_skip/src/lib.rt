@@ -22,15 +22,14 @@ mod classes;
 mod depth;
 mod foreign;
 mod kinds;
-mod lanes;
 mod moves;
+mod pace;
 mod passed;
 mod rows;
 mod skip;
 mod state;
 mod two_byte_blocks;
 mod two_byte_sets;
-mod two_bytes;
 
 pub use crate::ascii::AsciiBlocks;
 pub use crate::automaton::Automaton;

@@ -10,7 +10,7 @@ ghost use Rattle.collation_skip.specs.Reached.{IsMove};
 
 use crate::begun::Decoded;
 use crate::depth::depth_after;
-use crate::state::{State, is_foreign};
+use crate::state::State;
 use collation_letters::{Letter, Letters, is_next, laws_of_characters};
 use collation_pattern::Pattern;
 use collation_table::Weights;
@@ -99,7 +99,7 @@ fn behind_letter<W: Weights>(
     if depth >= most {
         return None;
     }
-    let before = if is_foreign(&state.letter) {
+    let before = if state.letter.is_foreign() {
         state.len
     } else {
         0

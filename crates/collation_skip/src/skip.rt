@@ -1,44 +1,24 @@
-//! What passes by text, for one table and one pattern: blocks of ASCII where these pay, else the automaton, or characters one by one.
+//! What passes by text, for one table and one pattern: blocks where these pay, else the automaton, or characters one by one.
 use crate::ascii::AsciiBlocks;
 use crate::automaton::Automaton;
 use crate::foreign::pass_foreign;
+use crate::pace::{Pace, WORTH_BLOCKS};
 use crate::passed::Passed;
-use crate::two_bytes::{Turn, TwoByteBlocks};
+use crate::two_byte_blocks::pass_two_bytes;
+use crate::two_byte_sets::{TwoByteClasses, sets_for};
 use collation_letters::Letters;
 use collation_pattern::Pattern;
 use collation_table::Weights;
 use std::alloc::Global;
 
-/// How many bytes have to pass, so that blocks pay.
-const WORTH_BLOCKS: usize = 32;
-
-/// How many bytes have to pass, so that the automaton pays.
-const WORTH_MOVES: usize = 24;
-
-/// How far the automaton goes at once where blocks pay: over what stopped them, in bytes.
-const SHORT: usize = 64;
-
-/// How many bytes are much, when it is seen whether the automaton comes to their end, and how many may be left then.
-const MUCH: usize = 512;
-
-const LITTLE: usize = 64;
-
-/// How many times at most the automaton is not asked where it did not pay.
-const LONGEST_REST: u32 = 255;
-
-/// The automaton of a pattern and its classes of ASCII.
+/// The automaton of a pattern, its classes of ASCII, and its sets of bytes of characters of one and of two bytes, once these were
+/// chosen by a text that came.
 #[derive(Drop)]
 pub struct Skip {
     pub(crate) automaton: Automaton,
     pub(crate) blocks: AsciiBlocks,
-    pub(crate) two_bytes: TwoByteBlocks,
-    /// Whether the last text of ASCII passed in blocks.
-    pays: bool,
-    /// Whether the automaton came to the end of what it was asked last, and that was much: then few stops are expected.
-    is_calm: bool,
-    /// How many times the automaton is not asked now, and how many times it was not the last time.
-    rest: u32,
-    last_rest: u32,
+    pub(crate) sets: Option<TwoByteClasses>,
+    pace: Pace,
 }
 
 impl Skip {
@@ -56,11 +36,8 @@ impl Skip {
         Skip {
             automaton: Automaton::new(alloc),
             blocks: AsciiBlocks::new(),
-            two_bytes: TwoByteBlocks::new(),
-            pays: false,
-            is_calm: false,
-            rest: 0,
-            last_rest: 0,
+            sets: None,
+            pace: Pace::new(),
         }
     }
 
@@ -81,70 +58,96 @@ impl Skip {
         ensures right { IsSkipRight (W.table table.now) pattern.now self.new }
         ensures letters { AreLetters (W.table table.now) pattern.now letters.new }
     {
-        let by_two = self
-            .two_bytes
-            .pass(table, pattern, letters, piece, reach, Turn::First);
-        if by_two.is_some() {
-            return by_two;
+        let by_sets = self.pass_by_sets(table, pattern, letters, piece, reach, true);
+        if by_sets.is_some() {
+            return by_sets;
         }
         let by_blocks = self.blocks.pass(table, pattern, letters, piece, reach);
-        if is_worth(&by_blocks, WORTH_BLOCKS) {
-            self.pays = true;
+        if self.pace.after_blocks(len_of(&by_blocks)) {
             return by_blocks;
         }
-        if self.rest > 0 {
-            self.rest -= 1;
+        if self.pace.rests() {
             if by_blocks.is_some() {
                 return by_blocks;
             }
             return pass_foreign(pattern, letters, piece, reach);
         }
-        let by_two = self
-            .two_bytes
-            .pass(table, pattern, letters, piece, reach, Turn::Later);
-        if by_two.is_some() {
-            return by_two;
+        let by_sets = self.pass_by_sets(table, pattern, letters, piece, reach, false);
+        if by_sets.is_some() {
+            return by_sets;
         }
-        let reach = if self.pays { reach.min(SHORT) } else { reach };
-        self.pays = false;
-        let by_automaton = self
-            .automaton
-            .pass(table, pattern, letters, piece, reach, self.is_calm);
-        let asked = piece.len().min(reach);
-        if asked >= MUCH {
-            self.is_calm = is_worth(&by_automaton, asked - LITTLE);
-        }
-        self.pace(is_worth(&by_automaton, WORTH_MOVES));
-        let passed = len_of(&by_automaton);
-        self.two_bytes
-            .choose(table, pattern, letters, piece, passed);
-        if by_automaton.is_some() {
-            return by_automaton;
+        let by_moves = self.pass_by_moves(table, pattern, letters, piece, reach);
+        if by_moves.is_some() {
+            return by_moves;
         }
         by_blocks
     }
 
-    /// Lets the automaton rest where it did not pay: one time, then 3, 7, and so on.
-    fn pace(&mut self, paid: bool)
-        ensures automaton { self.new.automaton ≡ self.old.automaton }
-        ensures blocks { self.new.blocks ≡ self.old.blocks }
-        ensures two_bytes { self.new.two_bytes ≡ self.old.two_bytes }
+    /// Passes by text of characters of one and of two bytes in blocks, asked before blocks of ASCII (`first`) or after them. `None` where
+    /// no sets are chosen, where it is not their turn, or where that is not worth while. Where such texts are short, there are no sets
+    /// from then on, until some are chosen again.
+    #[inline(always)]
+    fn pass_by_sets<W: Weights>(
+        &mut self,
+        table: &W,
+        pattern: &Pattern,
+        letters: &mut Letters,
+        piece: &[u8],
+        reach: usize,
+        first: bool,
+    ) -> Option<Passed>
+        requires right { IsSkipRight (W.table table.now) pattern.now self.old }
+        requires letters { AreLetters (W.table table.now) pattern.now letters.old }
+        ensures passes { IfSome result
+            (PassesTo (W.table table.now) pattern.now piece.now reach) }
+        ensures right { IsSkipRight (W.table table.now) pattern.now self.new }
+        ensures letters { AreLetters (W.table table.now) pattern.now letters.new }
     {
-        self.last_rest = if paid { 0 } else { next_rest(self.last_rest) };
-        self.rest = self.last_rest;
+        if self.pace.are_sets_first() != first {
+            return None;
+        }
+        let Some(sets) = &self.sets else {
+            return None;
+        };
+        let passed = pass_two_bytes(table, pattern, letters, sets, piece, reach);
+        if !self.pace.after_sets(len_of(&passed)) {
+            self.sets = None;
+        }
+        let passed = passed?;
+        if passed.end < WORTH_BLOCKS {
+            return None;
+        }
+        self.pace.after_text(&piece[..passed.end]);
+        Some(passed)
     }
-}
 
-/// The rest after this one.
-fn next_rest(rest: u32) -> u32 {
-    rest.saturating_mul(2).saturating_add(1).min(LONGEST_REST)
-}
-
-/// Whether so many bytes were passed by.
-fn is_worth(passed: &Option<Passed>, len: usize) -> bool {
-    match passed {
-        Some(passed) => passed.end >= len,
-        None => false,
+    /// Passes by text by the automaton, and chooses sets by the piece where these are due.
+    fn pass_by_moves<W: Weights>(
+        &mut self,
+        table: &W,
+        pattern: &Pattern,
+        letters: &mut Letters,
+        piece: &[u8],
+        reach: usize,
+    ) -> Option<Passed>
+        requires right { IsSkipRight (W.table table.now) pattern.now self.old }
+        requires letters { AreLetters (W.table table.now) pattern.now letters.old }
+        ensures passes { IfSome result
+            (PassesTo (W.table table.now) pattern.now piece.now reach) }
+        ensures right { IsSkipRight (W.table table.now) pattern.now self.new }
+        ensures letters { AreLetters (W.table table.now) pattern.now letters.new }
+    {
+        let reach = reach.min(self.pace.most_moves());
+        let is_calm = self.pace.is_calm();
+        let by_moves = self
+            .automaton
+            .pass(table, pattern, letters, piece, reach, is_calm);
+        let passed = len_of(&by_moves);
+        self.pace.after_moves(piece.len().min(reach), passed);
+        if self.pace.are_sets_due(passed, piece.len()) {
+            self.sets = sets_for(table, pattern, letters, piece);
+        }
+        by_moves
     }
 }
 

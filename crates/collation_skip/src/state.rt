@@ -1,10 +1,8 @@
 //! A state of the automaton: what is known behind some bytes.
-ghost use Rattle.std.specs.Prelude.{◌≡◌, ◌∷◌, [], true, false};
-ghost use Rattle.collation_letters.specs.Letters.{begins_cluster, flag_after};
-ghost use Rattle.collation_letters.specs.Symbols.{listed};
+ghost use Rattle.std.specs.Prelude.{◌≡◌, true};
 
 use crate::begun::Begun;
-use collation_letters::{FOREIGN, Letter, NO_SYMBOL, Role};
+use collation_letters::Letter;
 
 /// What is known behind some bytes. What it means stands in `specs/Reached.antt`.
 #[derive(Clone, Copy, Debug)]
@@ -106,20 +104,4 @@ fn are_same(letter: &Letter, other: &Letter) -> bool
         && letter.points == other.points
         && letter.class == other.class
         && letter.symbols == other.symbols
-}
-
-/// Whether a letter begins a cluster, has one symbol, that of keys that the pattern does not have, and leaves no variable element behind.
-pub(crate) fn is_foreign(letter: &Letter) -> bool
-    ensures begins { result ≡ true → begins_cluster letter.now.role ≡ true }
-    ensures flag { result ≡ true → flag_after letter.now.role false ≡ false }
-    ensures flag_after { result ≡ true → flag_after letter.now.role true ≡ false }
-    ensures symbols { result ≡ true → listed letter.now.symbols ≡ 0 ∷ [] }
-{
-    let symbols = letter.symbols;
-    match letter.role {
-        Role::Plain | Role::Base => {
-            symbols.first == NO_SYMBOL && symbols.second == NO_SYMBOL && symbols.third == FOREIGN
-        }
-        _ => false,
-    }
 }

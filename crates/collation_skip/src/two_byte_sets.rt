@@ -4,24 +4,15 @@ ghost use Rattle.std.specs.Prelude.{◌≡◌, ◌<◌, ◌≤◌, ◌∷◌, []
 ghost use Rattle.collation_table.specs.Table.{TableMap};
 ghost use Rattle.collation_letters.specs.Letters.{IsLetter};
 ghost use Rattle.collation_letters.specs.Store.{AreLetters};
-ghost use Rattle.collation_skip.specs.TwoBytes.{AreRightOf, AreSetsRight, IsSetRight, is_in};
+ghost use Rattle.byte_blocks.specs.Sets.{is_in};
+ghost use Rattle.collation_skip.specs.TwoBytes.{AreRightOf, AreSetsRight, IsSetRight};
 
-use crate::classes::{in_set, put};
 use crate::kinds::{Kind, kind_of};
-use crate::two_byte_blocks::block_goes_on;
+use byte_blocks::{ByteSet, NO_BYTES, TwoByteSets, block_goes_on};
 use collation_letters::{Letter, Letters};
 use collation_pattern::Pattern;
 use collation_table::Weights;
 use utf8_cut::sized_character;
-
-/// The bit that each high half of a byte from 128 on has in a set.
-pub(crate) const HIGH_COLUMNS: [u8; 16] = [0, 0, 0, 0, 0, 0, 0, 0, 1, 2, 4, 8, 16, 32, 64, 128];
-
-/// Not 0 at the high halves of leading bytes.
-pub(crate) const LEADS: [u8; 16] = [0, 0, 0, 0, 0, 0, 0, 0, 0, 0, 0, 0, 255, 255, 255, 255];
-
-/// Not 0 at the high halves of trailing bytes.
-pub(crate) const TRAILS: [u8; 16] = [0, 0, 0, 0, 0, 0, 0, 0, 255, 255, 255, 255, 0, 0, 0, 0];
 
 /// How many places of a pattern are tried.
 const MOST_PLACES: usize = 8;
@@ -38,48 +29,12 @@ const MOST_LEADS: usize = 8;
 /// How many blocks of a sample may halt, so that blocks pay.
 const MOST_HALTS: usize = 4;
 
-/// A set of bytes: number l of the first half has bit h where the byte 16 h + l is in it, of the other half where 128 + 16 h + l is.
+/// A place of a pattern, and sets of bytes for it: those that can't be passed halt; `key` ends a character whose last key may be the
+/// pattern's at the place, and `later` one without a key, or whose last one may be the pattern's behind the place.
 #[derive(Clone, Copy, Debug)]
-pub(crate) struct ByteSet {
-    pub(crate) ascii: [u8; 16],
-    pub(crate) high: [u8; 16],
-}
-
-const NO_BYTES: ByteSet = ByteSet {
-    ascii: [0; 16],
-    high: [0; 16],
-};
-
-/// Sets of bytes, for a place of a pattern.
-#[derive(Clone, Copy, Debug)]
-pub(crate) struct TwoByteSets {
+pub(crate) struct TwoByteClasses {
     pub(crate) place: usize,
-    /// Of those that can't be passed.
-    pub(crate) halt: ByteSet,
-    /// Of those that end a character whose last key may be the pattern's at the place.
-    pub(crate) key: ByteSet,
-    /// Of those that end a character without a key, or whose last one may be the pattern's behind the place.
-    pub(crate) later: ByteSet,
-}
-
-impl ByteSet {
-    ghost use Rattle.std.specs.Prelude.{◌≡◌};
-    ghost use Rattle.collation_skip.specs.TwoBytes.{is_in};
-
-    /// Not 0 where a byte is in it.
-    #[inline(always)]
-    pub(crate) fn has(&self, byte: u8) -> u8
-        ensures { result ≡ is_in self.now byte }
-    {
-        let high = self.high[(byte % 16) as usize] & HIGH_COLUMNS[(byte / 16) as usize];
-        in_set(&self.ascii, byte) | high
-    }
-
-    /// Puts a byte into it.
-    fn put(&mut self, byte: u8) {
-        put(&mut self.ascii, byte);
-        self.high[(byte % 16) as usize] |= HIGH_COLUMNS[(byte / 16) as usize];
-    }
+    pub(crate) sets: TwoByteSets,
 }
 
 /// The sets for the place of the pattern at which the fewest blocks of a text halt; `None` where blocks do not pay, or the sets are not
@@ -89,10 +44,10 @@ pub(crate) fn sets_for<W: Weights>(
     pattern: &Pattern,
     letters: &mut Letters,
     text: &[u8],
-) -> Option<TwoByteSets>
+) -> Option<TwoByteClasses>
     requires { AreLetters (W.table table.now) pattern.now letters.old }
     ensures right { AreLetters (W.table table.now) pattern.now letters.new }
-    ensures sets { IfSome result (AreSetsRight (W.table table.now) pattern.now) }
+    ensures classes { IfSome result (AreSetsRight (W.table table.now) pattern.now) }
 {
     let count = pattern.keys().len();
     let leads = leads_of(text)?;
@@ -103,10 +58,10 @@ pub(crate) fn sets_for<W: Weights>(
     let mut best = sets_at(table, pattern, letters, &leads, 0);
     let mut fewest = halts(&best, text);
     for place in 1..places {
-        let sets = sets_at(table, pattern, letters, &leads, place);
-        let blocks = halts(&sets, text);
+        let classes = sets_at(table, pattern, letters, &leads, place);
+        let blocks = halts(&classes, text);
         if blocks < fewest {
-            best = sets;
+            best = classes;
             fewest = blocks;
         }
     }
@@ -144,31 +99,33 @@ fn sets_at<W: Weights>(
     letters: &mut Letters,
     leads: &ByteSet,
     place: usize,
-) -> TwoByteSets
+) -> TwoByteClasses
     requires right { AreLetters (W.table table.now) pattern.now letters.old }
     requires place { place < length pattern.now.keys }
     ensures right { AreLetters (W.table table.now) pattern.now letters.new }
     ensures place { result.place ≡ place }
 {
-    let mut sets = TwoByteSets {
+    let mut classes = TwoByteClasses {
         place,
-        halt: NO_BYTES,
-        key: NO_BYTES,
-        later: NO_BYTES,
+        sets: TwoByteSets {
+            halt: NO_BYTES,
+            key: NO_BYTES,
+            later: NO_BYTES,
+        },
     };
     for byte in 0..128u8 {
         let letter = letters.letter(table, pattern, byte as char);
-        add(&mut sets, byte, kind_of(pattern, &letter, place));
+        add(&mut classes, byte, kind_of(pattern, &letter, place));
     }
     for lead in 192..255u8 {
         if leads.has(lead) == 0 {
-            sets.halt.put(lead);
+            classes.sets.halt.put(lead);
         } else {
-            add_lead(table, pattern, letters, &mut sets, lead);
+            add_lead(table, pattern, letters, &mut classes, lead);
         }
     }
-    sets.halt.put(255);
-    sets
+    classes.sets.halt.put(255);
+    classes
 }
 
 /// Adds the characters with a leading byte.
@@ -176,46 +133,46 @@ fn add_lead<W: Weights>(
     table: &W,
     pattern: &Pattern,
     letters: &mut Letters,
-    sets: &mut TwoByteSets,
+    classes: &mut TwoByteClasses,
     lead: u8,
 )
     requires right { AreLetters (W.table table.now) pattern.now letters.old }
-    requires place { sets.old.place < length pattern.now.keys }
+    requires place { classes.old.place < length pattern.now.keys }
     ensures right { AreLetters (W.table table.now) pattern.now letters.new }
-    ensures place { sets.new.place ≡ sets.old.place }
+    ensures place { classes.new.place ≡ classes.old.place }
 {
-    let place = sets.place;
+    let place = classes.place;
     for trail in 128..192u8 {
         if let Some((c, _len)) = sized_character(&[lead, trail]) {
             let letter = letters.letter(table, pattern, c);
-            add(sets, trail, kind_of(pattern, &letter, place));
+            add(classes, trail, kind_of(pattern, &letter, place));
         }
     }
 }
 
 /// Adds the last byte of a character of some kind.
-fn add(sets: &mut TwoByteSets, last: u8, kind: Kind)
-    ensures { sets.new.place ≡ sets.old.place }
+fn add(classes: &mut TwoByteClasses, last: u8, kind: Kind)
+    ensures { classes.new.place ≡ classes.old.place }
 {
     if kind.inner || kind.halt {
-        sets.halt.put(last);
+        classes.sets.halt.put(last);
     }
     if kind.key {
-        sets.key.put(last);
+        classes.sets.key.put(last);
     }
     if kind.later {
-        sets.later.put(last);
+        classes.sets.later.put(last);
     }
 }
 
 /// How many blocks near the front of a text halt.
-fn halts(sets: &TwoByteSets, text: &[u8]) -> usize
+fn halts(classes: &TwoByteClasses, text: &[u8]) -> usize
     ensures { result ≤ 1024 }
 {
     let mut count = 0;
     for block in 0..SAMPLE / 16 {
         let at = 16 * block + 2;
-        if at + 16 <= text.len() && !block_goes_on(sets, text, at) {
+        if at + 16 <= text.len() && !block_goes_on(&classes.sets, text, at) {
             count += 1;
         }
     }
@@ -227,22 +184,22 @@ fn are_right<W: Weights>(
     table: &W,
     pattern: &Pattern,
     letters: &mut Letters,
-    sets: &TwoByteSets,
+    classes: &TwoByteClasses,
 ) -> bool
     requires right { AreLetters (W.table table.now) pattern.now letters.old }
-    requires place { sets.now.place < length pattern.now.keys }
+    requires place { classes.now.place < length pattern.now.keys }
     ensures right { AreLetters (W.table table.now) pattern.now letters.new }
-    ensures sets { result ≡ true → AreSetsRight (W.table table.now) pattern.now sets.now }
+    ensures classes { result ≡ true → AreSetsRight (W.table table.now) pattern.now classes.now }
 {
-    if !are_right_of_one(table, pattern, letters, sets) {
+    if !are_right_of_one(table, pattern, letters, classes) {
         return false;
     }
     for lead in 192..255u8 {
-        if !are_right_of_lead(table, pattern, letters, sets, lead) {
+        if !are_right_of_lead(table, pattern, letters, classes, lead) {
             return false;
         }
     }
-    are_right_of_lead(table, pattern, letters, sets, 255)
+    are_right_of_lead(table, pattern, letters, classes, 255)
 }
 
 /// Whether the sets are right for the characters of one byte.
@@ -250,20 +207,20 @@ fn are_right_of_one<W: Weights>(
     table: &W,
     pattern: &Pattern,
     letters: &mut Letters,
-    sets: &TwoByteSets,
+    classes: &TwoByteClasses,
 ) -> bool
     requires right { AreLetters (W.table table.now) pattern.now letters.old }
-    requires place { sets.now.place < length pattern.now.keys }
+    requires place { classes.now.place < length pattern.now.keys }
     ensures right { AreLetters (W.table table.now) pattern.now letters.new }
-    ensures sets { result ≡ true → (c : ℕ) → c < 128 → is_in sets.now.halt c ≡ 0
-        → IsSetRight (W.table table.now) pattern.now sets.now c c }
+    ensures classes { result ≡ true → (c : ℕ) → c < 128 → is_in classes.now.sets.halt c ≡ 0
+        → IsSetRight (W.table table.now) pattern.now classes.now c c }
 {
     for byte in 0..128u8 {
-        if sets.halt.has(byte) != 0 {
+        if classes.sets.halt.has(byte) != 0 {
             continue;
         }
         let letter = letters.letter(table, pattern, byte as char);
-        if !is_right(pattern, sets, byte, &letter) {
+        if !is_right(pattern, classes, byte, &letter) {
             return false;
         }
     }
@@ -275,31 +232,31 @@ fn are_right_of_lead<W: Weights>(
     table: &W,
     pattern: &Pattern,
     letters: &mut Letters,
-    sets: &TwoByteSets,
+    classes: &TwoByteClasses,
     lead: u8,
 ) -> bool
     requires right { AreLetters (W.table table.now) pattern.now letters.old }
-    requires place { sets.now.place < length pattern.now.keys }
+    requires place { classes.now.place < length pattern.now.keys }
     ensures right { AreLetters (W.table table.now) pattern.now letters.new }
-    ensures sets { result ≡ true → is_in sets.now.halt lead ≡ 0
-        → (trail : ℕ) → 128 ≤ trail → trail < 192 → is_in sets.now.halt trail ≡ 0
-        → AreRightOf (W.table table.now) pattern.now sets.now lead trail }
+    ensures classes { result ≡ true → is_in classes.now.sets.halt lead ≡ 0
+        → (trail : ℕ) → 128 ≤ trail → trail < 192 → is_in classes.now.sets.halt trail ≡ 0
+        → AreRightOf (W.table table.now) pattern.now classes.now lead trail }
 {
-    if sets.halt.has(lead) != 0 {
+    if classes.sets.halt.has(lead) != 0 {
         return true;
     }
     if lead < 194 || lead >= 224 {
         return false;
     }
     for trail in 128..192u8 {
-        if sets.halt.has(trail) != 0 {
+        if classes.sets.halt.has(trail) != 0 {
             continue;
         }
         let Some((c, _len)) = sized_character(&[lead, trail]) else {
             return false;
         };
         let letter = letters.letter(table, pattern, c);
-        if !is_right(pattern, sets, trail, &letter) {
+        if !is_right(pattern, classes, trail, &letter) {
             return false;
         }
     }
@@ -307,20 +264,20 @@ fn are_right_of_lead<W: Weights>(
 }
 
 /// Whether the sets are right for a character with this letter and this last byte, which does not halt.
-fn is_right(pattern: &Pattern, sets: &TwoByteSets, last: u8, letter: &Letter) -> bool
-    requires { sets.now.place < length pattern.now.keys }
+fn is_right(pattern: &Pattern, classes: &TwoByteClasses, last: u8, letter: &Letter) -> bool
+    requires { classes.now.place < length pattern.now.keys }
     ensures { result ≡ true → (table : TableMap) (c : ℕ)
         → IsLetter table pattern.now (c ∷ []) letter.now
-        → IsSetRight table pattern.now sets.now last c }
+        → IsSetRight table pattern.now classes.now last c }
 {
-    let kind = kind_of(pattern, letter, sets.place);
+    let kind = kind_of(pattern, letter, classes.place);
     if kind.halt || kind.inner {
         return false;
     }
-    if !holds(&sets.key, last, kind.key) {
+    if !holds(&classes.sets.key, last, kind.key) {
         return false;
     }
-    holds(&sets.later, last, kind.later)
+    holds(&classes.sets.later, last, kind.later)
 }
 
 /// Whether a byte is in a set if it must be.

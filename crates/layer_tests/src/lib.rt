@@ -23,6 +23,8 @@ mod pattern;
 #[cfg(test)]
 mod points;
 #[cfg(test)]
+mod sets;
+#[cfg(test)]
 mod skip;
 #[cfg(test)]
 mod table;

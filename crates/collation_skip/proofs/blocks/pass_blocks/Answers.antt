@@ -4,14 +4,14 @@ use Rattle.std.proofs.lemmas.Bool.{cases_lt}
 use Rattle.std.proofs.lemmas.Str.{len_utf8_ascii, IsUtf8-from_ascii, chars-IsAscii}
 use Rattle.utf8_cut.specs.Sequences.{SpellsCharacter}
 use Rattle.collation_skip.specs.declared.classes.Classes.{Classes}
-use Rattle.collation_skip.specs.Blocks.{Passes}
+use Rattle.byte_blocks.specs.Ascii.{Passes}
 use Rattle.collation_skip.specs.Passed.{IsPassed}
 use Rattle.collation_skip.proofs.BlockLemmas.{ascii-take, passed-of, spells-ascii}
 use Rattle.collation_skip.proofs.AsciiLemmas.{RunLaws, ascii-at}
 use Rattle.collation_skip.proofs.blocks.pass_blocks.Goals as goal
 
 -- the byte behind one that passes
-followed : (classes : Classes) (bytes : List ℕ) (total most start : ℕ) → Passes classes bytes total → most ≤ total → (0 < most → total ≤ most → (total < length bytes) × (get_or bytes total 0 < 128)) → start < most →
+followed : (classes : Classes) (bytes : List ℕ) (total most start : ℕ) → Passes classes.sets bytes total → most ≤ total → (0 < most → total ≤ most → (total < length bytes) × (get_or bytes total 0 < 128)) → start < most →
     (suc start < length bytes) × (get_or bytes (suc start) 0 < 128)
 followed classes bytes total most start p within behind less = elim (cases_lt (suc start) total) [
   | inl before ↦ (let long = p.within in omega (arith, before, long), ascii-at classes bytes total (suc start) p before)

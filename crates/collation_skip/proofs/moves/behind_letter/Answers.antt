@@ -4,7 +4,7 @@ use Rattle.std.proofs.Math.Logic.{∥∥₁_map}
 use Rattle.collation_letters.specs.declared.letter.Letter.{Letter}
 use Rattle.collation_letters.specs.Letters.{flag_after, IsLetter}
 use Rattle.collation_letters.proofs.LetterLemmas.{letter-without_apart}
-use Rattle.collation_skip.proofs.ReachedLemmas.{IsClean, reached-next}
+use Rattle.collation_skip.proofs.ReachedLemmas.{MayBeLeft, reached-next}
 use Rattle.collation_skip.proofs.moves.behind_letter.Goals as goal
 use Rattle.collation_skip.proofs.moves.behind_letter.Goals.{then-is_foreign, else-is_foreign}
 
@@ -17,7 +17,7 @@ returns g c =
     let laws = c.laws_of_characters.ensures in
     let flag : c.is_foreign.result ≡ true → (after : Bool) → flag_after s.letter.role after ≡ false =
     λ yes. elim [ true ↦ c.is_foreign.ensures.flag_after yes | false ↦ c.is_foreign.ensures.flag yes ] in
-    let clean : 0 < t.before → IsClean s t = elim c.if-is_foreign.branch [
+    let clean : 0 < t.before → MayBeLeft s t = elim c.if-is_foreign.branch [
       | then-is_foreign w ↦ λ some.
           let yes = w.if-is_foreign.true in
           record {

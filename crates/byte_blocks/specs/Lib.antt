@@ -1,0 +1,4 @@
+pub mod Sets
+pub mod Ascii
+pub mod TwoBytes
+pub mod Lanes

@@ -1,5 +1,0 @@
-use Rattle.collation_skip.proofs.PassLemmas.{in-none}
-use Rattle.collation_skip.proofs.lanes.is_empty.Goals as goal
-
-pub returns : goal.returns
-returns c = λ yes byte. in-none c.args.set.now c.load.result c.load.ensures (c.is_zero.ensures.0 yes) byte

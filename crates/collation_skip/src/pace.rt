@@ -1,0 +1,155 @@
+//! Which way through text is asked, and when: counts of what each passed by. All ways answer alike, so no count can make an answer
+//! wrong, and no function here has a clause.
+use crate::two_byte_sets::SAMPLE;
+
+/// How many bytes have to pass, so that blocks pay.
+pub(crate) const WORTH_BLOCKS: usize = 32;
+
+/// How many bytes have to pass, so that the automaton pays.
+const WORTH_MOVES: usize = 24;
+
+/// How far the automaton goes at once where blocks pay: over what stopped them, in bytes.
+const SHORT: usize = 64;
+
+/// How many bytes are much, when it is seen whether the automaton comes to their end, and how many may be left then.
+const MUCH: usize = 512;
+
+const LITTLE: usize = 64;
+
+/// How many times at most the automaton is not asked where it did not pay.
+const LONGEST_REST: u32 = 255;
+
+/// How many bytes the automaton passes by before sets are chosen for characters of two bytes: some times as many as it would pass by
+/// meanwhile.
+const FIRST_WAIT: usize = 524_288;
+
+/// How many texts are passed before it is seen whether these sets pay, and how many bytes each has to have, one with the other: where
+/// they are shorter, the automaton passes as much, and goes on where blocks stop.
+const TEXTS: usize = 64;
+
+const FEWEST_EACH: usize = 96;
+
+/// In how many bytes a character of two bytes is looked for, which tells that the next one will be met soon.
+const NEAR: usize = 256;
+
+/// What the ways passed by until now, as far as it decides which of them is asked.
+#[derive(Clone, Copy, Debug)]
+pub(crate) struct Pace {
+    /// Whether the last text of ASCII passed in blocks.
+    blocks_pay: bool,
+    /// Whether the automaton came to the end of what it was asked last, and that was much: then few stops are expected.
+    is_calm: bool,
+    /// How many times the automaton is not asked now, and how many times it was not the last time.
+    rest: u32,
+    last_rest: u32,
+    /// Whether the last text that sets of two bytes passed by had such a character soon.
+    are_sets_first: bool,
+    /// How many bytes the automaton has still to pass by before sets are chosen again, and how many it had the last time.
+    left: usize,
+    wait: usize,
+    /// How many texts the sets passed by, or did not, since it was seen whether they pay, and how many bytes these had.
+    texts: usize,
+    bytes: usize,
+}
+
+impl Pace {
+    /// Nothing was passed by yet.
+    pub(crate) fn new() -> Pace {
+        Pace {
+            blocks_pay: false,
+            is_calm: false,
+            rest: 0,
+            last_rest: 0,
+            are_sets_first: false,
+            left: FIRST_WAIT,
+            wait: FIRST_WAIT,
+            texts: 0,
+            bytes: 0,
+        }
+    }
+
+    /// Whether sets of two bytes are asked before blocks of ASCII; else after them.
+    pub(crate) fn are_sets_first(&self) -> bool {
+        self.are_sets_first
+    }
+
+    /// Whether the automaton is expected to come to the end of what it is asked.
+    pub(crate) fn is_calm(&self) -> bool {
+        self.is_calm
+    }
+
+    /// Blocks of ASCII passed by so many bytes: whether that was worth while.
+    pub(crate) fn after_blocks(&mut self, passed: usize) -> bool {
+        if passed < WORTH_BLOCKS {
+            return false;
+        }
+        self.blocks_pay = true;
+        true
+    }
+
+    /// Whether the automaton is not asked this time.
+    pub(crate) fn rests(&mut self) -> bool {
+        if self.rest == 0 {
+            return false;
+        }
+        self.rest -= 1;
+        true
+    }
+
+    /// The most bytes over which the automaton goes this time.
+    pub(crate) fn most_moves(&mut self) -> usize {
+        let most = if self.blocks_pay { SHORT } else { usize::MAX };
+        self.blocks_pay = false;
+        most
+    }
+
+    /// The automaton passed by so many bytes of those that it was asked. Where that was not worth while, it is not asked one time, then
+    /// 3, 7, and so on.
+    pub(crate) fn after_moves(&mut self, asked: usize, passed: usize) {
+        if asked >= MUCH {
+            self.is_calm = passed >= asked - LITTLE;
+        }
+        self.last_rest = if passed >= WORTH_MOVES {
+            0
+        } else {
+            next_rest(self.last_rest)
+        };
+        self.rest = self.last_rest;
+    }
+
+    /// The automaton passed by so many bytes: whether sets are chosen now, by a piece of so many. Where they were, it waits twice as
+    /// long for the next ones.
+    pub(crate) fn are_sets_due(&mut self, passed: usize, len: usize) -> bool {
+        self.left = self.left.saturating_sub(passed);
+        if self.left > 0 || len < SAMPLE {
+            return false;
+        }
+        self.wait = self.wait.saturating_mul(2);
+        self.left = self.wait;
+        true
+    }
+
+    /// Sets passed by so many bytes, or none: whether they are kept, else there are none until they are chosen again.
+    pub(crate) fn after_sets(&mut self, passed: usize) -> bool {
+        self.bytes = self.bytes.saturating_add(passed);
+        self.texts = self.texts.saturating_add(1);
+        if self.texts < TEXTS {
+            return true;
+        }
+        let pay = self.bytes >= TEXTS * FEWEST_EACH;
+        self.texts = 0;
+        self.bytes = 0;
+        pay
+    }
+
+    /// Sets passed by this text, and that was worth while.
+    #[inline(always)]
+    pub(crate) fn after_text(&mut self, text: &[u8]) {
+        self.are_sets_first = !text[..text.len().min(NEAR)].is_ascii();
+    }
+}
+
+/// The rest after this one.
+fn next_rest(rest: u32) -> u32 {
+    rest.saturating_mul(2).saturating_add(1).min(LONGEST_REST)
+}
