@@ -36,3 +36,9 @@ pub record AreNext (table : TableMap) (piece : List ℕ) (offset reach at to c n
   pub part : IsUtf8 (take (to - at) (drop at piece))
   pub first : (others : List ℕ) × (chars (take (to - at) (drop at piece)) ≡ c ∷ others)
   pub ends : IsNext table (offset + at) (chars (take (to - at) (drop at piece))) next
+
+-- A matcher that has come to the character c goes on to another one, whatever it went over before, and no range ends between them.
+abbrev pub PassesOn : TableMap → Compiled → List ℕ → ℕ → ℕ → ℕ → ℕ → Matcher → Matcher → ℕ → ℕ → Type 0
+PassesOn table pattern piece offset reach at c matcher now to next =
+    (first : ℕ) (before : Matcher) (ranges : List (ℕ × ℕ)) → HasComeTo table pattern piece offset reach first before matcher at c ranges →
+    HasComeTo table pattern piece offset reach first before now to next ranges

@@ -1,5 +1,5 @@
 //! The loop over letters: characters whose units, keys and cluster starts are their own, one after the other.
-ghost use Rattle.std.specs.Prelude.{◌≡◌, ℕ, ◌+◌, ◌<◌, ◌≤◌, List, [], ◌∷◌, ◌++◌, length, true, IfSome};
+ghost use Rattle.std.specs.Prelude.{◌≡◌, ℕ, ◌+◌, ◌<◌, ◌≤◌, List, [], ◌∷◌, ◌++◌, length, drop, false, true, IfSome};
 ghost use Rattle.std.specs.Char.{len_utf8};
 ghost use Rattle.std.specs.List.{FoldsTo};
 ghost use Rattle.nfd_points.specs.Points.{points_of, begins_with_starter};
@@ -7,7 +7,8 @@ ghost use Rattle.collation_letters.specs.Letters.{IsLetter, is_mark};
 ghost use Rattle.collation_letters.specs.Store.{AreLetters};
 ghost use Rattle.collation_matches.specs.GoodPrefix.{most_bytes};
 ghost use Rattle.collation_finder.specs.Caches.{AreRight};
-ghost use Rattle.collation_finder.specs.LetterRun.{StandsInFront, HasComeTo};
+ghost use Rattle.collation_finder.specs.LetterRun.{StandsInFront, HasComeTo, PassesOn};
+ghost use Rattle.collation_elements.specs.Weighing.{is_after_variable};
 ghost use Rattle.collation_walk.specs.Walks.{KeepsWalk};
 
 use crate::cache::Cache;
@@ -107,23 +108,65 @@ pub(crate) fn walk_letters<W: Weights, F: FnMut(u64, u64)>(
         if at < due || matcher.walk.state != 0 || matcher.weigher.after_variable() {
             continue;
         }
-        let start = offset + at as u64;
-        let skipped = cache.skip(query, &piece[at..], c, reach - at, start);
-        due = at.saturating_add(cache.hold);
-        let Some(skipped) = skipped else {
-            continue;
+        let here = Walked {
+            len: at,
+            next: c,
+            letter,
         };
-        due = due.saturating_add(skipped.end);
-        matcher.walk.pass_to(start + skipped.start as u64);
-        at += skipped.end;
-        c = skipped.next;
+        let behind = pass_by(matcher, query, cache, front, here);
+        at = behind.len;
+        c = behind.next;
         end = at + c.len_utf8();
-        letter = skipped.letter;
+        letter = behind.letter;
+        due = at.saturating_add(cache.hold);
     }
     Walked {
         len: at,
         next: c,
         letter,
+    }
+}
+
+/// Passes by text at the front of what is left of a piece behind `from`, where no key waits. It answers how many bytes the characters
+/// have that were walked over or passed by, and the character that follows.
+#[inline(always)]
+fn pass_by<W: Weights>(
+    matcher: &mut Matcher,
+    query: &Query<'_, W>,
+    cache: &mut Cache,
+    front: Front<'_>,
+    from: Walked,
+) -> Walked
+    requires near { from.len ≤ front.reach }
+    requires first { StandsInFront (drop from.len front.piece.now) from.next }
+    requires letter { IsLetter (W.table query.now.table.now) query.now.pattern.now
+        (from.next ∷ []) from.letter }
+    requires begins { begins_with_starter (points_of (front.offset + from.len) from.next) ≡ true }
+    requires later { 0 < front.offset + from.len }
+    requires fits { front.offset + length front.piece.now ≤ most_bytes }
+    requires right { AreRight (W.table query.now.table.now) query.now.pattern.now cache.old }
+    requires state { matcher.old.walk.state ≡ 0 }
+    requires flag { is_after_variable matcher.old.weigher ≡ false }
+    ensures come { PassesOn (W.table query.now.table.now) query.now.pattern.now
+        front.entry.piece.now front.entry.offset front.entry.reach from.len from.next
+        matcher.old matcher.new result.len result.next }
+    ensures forth { from.len ≤ result.len }
+    ensures letter { IsLetter (W.table query.now.table.now) query.now.pattern.now
+        (result.next ∷ []) result.letter }
+    ensures right { AreRight (W.table query.now.table.now) query.now.pattern.now cache.new }
+    ensures keeps { KeepsWalk query.now.pattern.now matcher.old.walk matcher.new.walk }
+{
+    laws_of_characters();
+    let start = front.offset + from.len as u64;
+    let rest = &front.piece[from.len..];
+    let Some(skipped) = cache.skip(query, rest, from.next, front.reach - from.len, start) else {
+        return from;
+    };
+    matcher.walk.pass_to(start + skipped.start as u64);
+    Walked {
+        len: from.len + skipped.end,
+        next: skipped.next,
+        letter: skipped.letter,
     }
 }
 

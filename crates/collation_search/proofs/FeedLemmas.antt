@@ -146,6 +146,20 @@ module _ {W : Type 0} {G : Ghosts W} where
       later : (u more : List ℕ) → (u ++ (p ++ q)) ++ more ≡ (u ++ p) ++ (q ++ more)
       later u more = ap (λ t. t ++ more) (sym (append_assoc u p q)) ∙ append_assoc (u ++ p) q more
 
+  -- a fault that was reported before is reported again, and nothing is handed out
+  pub takes-reported : (search : Search W G) (reach : ℕ) (piece : List ℕ) (f : TextFault) → HasReported search f → Takes search reach piece (Err f) [] search
+  takes-reported search reach piece f reported = record {
+    stands = λ place u handed h. tt;
+    ended = λ place u more handed h. absurd (none_or_some search.fault f h.1.no_fault reported);
+    answer = λ place text u more handed compiled h. absurd (none_or_some search.fault f h.1.no_fault reported);
+    closed = λ place u more handed h. absurd (none_or_some search.fault f h.1.no_fault reported);
+    reported = reported;
+    again = λ g h. (err_of f g (sym reported ∙ h), refl);
+    none = tt;
+    memory = λ kind. reported;
+    same_sought = refl;
+  }
+
   -- one byte is a part of a piece
   pub takes-byte : (a b : Search W G) (byte : ℕ) (r : Result (Unit {0}) TextFault) (found : List (ℕ × ℕ)) →
       ((place : ℕ) (u : List ℕ) (handed : List (ℕ × ℕ)) → HasTaken a place u handed → OnOk r (HasTaken b place (u ++ byte ∷ []) (handed ++ found))) →

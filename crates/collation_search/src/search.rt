@@ -47,7 +47,7 @@ impl<'a, W: Weights> Search<'a, W> {
     ghost use Rattle.collation_matches.specs.declared.select.Select.TheVariants.{All};
     ghost use Rattle.collation_search.specs.Search.{HasSearched, HasTaken, HasReported, HasReportedNone, sought};
     ghost use Rattle.collation_search.specs.StateAfter.{reported_after, fault_so_far, IsReported};
-    ghost use Rattle.collation_search.specs.Feeding.{fault_of as told};
+    ghost use Rattle.collation_search.specs.Feeding.{Takes, fault_of as told};
     ghost use Rattle.collation_matches.specs.Sought.{IsCompiledFrom, answer_to, seeking, settled_in};
     ghost use Rattle.collation_matches.specs.GoodPrefix.{fault as fault_of, is_good_so_far, most_bytes, whole};
 
@@ -198,29 +198,8 @@ impl<'a, W: Weights> Search<'a, W> {
 
     /// The same, also within a piece, where units may have been cut early.
     pub(crate) fn step_on(&mut self, byte: u8, found: &mut Found) -> Result<(), TextFault>
-        ensures stands { (place : ℕ) (u : List ℕ) (handed : List _)
-            → HasTaken self.old place u handed
-            → OnOk result (HasTaken self.new place (u ++ byte ∷ []) (handed ++ found.new.items)) }
-        ensures ended { (place : ℕ) (u more : List ℕ) (handed : List _)
-            → HasTaken self.old place u handed
-            → IfErr result
-            (λ f. IsReported (sought self.old) (u ++ byte ∷ more) (handed ++ found.new.items)
-            (Some f)) }
-        ensures answer { (place : ℕ) (text u more : List ℕ) (handed : List _)
-            → IsCompiledFrom (sought self.old) text → HasTaken self.old place u handed
-            → IfErr result
-            (λ f. answer_to (sought self.old) text (u ++ byte ∷ more)
-            ≡ record { ranges = handed ++ found.new.items; fault = Some f }) }
-        ensures closed { (place : ℕ) (u more : List ℕ) (handed : List _)
-            → HasTaken self.old place u handed
-            → OnErr result (is_good_so_far (u ++ byte ∷ more) ≡ false) }
+        ensures takes { Takes self.old 0 (byte ∷ []) result found.new.items self.new }
         ensures few { length found.new.items ≤ longest_key_of (sought self.old).table + MOST_GIVEN }
-        ensures reported { IfErr result (λ f. HasReported self.new f) }
-        ensures again { (f : TextFault) → HasReported self.old f
-            → (result ≡ Err f) × (found.new.items ≡ []) }
-        ensures none { OnOk result (HasReportedNone self.new) }
-        ensures memory { IfErr result (λ f. f.kind ≡ 35 → HasReported self.old f) }
-        ensures sought { sought self.new ≡ sought self.old }
     {
         matches_by_clusters(self.query.table);
         whole_characters_are_the_longest_text();

@@ -1,21 +1,14 @@
 use Rattle.std.specs.Char.{len_utf8}
 use Rattle.std.specs.Str.{chars}
-use Rattle.std.specs.List.{FoldsTo}
 use Rattle.std.proofs.Common.{◌≡◌, ◌∙◌, ℕ, ◌+◌, ◌-◌, true, List, [], ◌∷◌, ◌++◌, length, take, drop, refl, sym, ap, subst, arith}
-use Rattle.std.proofs.lemmas.List.{append-nil, take_rest, length-drop}
-use Rattle.std.proofs.lemmas.Str.{len_utf8_bounds}
+use Rattle.std.proofs.lemmas.List.{take_rest, length-drop}
 use Rattle.utf8_cut.specs.Sequences.{SpellsCharacter}
-use Rattle.nfd_points.specs.Points.{points_of, points_from, begins_with_starter}
-use Rattle.collation_elements.specs.Units.{units}
+use Rattle.nfd_points.specs.Points.{points_of, begins_with_starter}
 use Rattle.collation_letters.specs.Letters.{IsLetter}
-use Rattle.collation_walk.specs.declared.matching.Matcher.{Matcher}
-use Rattle.collation_walk.specs.declared.walk.Walk.{Walk}
-use Rattle.collation_walk.specs.Walked.{HasWalkedOn}
 use Rattle.collation_finder.specs.LetterRun.{AreNext, HasComeTo}
-use Rattle.collation_walk.specs.Walks.{passed_to}
 use Rattle.collation_finder.proofs.CharacterLemmas.{part-more, one_part, one_taken, chars-len, some-bytes}
 use Rattle.collation_walk.proofs.Folds.{folds-append}
-use Rattle.collation_finder.proofs.LoopSteps.{come-none, come-further, next-n}
+use Rattle.collation_finder.proofs.LoopSteps.{come-none, come-further}
 use Rattle.collation_walk.proofs.WalkSteps.{keeps-on}
 use Rattle.collation_finder.proofs.letter_loop.walk_letters.Given as given
 use Rattle.collation_finder.proofs.letter_loop.walk_letters.Goals.{After-walk_letter}
@@ -129,88 +122,48 @@ characters-preserved-then-at-due g c =
       );
     }
 
-pub skip-skipped-requires-clause-begins : goal.skip-skipped-requires-clause-begins
-skip-skipped-requires-clause-begins g c =
-    let here = come g (goal.at.skip-skipped-requires-clause-begins g c).After-walk_letter in
+pub pass_by-behind-requires-clause-begins : goal.pass_by-behind-requires-clause-begins
+pass_by-behind-requires-clause-begins g c =
+    let here = come g (goal.at.pass_by-behind-requires-clause-begins g c).After-walk_letter in
     let len = chars-len c.args.front.piece.now c.characters.end (omega (arith, here.within)) here.text in
     subst (λ k. begins_with_starter (points_of (c.args.front.offset + k) c.in-Some.next) ≡ true) len here.apart.next_begins
 
-pub skip-skipped-requires-clause-later : goal.skip-skipped-requires-clause-later
-skip-skipped-requires-clause-later g c =
+pub pass_by-behind-requires-clause-later : goal.pass_by-behind-requires-clause-later
+pass_by-behind-requires-clause-later g c =
     let l = c.characters in
     let i = l.invariant in
     omega (arith, some-bytes (drop l.at c.args.front.piece.now) (l.end - l.at) l.c i.first.0 i.first.1)
 
-pub characters-preserved-in_default-skipped : goal.characters-preserved-in_default-skipped
-characters-preserved-in_default-skipped g c =
-    let here = (goal.at.characters-preserved-in_default-skipped g c).After-walk_letter in
-    let l = c.characters in
-    let i = l.invariant in
-    let n = c.in-Some.len in
-    let value = c.in-Some.ensures.len in
-    let walked = c.walk_letter.ensures.walked in
-    let next = following g here in
-    let part = one_part c.args.front.piece.now l.end (l.end + n) c.in-Some.next (omega (arith, value)) next.spelled in
-    record {
-      callable = c.walk_letter.ensures.callable;
-      right = c.in_default-skipped.ensures.right;
-      keeps = keeps-on c.args.query.now.pattern.now _ _ _ i.keeps c.walk_letter.ensures.keeps;
-      forth = omega arith;
-      ends = omega (arith, next.within, value);
-      part = part.0;
-      first = ([], part.1);
-      letter = subst (λ (cs : List ℕ). IsLetter (g.W.Weights.table c.args.query.now.table.now) c.args.query.now.pattern.now cs c.letter-following.result) (sym part.1) c.letter-following.ensures.letter;
-      come = (
-        i.come.0 ++ walked.0,
-        folds-append (λ f range t. goal.F-step g f range.0 range.1 tt t) c.args.sink.now i.come.0 walked.0 l.sink c.walk_letter.new.sink i.come.1 walked.1,
-        come g here,
-      );
-    }
+pub overflow_add-end-in-characters-2 : goal.overflow_add-end-in-characters-2
+overflow_add-end-in-characters-2 g c =
+    let so_far = come g (goal.at.overflow_add-end-in-characters-2 g c).After-walk_letter in
+    let now = c.pass_by-behind.ensures.come c.args.from.next c.args.matcher.now (c.characters.invariant.come.0 ++ c.walk_letter.ensures.walked.0) so_far in
+    omega (arith, now.within, c.requires.fits)
 
--- text behind them was passed by
+-- text behind them may have been passed by
 pub characters-preserved : goal.characters-preserved
 characters-preserved g c =
     let table = g.W.Weights.table c.args.query.now.table.now in
     let pattern = c.args.query.now.pattern.now in
-    let piece = c.args.front.piece.now in
-    let laws = c.laws_of_characters.ensures in
-    let l = c.characters in
-    let i = l.invariant in
+    let i = c.characters.invariant in
     let walked = c.walk_letter.ensures.walked in
-    let rest = take_rest piece l.end in
-    let next = c.in-Some.next in
-    let so_far = come g (goal.at.characters-preserved g c).After-walk_letter in
-    let s = c.in-Some-skipped.skipped in
-    let e = c.in-Some-skipped.ensures in
-    let start = c.args.front.offset + l.end in
-    let to = l.end + s.end in
-    let text : List ℕ = take (length piece - l.end) (drop l.end piece) in
-    let matcher = c.walk_letter.new.matcher in
-    let now : Matcher = record matcher { walk = c.pass_to.new.self } in
-    let skipped : AreNext table piece c.args.front.offset c.args.front.reach l.end to next s.next =
-    next-n table piece text c.args.front.offset c.args.front.reach l.end next s.end s.next rest (omega (arith, c.if-end-reach.false)) e.passes.reach e.passes.within e.passes.next e.passes.text e.begun e.apart (len_utf8_bounds s.next).0 in
-    let count : s.end ≡ to - l.end = omega arith in
-    let part' : take s.end text ≡ take (to - l.end) (drop l.end piece) = ap (take s.end) rest ∙ ap (λ k. take k (drop l.end piece)) count in
-    let goes : HasWalkedOn table pattern matcher now (units table (points_from start (chars (take (to - l.end) (drop l.end piece))))) [] =
-    subst (λ (v : Walk). HasWalkedOn table pattern matcher (record matcher { walk = v }) (units table (points_from start (chars (take (to - l.end) (drop l.end piece))))) []) (sym c.pass_to.ensures)
-    (subst (λ (t : List ℕ). HasWalkedOn table pattern matcher (record matcher { walk = passed_to matcher.walk (start + s.start) }) (units table (points_from start (chars t))) []) part'
-    (e.walked matcher (sym c.after_variable.ensures ∙ c.if-after_variable.false) (omega (arith, c.if-matcher-ne0.false)))) in
-    let further = come-further laws table pattern piece c.args.front.offset c.args.front.reach c.args.from.next l.end to next s.next c.args.matcher.now matcher now (i.come.0 ++ walked.0) [] so_far skipped goes in
-    let last = one_part piece to (to + c.len_utf8.result) s.next (omega (arith, c.len_utf8.ensures.value)) skipped.spelled in
+    let behind = c.pass_by-behind.result in
+    let e = c.pass_by-behind.ensures in
+    let ranges = i.come.0 ++ walked.0 in
+    let now = e.come c.args.from.next c.args.matcher.now ranges (come g (goal.at.characters-preserved g c).After-walk_letter) in
+    let last = one_part c.args.front.piece.now behind.len (behind.len + c.len_utf8.result) behind.next (omega (arith, c.len_utf8.ensures.value)) now.next in
     record {
       callable = c.walk_letter.ensures.callable;
       right = e.right;
-      keeps = keeps-on pattern _ _ _ (keeps-on pattern _ _ _ i.keeps c.walk_letter.ensures.keeps)
-          (record { state = omega (arith, ap (λ v. v.state) c.pass_to.ensures); select = ap (λ v. v.select) c.pass_to.ensures; room = ap (λ v. v.places.capacity) c.pass_to.ensures });
+      keeps = keeps-on pattern _ _ _ (keeps-on pattern _ _ _ i.keeps c.walk_letter.ensures.keeps) e.keeps;
       forth = omega arith;
-      ends = omega (arith, skipped.within, c.len_utf8.ensures.value);
+      ends = omega (arith, now.within, c.len_utf8.ensures.value);
       part = last.0;
       first = ([], last.1);
-      letter = subst (λ (cs : List ℕ). IsLetter table pattern cs s.letter) (sym last.1) e.passes.letter;
+      letter = subst (λ (cs : List ℕ). IsLetter table pattern cs behind.letter) (sym last.1) e.letter;
       come = (
-        (i.come.0 ++ walked.0) ++ [],
-        subst (λ (t : List (ℕ × ℕ)). FoldsTo (λ f range t'. goal.F-step g f range.0 range.1 tt t') c.args.sink.now t c.walk_letter.new.sink) (sym (append-nil (i.come.0 ++ walked.0)))
-            (folds-append (λ f range t. goal.F-step g f range.0 range.1 tt t) c.args.sink.now i.come.0 walked.0 l.sink c.walk_letter.new.sink i.come.1 walked.1),
-        further,
+        ranges,
+        folds-append (λ f range t. goal.F-step g f range.0 range.1 tt t) c.args.sink.now i.come.0 walked.0 c.characters.sink c.walk_letter.new.sink i.come.1 walked.1,
+        now,
       );
     }

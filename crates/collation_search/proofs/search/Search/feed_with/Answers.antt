@@ -6,7 +6,7 @@ use Rattle.std.proofs.lemmas.List.{take_more, take_all, take_rest, length-drop, 
 use Rattle.std.proofs.lemmas.Option.{none-some}
 use Rattle.collation_search.specs.Feeding.{Takes}
 use Rattle.collation_walk.proofs.Folds.{folds-append}
-use Rattle.collation_search.proofs.FeedLemmas.{takes-append, takes-stop, takes-byte, feeds-of, feeds-reported}
+use Rattle.collation_search.proofs.FeedLemmas.{takes-append, takes-stop, feeds-of, feeds-reported}
 use Rattle.collation_search.proofs.StateLemmas.{state_laws}
 use Rattle.collation_search.proofs.search.Search.feed_with.Goals as goal
 
@@ -20,11 +20,9 @@ returns-in-Err-clause-fed g c =
     let piece = c.args.piece.now in
     let b = get_or piece i 0 in
     let before = c.loop-at.invariant.taken in
-    let step = c.in-Err.ensures in
     let found = c.step_on.new.found.items in
     let reach = c.reach-reach.result in
-    let byte = takes-byte c.loop-at.self c.step_on.new.self b (Err c.in-Err.fault) found step.stands step.ended step.answer step.closed step.reported step.again step.none step.memory step.sought in
-    let both = takes-append c.args.self.now c.loop-at.self c.step_on.new.self reach 0 reach (take i piece) (b ∷ []) (Err c.in-Err.fault) before.0 found (λ some. omega arith) (λ some. absurd (omega (arith, some))) before.2 byte in
+    let both = takes-append c.args.self.now c.loop-at.self c.step_on.new.self reach 0 reach (take i piece) (b ∷ []) (Err c.in-Err.fault) before.0 found (λ some. omega arith) (λ some. absurd (omega (arith, some))) before.2 c.in-Err.ensures.takes in
     let all = takes-stop c.args.self.now c.step_on.new.self reach (take i piece ++ b ∷ []) (drop (suc i) piece) c.in-Err.fault (before.0 ++ found) both in
     let whole_piece : (take i piece ++ b ∷ []) ++ drop (suc i) piece ≡ piece = append_assoc (take i piece) (b ∷ []) (drop (suc i) piece) ∙ sym (split_at piece i 0 c.loop-at-test.true) in
     let piece_taken = subst (λ t. Takes c.args.self.now reach t (Err c.in-Err.fault) (before.0 ++ found) c.step_on.new.self) whole_piece all in
@@ -56,7 +54,6 @@ loop-at-preserved g c =
     let piece = c.args.piece.now in
     let b = get_or piece i 0 in
     let before = c.loop-at.invariant.taken in
-    let step = c.in-Ok.ensures in
     let found = c.step_on.new.found.items in
     let reach = c.reach-reach.result in
     let now = c.step_on.new.self in
@@ -66,9 +63,8 @@ loop-at-preserved g c =
     let last = c.take_letters-at-in-loop-at.new.self in
     let others = take_rest piece (i + 1) in
     let taken = subst (λ (t : List ℕ). Takes now later (take n t) (Ok tt) run.0 last) others run.2 in
-    let byte = takes-byte c.loop-at.self now b (Ok tt) found step.stands step.ended step.answer step.closed step.reported step.again step.none step.memory step.sought in
     let both = subst (λ t. Takes c.args.self.now reach t (Ok tt) (before.0 ++ found) now) (sym (take_more piece i 0 c.loop-at-test.true))
-    (takes-append c.args.self.now c.loop-at.self now reach 0 reach (take i piece) (b ∷ []) (Ok tt) before.0 found (λ some. omega arith) (λ some. absurd (omega (arith, some))) before.2 byte) in
+    (takes-append c.args.self.now c.loop-at.self now reach 0 reach (take i piece) (b ∷ []) (Ok tt) before.0 found (λ some. omega arith) (λ some. absurd (omega (arith, some))) before.2 c.in-Ok.ensures.takes) in
     let long = length-take-le (i + 1) piece (omega (arith, c.loop-at-test.true)) in
     let all = takes-append c.args.self.now now last reach later reach (take (i + 1) piece) (take n (drop (i + 1) piece)) (Ok tt) (before.0 ++ found) run.0 (λ some. omega arith)
     (λ some. omega (arith, some, long, c.saturating_sub.ensures)) both taken in

@@ -5,7 +5,7 @@ use Rattle.collation_matches.specs.Sought.{answer_to}
 use Rattle.collation_search.specs.Feeding.{Feeds}
 use Rattle.collation_search.specs.Search.{sought}
 use Rattle.collation_search.specs.StateAfter.{IsReported}
-use Rattle.collation_search.proofs.FeedLemmas.{takes-byte, feeds-steps}
+use Rattle.collation_search.proofs.FeedLemmas.{feeds-steps}
 use Rattle.collation_search.proofs.StateLemmas.{StateLaws}
 use Rattle.collation_search.proofs.search.Search.step.Given.{Over}
 use Rattle.collation_search.proofs.search.Search.step.Goals.{After-step_on}
@@ -19,9 +19,8 @@ fed g c =
       last = c.laws_of_reordering.ensures.last;
       others = c.laws_of_reordering.ensures.others;
     } in
-    let e = c.step_on.ensures in
     feeds-steps laws c.laws_of_decompositions.ensures.short c.decided_units_stay.ensures.early c.args.self.now c.step_on.new.self (c.args.byte ∷ []) c.step_on.result c.step_on.new.found.items
-    (takes-byte c.args.self.now c.step_on.new.self c.args.byte c.step_on.result c.step_on.new.found.items e.stands e.ended e.answer e.closed e.reported e.again e.none e.memory e.sought)
+    c.step_on.ensures.takes
 
 pub returns-clause-stands : goal.returns-clause-stands
 returns-clause-stands g c = (fed g c).stands
@@ -45,3 +44,18 @@ returns-clause-answer g c = λ text u more handed compiled h.
 pub returns-clause-closed : goal.returns-clause-closed
 returns-clause-closed g c = λ u more handed h.
     let Q : List ℕ → Type 0 = λ t. OnErr c.step_on.result (is_good_so_far t ≡ false) in subst Q (append_assoc u (c.args.byte ∷ []) more) ((fed g c).closed u more handed h)
+
+pub returns-clause-reported : goal.returns-clause-reported
+returns-clause-reported g c = c.step_on.ensures.takes.reported
+
+pub returns-clause-again : goal.returns-clause-again
+returns-clause-again g c = c.step_on.ensures.takes.again
+
+pub returns-clause-none : goal.returns-clause-none
+returns-clause-none g c = c.step_on.ensures.takes.none
+
+pub returns-clause-memory : goal.returns-clause-memory
+returns-clause-memory g c = c.step_on.ensures.takes.memory
+
+pub returns-clause-sought : goal.returns-clause-sought
+returns-clause-sought g c = c.step_on.ensures.takes.same_sought
