@@ -2,33 +2,12 @@
 //! strength (UTS #10) and reports the byte ranges of the matches.
 //!
 //! The text is that of a file or of standard input, and the ranges are written to standard output. The
-//! weights come from a table file, and from a second one that tailors it, where one is named. `run` is
-//! the search over any reader and writer, `program` is the whole program but for the standard
-//! streams, and `settings` reads the words of the command line.
-//!
-//! It stands on `collation_search`, which searches a text that comes in pieces, on `collation_pattern` and
-//! `collation_table`, which make the pattern and the table, and on the settings of
-//! `collation_elements`; on `clap` for the words, on `itoa` and `arrayvec` for the lines.
+//! weights come from a table file, and from a second one that tailors it, where one is named. Here are its standard streams; all else
+//! is `colfind_run`.
 #![tactic(auto)]
 
-mod devices;
-mod faults;
-mod files;
-mod lines;
-mod memory;
-mod output;
-mod process;
-mod program;
-mod reading;
-mod run;
-mod settings;
-mod streams;
-mod texts;
-mod words;
-mod writing;
-
-use crate::process::{Status, ended};
-use crate::streams::{FromRead, ToWrite};
+use colfind_io::{FromRead, ToWrite};
+use colfind_run::process::{Status, ended};
 
 fn main(rt: HostRuntime) -> Status {
     let mut input = FromRead::new(rt.stdin());
@@ -36,6 +15,3 @@ fn main(rt: HostRuntime) -> Status {
     let mut err = ToWrite::new(rt.stderr());
     ended(&rt, &mut input, &mut out, &mut err)
 }
-
-#[cfg(test)]
-mod tests;
