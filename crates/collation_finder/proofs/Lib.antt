@@ -1,7 +1,9 @@
 pub mod MatchingLemmas
 pub mod CharacterLemmas
 pub mod ApartLemmas
+pub mod AsciiLemmas
 pub mod PauseLemmas
+pub mod PointLetters
 pub mod EarlyLemmas
 pub mod SkipSteps
 pub mod LoopSteps

@@ -1,8 +1,9 @@
 -- A search that takes characters at once: all units so far were cut, as if the text ended there, and no unit reaches into or out of
 -- the next character.
-use Rattle.std.specs.Prelude.{◌≡◌, ℕ, ◌+◌, true, None, List, [], ◌∷◌, ◌++◌}
+use Rattle.std.specs.Prelude.{◌≡◌, ℕ, ◌+◌, true, None, List, [], ◌∷◌, ◌++◌, All}
+use Rattle.nfd_points.specs.declared.points.Point.{Point}
 use Rattle.collation_table.specs.Table.{TableMap}
-use Rattle.nfd_points.specs.Points.{byte_len, points_of, points_from, points, begins_with_starter, ordered}
+use Rattle.nfd_points.specs.Points.{byte_len, decomposition, points_of, points_from, points, begins_with_starter, ordered}
 use Rattle.nfd_points.specs.PointFaults.{point_fault}
 use Rattle.nfd_points.specs.Reordering.{Waiting}
 use Rattle.collation_elements.specs.Units.{units}
@@ -20,6 +21,14 @@ pub record AreApart (table : TableMap) (start : ℕ) (cs : List ℕ) (next : ℕ
   pub in_order : ordered (points_from start cs) ≡ points_from start cs
   pub good : point_fault cs ≡ None
   pub ends : EndsBefore table (points_from start cs) (start + byte_len cs) next
+
+-- a point's code point is its own decomposition
+abbrev pub IsDecomposed : Point → Type 0
+IsDecomposed p = decomposition p.cp ≡ p.cp ∷ []
+
+-- and so are all of these, as those of a text are
+abbrev pub AreDecomposed : List Point → Type 0
+AreDecomposed = All IsDecomposed
 
 -- ---- a pause
 

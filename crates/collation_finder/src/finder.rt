@@ -32,7 +32,8 @@ pub struct Finder {
     pub pattern_len: usize,
     /// What the reorderer gave last, and the items of the last unit. Their room is used again and again.
     pub given: ArrayVec<Point, MOST_GIVEN>,
-    pub items: ArrayVec<Item, MOST_ITEMS>,
+    /// It stands on the heap, so that a search that is moved, as one that is put away, does not carry it.
+    pub items: Box<ArrayVec<Item, MOST_ITEMS>>,
     ghost capacity: { window.capacity ≡ longest_key + MOST_GIVEN },
     ghost short: { longest_key ≤ MOST_STRING_POINTS },
     ghost undecided: { length window.points ≤ longest_key },
@@ -87,7 +88,7 @@ impl Finder {
             longest_key,
             pattern_len: pattern.len(),
             given: ArrayVec::new(),
-            items: ArrayVec::new(),
+            items: Box::new(alloc, ArrayVec::new())?,
         })
     }
 
@@ -180,7 +181,7 @@ impl Finder {
             pattern,
             &mut self.window,
             &mut self.matcher,
-            &mut self.items,
+            &mut *self.items,
             found,
         );
         Ok(())
@@ -217,7 +218,7 @@ impl Finder {
             pattern,
             &mut self.window,
             &mut self.matcher,
-            &mut self.items,
+            &mut *self.items,
             found,
         );
     }

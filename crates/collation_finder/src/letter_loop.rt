@@ -33,7 +33,7 @@ pub struct Front<'a> {
     pub piece: &'a [u8],
     /// Where it stands, in bytes from the beginning of the text.
     pub offset: u64,
-    /// The place of the last character that may be taken, in bytes from its own beginning.
+    /// The place of the last character that may be taken by letters, in bytes from its own beginning.
     pub reach: usize,
 }
 

@@ -1,6 +1,7 @@
 //! Goes over the letters at the front of a piece, as long as no unit reaches into or out of one of them: its units, keys and the
 //! start of its cluster are then its own, whatever stands around it. What the window holds is cut before, as if the text ended
-//! there, and none of the characters comes into the window but the last one, with which the steps go on.
+//! there, and none of the characters comes into the window but the last one, and the ASCII behind it at
+//! the end of a piece. With these the steps go on.
 ghost use Rattle.std.specs.Prelude.{◌≡◌, ℕ, ◌+◌, ◌≤◌, List, [], ◌∷◌, length, take, drop, true, false, IfSome};
 ghost use Rattle.std.specs.Char.{len_utf8};
 ghost use Rattle.std.specs.Str.{chars, IsUtf8};
@@ -16,6 +17,7 @@ use collation_elements::units_stay_apart;
 use collation_letters::{Letter, Letters, is_next, laws_of_characters};
 use collation_table::Weights;
 use collation_walk::{Found, Query, hand_out};
+use nfd_points::laws::laws_of_points;
 use utf8_cut::first_character;
 
 /// The character `c` at the front of a piece, which has this letter, with the marks behind it: their letter, and the character that
@@ -111,12 +113,38 @@ fn can_begin<W: Weights>(
     if !letter.is_apart || first.len_utf8() > reach {
         return false;
     }
+    if letter.is_closed && ascii_follows(query, letters, &piece[first.len_utf8()..], &letter) {
+        return true;
+    }
     let Some(second) = next_apart(query, letters, piece, first, letter) else {
         return false;
     };
     let piece = &piece[second.len..];
     next_apart(query, letters, piece, second.next, second.letter).is_some()
         || joins_next(query, letters, piece, second.next, second.letter)
+}
+
+/// Whether two characters of ASCII stand at the front of a piece, and it is known that no unit reaches
+/// from one of this letter before them to the first, nor from the first to the second. So it is in most
+/// texts, and that is soon seen.
+fn ascii_follows<W: Weights>(
+    query: &Query<'_, W>,
+    letters: &mut Letters,
+    piece: &[u8],
+    letter: &Letter,
+) -> bool
+    requires right { AreLetters (W.table query.now.table.now) query.now.pattern.now letters.old }
+    ensures right { AreLetters (W.table query.now.table.now) query.now.pattern.now letters.new }
+{
+    let [second, third, ..] = piece else {
+        return false;
+    };
+    if !second.is_ascii() || !third.is_ascii() {
+        return false;
+    }
+    let second = letters.letter(query.table, query.pattern, char::from(*second));
+    let third = letters.letter(query.table, query.pattern, char::from(*third));
+    is_next(letter, &second) && is_next(&second, &third)
 }
 
 /// Whether a character at the front of a piece, out of which a unit may reach, is one letter with the one that follows it.
@@ -154,14 +182,62 @@ impl Finder {
     ghost use Rattle.nfd_points.specs.Points.{byte_len};
     ghost use Rattle.collation_finder.specs.Caches.{AreRight};
     ghost use Rattle.collation_matches.specs.GoodPrefix.{most_bytes};
-    ghost use Rattle.collation_finder.specs.Apart.{IsPaused};
     ghost use Rattle.collation_finder.specs.Early.{IsCutUpTo};
     ghost use Rattle.collation_finder.specs.Finding.{FinderStandsFor, IsMadeFor, KeepsSetup};
 
     /// Takes characters at the front of a piece, which stands at a byte offset, and calls the sink once for each range that became
     /// known, in order. It answers how many bytes it took: those up to the first character that it can't take so, or that begins
-    /// after `reach`; none where that is the first one. `found` is room that it uses.
+    /// after `reach`; none where that is the first one. Behind a character that ends after `reach` it also takes characters of ASCII, as
+    /// many as there is room for. `found` is room that it uses.
     pub fn take_letters<W: Weights, F: FnMut(u64, u64)>(
+        &mut self,
+        query: &Query<'_, W>,
+        cache: &mut Cache,
+        front: Front<'_>,
+        found: &mut Found,
+        sink: &mut F,
+    ) -> usize
+        requires open { self.old.window.has_ended ≡ false }
+        requires made { IsMadeFor (W.table query.now.table.now) query.now.pattern.now self.old }
+        requires right { AreRight (W.table query.now.table.now) query.now.pattern.now cache.old }
+        requires fits { front.offset + length front.piece.now ≤ most_bytes }
+        requires callable { F.IsAlwaysCallable sink.old }
+        ensures within { result ≤ length front.entry.piece.now }
+        ensures text { IsUtf8 (take result front.entry.piece.now) }
+        ensures taken { (ranges : List (ℕ × ℕ))
+            × FoldsTo (λ f range g. F.step f range.0 range.1 tt g) sink.old ranges sink.new
+            × ((taken : List ℕ) (handed : List (ℕ × ℕ))
+            → FinderStandsFor (W.table query.now.table.now) query.now.pattern.now
+            self.old taken handed
+            → front.entry.offset ≡ byte_len taken
+            → FinderStandsFor (W.table query.now.table.now) query.now.pattern.now self.new
+            (taken ++ chars (take result front.entry.piece.now)) (handed ++ ranges)) }
+        // units may be cut early, but only before a character that does not begin after `reach`
+        ensures left { (place : ℕ) (taken : List ℕ) (handed : List (ℕ × ℕ))
+            → FinderStandsFor (W.table query.now.table.now) query.now.pattern.now
+            self.old taken handed
+            → front.entry.offset ≡ byte_len taken → front.entry.offset + front.entry.reach ≤ place
+            → IsCutUpTo (W.table query.now.table.now) place taken self.old.window.points
+            → IsCutUpTo (W.table query.now.table.now) place (taken ++ chars
+            (take result front.entry.piece.now)) self.new.window.points }
+        ensures right { AreRight (W.table query.now.table.now) query.now.pattern.now cache.new }
+        ensures open { self.new.window.has_ended ≡ false }
+        ensures setup { KeepsSetup self.old self.new }
+        ensures callable { F.IsAlwaysCallable sink.new }
+    {
+        laws_of_points();
+        let len = self.take_to_reach(query, cache, front, found, sink);
+        if len <= front.reach {
+            return len;
+        }
+        let at = front.offset + len as u64;
+        let more = self.take_ascii(query, &front.piece[len..], at, found);
+        hand_out(found.as_slice(), sink);
+        len + more
+    }
+
+    /// The same without the ASCII behind `reach`.
+    fn take_to_reach<W: Weights, F: FnMut(u64, u64)>(
         &mut self,
         query: &Query<'_, W>,
         cache: &mut Cache,
@@ -213,8 +289,7 @@ impl Finder {
         ) {
             return 0;
         }
-        self.pause(query, found);
-        hand_out(found.as_slice(), sink);
+        self.pause(query, &mut cache.letters, found, sink);
         let from = Walked {
             len: 0,
             next: first,
@@ -227,24 +302,5 @@ impl Finder {
         let _ = self.take(query.table, query.pattern, walked.next, at, found);
         hand_out(found.as_slice(), sink);
         walked.len + walked.next.len_utf8()
-    }
-
-    /// Cuts all that it holds, as if the text ended here, and puts the ranges that became known into `found`, which is emptied before.
-    fn pause<W: Weights>(&mut self, query: &Query<'_, W>, found: &mut Found)
-        requires open { self.old.window.has_ended ≡ false }
-        requires made { IsMadeFor (W.table query.now.table.now) query.now.pattern.now self.old }
-        ensures paused { (taken : List ℕ) (ranges : List (ℕ × ℕ))
-            → FinderStandsFor (W.table query.now.table.now) query.now.pattern.now
-            self.old taken ranges
-            → IsPaused (W.table query.now.table.now) query.now.pattern.now
-            self.new.reorder self.new.window self.new.matcher
-            taken (ranges ++ found.new.items) }
-        ensures open { self.new.window.has_ended ≡ false }
-        ensures none_waits { self.new.reorder.held ≡ [] }
-        ensures setup { KeepsSetup self.old self.new }
-    {
-        found.clear();
-        self.end(query.table, query.pattern, found);
-        self.window.clear();
     }
 }

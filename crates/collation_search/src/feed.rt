@@ -23,7 +23,7 @@ use utf8_cut::{
 };
 
 /// How far letters of a piece are taken, in bytes: up to one from which on as many characters that begin with a starter stand in the
-/// piece as the longest mapped string has code points. These are left to the steps, so that a search holds at the end of the piece
+/// piece as the longest mapped string has code points. These come into the window, so that a search holds at the end of the piece
 /// what steps alone leave.
 fn reach<W: Weights>(query: &Query<'_, W>, letters: &mut Letters, piece: &[u8]) -> usize
     requires { AreLetters (W.table query.now.table.now) query.now.pattern.now letters.old }
@@ -59,8 +59,9 @@ fn starter_comes_first<W: Weights>(
         × SpellsCharacter (take (len_utf8 c) bytes.now) c
         × (begins_with_starter (points_of 0 c) ≡ true) }
 {
+    laws_of_decompositions();
     match first_character(bytes) {
-        Some(c) => letters.letter(query.table, query.pattern, c).is_starter(),
+        Some(c) => c.is_ascii() || letters.letter(query.table, query.pattern, c).is_starter(),
         None => false,
     }
 }
@@ -150,8 +151,8 @@ impl<'a, W: Weights> Search<'a, W> {
         reach(&self.query, &mut self.cache.letters, piece)
     }
 
-    /// Takes the letters at the front of a piece that can be taken, up to `reach`, and calls the sink once for each range that became
-    /// known, in order. It answers how many bytes it took. `found` is room that it uses.
+    /// Takes the letters at the front of a piece that can be taken, up to `reach`, and ASCII behind it, and calls the sink once for each
+    /// range that became known, in order. It answers how many bytes it took. `found` is room that it uses.
     fn take_letters<F: FnMut(u64, u64)>(
         &mut self,
         piece: &[u8],

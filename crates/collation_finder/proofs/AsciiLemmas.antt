@@ -1,0 +1,88 @@
+-- Characters of ASCII behind the letters of a piece: each is one byte and one point, and a reorderer in which none waits gives it.
+use Rattle.std.specs.Char.{len_utf8}
+use Rattle.std.specs.Str.{IsAscii}
+use Rattle.std.specs.List.{All}
+use Rattle.std.proofs.Common.{◌≡◌, ◌∙◌, ℕ, zero, suc, ◌+◌, ◌<◌, List, [], ◌∷◌, ◌++◌, length, take, get_or, false, true, not, ◌==◌, refl, sym, ap, subst, arith, append_assoc}
+use Rattle.std.proofs.lemmas.List.{append-nil, length-take-le}
+use Rattle.std.proofs.lemmas.Str.{len_utf8_ascii, IsAscii-append}
+use Rattle.std.proofs.Math.Seq.{take-suc}
+use Rattle.unicode_normalization.specs.Order.{is_nonstarter}
+use Rattle.unicode_normalization.specs.StreamSafe.{has_short_runs}
+use Rattle.nfd_points.specs.declared.points.Point.{Point}
+use Rattle.nfd_points.specs.Points.{ascii_point, byte_len, points_from}
+use Rattle.nfd_points.specs.Reordering.{Waiting, HasReordered, IsSoundPoint, code_points, is_closed}
+use Rattle.nfd_points.specs.Laws.{AsciiIsItself, AsciiIsSound, AsciiIsGiven, BytesOfParts, PointsOfParts}
+use Rattle.nfd_points.proofs.RunLemmas.{short-starter}
+use Rattle.collation_finder.proofs.ApartLemmas.{from_first, from_none, from_one}
+
+pub ascii-len : (bs : List ℕ) → IsAscii bs → byte_len bs ≡ length bs
+unfolding byte_len
+ascii-len [] ascii = refl
+ascii-len (b ∷ bs) ascii = let one = len_utf8_ascii b (ascii 0) in let rest = ascii-len bs (λ i. ascii (suc i)) in omega (arith, one, rest)
+
+ascii-one : (b : ℕ) → b < 128 → IsAscii (b ∷ [])
+ascii-one b less zero = less
+ascii-one b less (suc i) = omega arith
+
+-- one byte more
+pub ascii-more : (piece : List ℕ) (n : ℕ) → n < length piece → IsAscii (take n piece) → get_or piece n 0 < 128 → IsAscii (take (n + 1) piece)
+ascii-more piece n less ascii last =
+    let there : n + 1 ≡ suc n = omega arith in
+    let b = get_or piece n 0 in
+    subst IsAscii (sym (ap (λ k. take k piece) there ∙ take-suc piece n 0 less)) (IsAscii-append (take n piece) (b ∷ []) ascii (ascii-one b last))
+
+one-len : (b : ℕ) → byte_len (b ∷ []) ≡ len_utf8 b
+unfolding byte_len
+one-len b = omega arith
+
+-- the points of one byte more
+pub points-more : AsciiIsItself → PointsOfParts → (start : ℕ) (piece : List ℕ) (n : ℕ) → n < length piece → IsAscii (take n piece) → get_or piece n 0 < 128 →
+    points_from start (take (n + 1) piece) ≡ points_from start (take n piece) ++ ascii_point (start + n) (get_or piece n 0) ∷ []
+points-more itself parts start piece n less ascii last =
+    let b = get_or piece n 0 in
+    let before = take n piece in
+    let count = length-take-le n piece (omega (arith, less)) in
+    let bytes = ascii-len before ascii in
+    let len : byte_len before ≡ n = omega (arith, bytes, count) in
+    let there : n + 1 ≡ suc n = omega arith in
+    ap (λ k. points_from start (take k piece)) there ∙ ap (points_from start) (take-suc piece n 0 less) ∙ parts start before (b ∷ [])
+    ∙ ap (λ (t : List Point). points_from start before ++ t) (ap (λ k. points_from (start + k) (b ∷ [])) len ∙ from_one (start + n) b ∙ itself (start + n) b last)
+
+-- one starter makes no run
+pub short-one : AsciiIsSound → (start b : ℕ) → b < 128 → has_short_runs 0 (code_points (ascii_point start b ∷ [])) ≡ true
+unfolding has_short_runs
+short-one sound start b less =
+    let starter : is_nonstarter b ≡ false = ap (λ (n : ℕ). not (n == 0)) (sym (sound start b less).class) in short-starter 0 b [] starter
+
+-- all of them are given, and none waits then
+pub given-ascii : AsciiIsGiven → AsciiIsItself → BytesOfParts → (w : Waiting) (bs taken : List ℕ) (given : List Point) → w.held ≡ [] → IsAscii bs → HasReordered w taken given →
+    HasReordered w (taken ++ bs) (given ++ points_from (byte_len taken) bs)
+given-ascii law itself bytes w [] taken given none ascii h =
+    subst (λ (cs : List ℕ). HasReordered w cs (given ++ points_from (byte_len taken) [])) (sym (append-nil taken))
+    (subst (λ (ps : List Point). HasReordered w taken ps) (sym (ap (λ (ps : List Point). given ++ ps) (from_none (byte_len taken)) ∙ append-nil given)) h)
+given-ascii law itself bytes w (b ∷ bs) taken given none ascii h =
+    let at = byte_len taken in
+    let one : List Point = ascii_point at b ∷ [] in
+    let rest = given-ascii law itself bytes w bs (taken ++ b ∷ []) (given ++ one) none (λ i. ascii (suc i)) (law w taken given b h none (ascii 0)) in
+    let behind : byte_len (taken ++ b ∷ []) ≡ at + len_utf8 b = bytes taken (b ∷ []) ∙ ap (λ k. at + k) (one-len b) in
+    let all : (given ++ one) ++ points_from (byte_len (taken ++ b ∷ [])) bs ≡ given ++ points_from at (b ∷ bs) =
+    append_assoc given one (points_from (byte_len (taken ++ b ∷ [])) bs)
+    ∙ ap (λ (ps : List Point). given ++ ps) (ap (λ k. one ++ points_from k bs) behind ∙ sym (from_first at b bs ∙ ap (λ (ps : List Point). ps ++ points_from (at + len_utf8 b) bs) (itself at b (ascii 0)))) in
+    subst (λ (cs : List ℕ). HasReordered w cs (given ++ points_from at (b ∷ bs))) (append_assoc taken (b ∷ []) bs)
+    (subst (λ (ps : List Point). HasReordered w ((taken ++ b ∷ []) ++ bs) ps) all rest)
+
+pub closed-one : (start b : ℕ) → is_closed (ascii_point start b ∷ []) ≡ true
+unfolding is_closed
+closed-one start b = refl
+
+pub closed-none : is_closed [] ≡ true
+unfolding is_closed
+closed-none = refl
+
+pub short-none : has_short_runs 0 [] ≡ true
+unfolding has_short_runs
+short-none = refl
+
+pub sound-one : AsciiIsSound → (start b : ℕ) → b < 128 → All IsSoundPoint (ascii_point start b ∷ [])
+sound-one sound start b less zero d within = sound start b less
+sound-one sound start b less (suc k) d within = absurd (omega (arith, within))

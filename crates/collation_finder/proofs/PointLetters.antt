@@ -1,0 +1,86 @@
+-- Points that are plain letters by themselves, one after another: their units are their own.
+use Rattle.std.proofs.Common.{◌≡◌, ◌⊎◌, ◌∙◌, ℕ, ◌-◌, ◌<◌, true, false, List, [], ◌∷◌, ◌++◌, length, take, drop, inl, inr, refl, sym, ap, arith, append_assoc}
+use Rattle.std.proofs.lemmas.List.{take-append-drop, take_rest}
+use Rattle.std.specs.List.{Contains}
+use Rattle.std.proofs.lemmas.List.Elements.{All-same, All-drop}
+use Rattle.nfd_points.specs.declared.points.Point.{Point}
+use Rattle.nfd_points.specs.Points.{decomposition, points_at, points_from}
+use Rattle.nfd_points.specs.Laws.{PointsAreShifted}
+use Rattle.nfd_points.specs.Reordering.{IsSoundPoint, is_closed}
+use Rattle.collation_table.specs.Table.{TableMap}
+use Rattle.collation_elements.specs.Units.{units}
+use Rattle.collation_elements.specs.Windows.{Held}
+use Rattle.collation_elements.proofs.Cutting.{is_closed-append}
+use Rattle.collation_pattern.specs.Compiled.{Compiled}
+use Rattle.collation_letters.specs.declared.letter.Letter.{Letter}
+use Rattle.collation_letters.specs.declared.letter.Role.TheVariants.{Plain}
+use Rattle.collation_letters.specs.Letters.{IsLetter}
+use Rattle.collation_walk.specs.declared.matching.Matcher.{Matcher}
+use Rattle.collation_walk.specs.Walked.{HasWalkedOn}
+use Rattle.collation_finder.specs.Matching.{HasMatched}
+use Rattle.collation_finder.proofs.ApartLemmas.{from_one}
+use Rattle.collation_finder.proofs.CharacterLemmas.{points_are_shifted}
+
+-- no unit reaches out of these points
+abbrev pub AreClosedHere : TableMap → List Point → Type 0
+AreClosedHere table ps = (more : List Point) → units table (ps ++ more) ≡ units table ps ++ units table more
+
+-- the points of one character, where it stands
+pub alone_from : (p : Point) → p.ccc ≡ 0 → p.first ≡ true → IsSoundPoint p → decomposition p.cp ≡ p.cp ∷ [] → points_from p.offset (p.cp ∷ []) ≡ p ∷ []
+unfolding points_at
+alone_from p ccc first sound one =
+    from_one p.offset p.cp ∙ ap (points_at p.offset true) one ∙ ap (λ n. record { cp = p.cp; ccc = n; offset = p.offset; first = true } ∷ []) (sym sound.class)
+    ∙ ap (λ b. record { cp = p.cp; ccc = p.ccc; offset = p.offset; first = b } ∷ []) (sym first)
+
+pub closed-one_point : PointsAreShifted → (table : TableMap) (pattern : Compiled) (p : Point) (l : Letter) → points_from p.offset (p.cp ∷ []) ≡ p ∷ [] → l.role ≡ Plain →
+    IsLetter table pattern (p.cp ∷ []) l → AreClosedHere table (p ∷ [])
+closed-one_point shifted table pattern p l alone plain letter = λ more.
+    let here = sym (points_are_shifted shifted p.offset (p.cp ∷ [])) ∙ alone in
+    ap (λ (ps : List Point). units table (ps ++ more)) (sym here) ∙ letter.closed (letter.plain plain).0 p.offset more ∙ ap (λ (ps : List Point). units table ps ++ units table more) here
+
+-- further points
+pub closed-on : (table : TableMap) (ps : List Point) (p : Point) → AreClosedHere table ps → AreClosedHere table (p ∷ []) → AreClosedHere table (ps ++ p ∷ [])
+closed-on table ps p before one = λ more.
+    ap (units table) (append_assoc ps (p ∷ []) more) ∙ before (p ∷ more) ∙ ap (λ us. units table ps ++ us) (one more)
+    ∙ sym (append_assoc (units table ps) (units table (p ∷ [])) (units table more)) ∙ ap (λ us. us ++ units table more) (sym (before (p ∷ [])))
+
+-- ---- a window without them
+
+some_or_none : {X : Type 0} (xs : List X) → (xs ≡ []) ⊎ (0 < length xs)
+some_or_none [] = inl refl
+some_or_none (x ∷ xs) = inr (omega arith)
+
+none_closed : is_closed [] ≡ true
+unfolding is_closed
+none_closed = refl
+
+pub closed-drop : (n : ℕ) (ps : List Point) → is_closed ps ≡ true → is_closed (drop n ps) ≡ true
+closed-drop n ps h = elim (some_or_none (drop n ps)) [
+  | inl none ↦ ap is_closed none ∙ none_closed
+  | inr some ↦ sym (is_closed-append (take n ps) (drop n ps) some) ∙ ap is_closed (take-append-drop n ps) ∙ h
+]
+
+pub matched-cut : (table : TableMap) (pattern : Compiled) (old new : Held) (m m' : Matcher) (n : ℕ) (points : List Point) (ranges found : List (ℕ × ℕ)) → old.has_ended ≡ false →
+    new.points ≡ drop n old.points → AreClosedHere table (take n old.points) → HasWalkedOn table pattern m m' (units table (take n old.points)) found →
+    HasMatched table pattern old m points ranges → HasMatched table pattern new m' points (ranges ++ found)
+matched-cut table pattern old new m m' n points ranges found is_open left closed walked h =
+    let first = take n old.points in
+    record {
+      units = h.units ++ units table first;
+      cut = record {
+        continues = λ more ended.
+            h.cut.continues more (λ e. cc)
+            ∙ ap (λ (ps : List Point). h.units ++ units table (ps ++ more)) (sym (take-append-drop n old.points))
+            ∙ ap (λ (ps : List Point). h.units ++ units table ps) (append_assoc first (drop n old.points) more)
+            ∙ ap (λ us. h.units ++ us) (closed (drop n old.points ++ more))
+            ∙ sym (append_assoc h.units (units table first) (units table (drop n old.points ++ more)))
+            ∙ ap (λ (ps : List Point). (h.units ++ units table first) ++ units table (ps ++ more)) (sym left);
+      };
+      went = walked h.units ranges h.went;
+      kept = All-same (Contains points) _ _ left (All-drop (Contains points) n old.points h.kept);
+    }
+
+-- the points that are left, put back into the emptied window
+pub left-of : (held copied before now : List Point) (n : ℕ) → copied ≡ held → before ≡ [] → now ≡ before ++ take (length copied - n) (drop n copied) → now ≡ drop n held
+left-of held copied before now n same none is =
+    is ∙ ap (λ (ps : List Point). ps ++ take (length copied - n) (drop n copied)) none ∙ take_rest copied n ∙ ap (λ (ps : List Point). drop n ps) same

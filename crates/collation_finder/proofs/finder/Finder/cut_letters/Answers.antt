@@ -1,0 +1,90 @@
+use Rattle.std.proofs.Common.{◌≡◌, ◌∙◌, ℕ, List, [], ◌++◌, length, drop, refl, sym, ap, subst, arith}
+use Rattle.std.proofs.lemmas.List.{append-nil, length-drop}
+use Rattle.std.proofs.lemmas.List.Elements.{All-same, All-drop, All-weaker, All-contains, Contains-append_left}
+use Rattle.unicode_normalization.specs.StreamSafe.{has_short_runs}
+use Rattle.nfd_points.specs.declared.points.Point.{Point}
+use Rattle.std.specs.List.{Contains}
+use Rattle.nfd_points.specs.Reordering.{IsSoundPoint, code_points, is_closed}
+use Rattle.collation_elements.proofs.LeftPoints.{short-drop}
+use Rattle.nfd_points.specs.Laws.{PointsAreDecomposed, WaitingAreOthers}
+use Rattle.collation_table.specs.Table.{TableMap}
+use Rattle.collation_pattern.specs.Compiled.{Compiled}
+use Rattle.collation_finder.specs.declared.finder.Finder.{Finder}
+use Rattle.collation_finder.specs.Apart.{IsDecomposed, AreDecomposed}
+use Rattle.collation_finder.specs.Finding.{FinderStandsFor}
+use Rattle.collation_finder.specs.Matching.{HasMatched}
+use Rattle.collation_finder.proofs.PointLetters.{closed-drop, left-of, matched-cut}
+use Rattle.collation_finder.proofs.finder.Finder.cut_letters.Goals as goal
+
+pub returns-then-len-gt-MOST_GIVEN-clause-cut : goal.returns-then-len-gt-MOST_GIVEN-clause-cut
+returns-then-len-gt-MOST_GIVEN-clause-cut g c = (
+  [],
+  refl,
+  λ taken handed h. record {
+    points = h.points;
+    reordered = h.reordered;
+    matched = subst (λ (t : List (ℕ × ℕ)). HasMatched (g.W.Weights.table c.args.query.now.table.now) c.args.query.now.pattern.now c.args.self.now.window c.args.self.now.matcher h.points t)
+        (sym (append-nil handed)) h.matched;
+  },
+)
+
+pub invariant_of-self-2 : goal.invariant_of-self-2
+invariant_of-self-2 g c =
+    let old = c.args.self.now in
+    let n = c.walk_points-len.result in
+    let is = left-of old.window.points c.as_slice.result.now c.move_points.new.window.points c.push_points.new.window.points n (c.as_slice.ensures.value ∙ c.move_points.ensures.points) (ap (λ w. w.points) c.move_points.ensures.emptied)
+    (ap (λ w. w.points) c.push_points.ensures.points) in
+    record {
+      capacity = ap (λ w. w.capacity) c.push_points.ensures.points ∙ ap (λ w. w.capacity) c.move_points.ensures.emptied ∙ old.capacity;
+      short = old.short;
+      undecided = let count = ap length is in let fewer = length-drop n old.window.points in let few = old.undecided in omega (arith, count, fewer, few);
+      closed = ap is_closed is ∙ closed-drop n old.window.points old.closed;
+      sound = All-same IsSoundPoint _ _ is (All-drop IsSoundPoint n old.window.points old.sound);
+      short_runs = ap (λ (ps : List Point). has_short_runs 0 (code_points ps)) is ∙ short-drop 0 n old.window.points old.short_runs;
+      state = let state = c.walk_points-len.ensures.keeps.state in omega (arith, state, c.requires.made.pattern_len);
+      room = c.walk_points-len.ensures.keeps.room ∙ old.room;
+    }
+
+-- each point of the window is its own decomposition, as those of a text are
+decomposed : (others : WaitingAreOthers) (each : PointsAreDecomposed) (table : TableMap) (pattern : Compiled) (old : Finder) (taken : List ℕ) (handed : List (ℕ × ℕ)) →
+    FinderStandsFor table pattern old taken handed → AreDecomposed old.window.points
+decomposed others each table pattern old taken handed h =
+    let all = subst AreDecomposed (others old.reorder taken h.points h.reordered) (each taken) in
+    All-weaker (Contains h.points) IsDecomposed (λ p there. All-contains IsDecomposed (h.points ++ old.reorder.held) p all (Contains-append_left h.points old.reorder.held p there)) old.window.points h.matched.kept
+
+pub returns-clause-cut : goal.returns-clause-cut
+returns-clause-cut g c =
+    let table = g.W.Weights.table c.args.query.now.table.now in
+    let pattern = c.args.query.now.pattern.now in
+    let old = c.args.self.now in
+    let n = c.walk_points-len.result in
+    let e = c.walk_points-len.ensures in
+    let is = left-of old.window.points c.as_slice.result.now c.move_points.new.window.points c.push_points.new.window.points n (c.as_slice.ensures.value ∙ c.move_points.ensures.points) (ap (λ w. w.points) c.move_points.ensures.emptied)
+    (ap (λ w. w.points) c.push_points.ensures.points) in (
+      e.walked.0,
+      e.walked.1,
+      λ taken handed h.
+          let d = decomposed c.laws_of_reordering.ensures.others c.laws_of_points.ensures.decomposed table pattern old taken handed h in record {
+            points = h.points;
+            reordered = h.reordered;
+            matched = matched-cut table pattern old.window c.push_points.new.window old.matcher c.walk_points-len.new.matcher n h.points handed e.walked.0 c.requires.open is (e.closed d) (e.walked.2 d) h.matched;
+          },
+    )
+
+pub returns-then-len-eq0-clause-cut : goal.returns-then-len-eq0-clause-cut
+returns-then-len-eq0-clause-cut g c =
+    let table = g.W.Weights.table c.args.query.now.table.now in
+    let pattern = c.args.query.now.pattern.now in
+    let old = c.args.self.now in
+    let n = c.walk_points-len.result in
+    let e = c.walk_points-len.ensures in
+    let is : old.window.points ≡ drop n old.window.points = ap (λ k. drop k old.window.points) (sym c.if-len-eq0.true) in (
+      e.walked.0,
+      e.walked.1,
+      λ taken handed h.
+          let d = decomposed c.laws_of_reordering.ensures.others c.laws_of_points.ensures.decomposed table pattern old taken handed h in record {
+            points = h.points;
+            reordered = h.reordered;
+            matched = matched-cut table pattern old.window old.window old.matcher c.walk_points-len.new.matcher n h.points handed e.walked.0 c.requires.open is (e.closed d) (e.walked.2 d) h.matched;
+          },
+    )
