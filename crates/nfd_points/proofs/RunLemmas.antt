@@ -1,10 +1,11 @@
 -- Runs of non-starters and faults of two parts of a text.
-use Rattle.std.proofs.Common.{◌≡◌, ℕ, ◌+◌, ◌≤◌, ◌⊎◌, Bool, true, false, ◌&&◌, nat_lt, List, [], ◌∷◌, ◌++◌, length, flat_map, Option, Some, None, refl, sym, ap, ap₂, ◌∙◌, arith, inl, inr, le-ltb, ltb-true, ltb-false}
-use Rattle.std.proofs.lemmas.Bool.{cond-true, cond-false, cases_Bool, and_parts}
+use Rattle.std.proofs.Common.{◌≡◌, ℕ, ◌+◌, ◌<◌, ◌≤◌, ◌⊎◌, Bool, true, false, ◌&&◌, nat_lt, List, [], ◌∷◌, ◌++◌, length, flat_map, Option, Some, None, refl, sym, ap, ap₂, ◌∙◌, arith, inl, inr, le-ltb, lt-ltb, ltb-true, ltb-false}
+use Rattle.std.proofs.lemmas.Bool.{cond-true, cond-false, cases_Bool, and_parts, and_left}
 use Rattle.std.proofs.Math.Bool.{and_assoc}
 use Rattle.std.specs.Char.{len_utf8}
 use Rattle.unicode_normalization.specs.Order.{is_nonstarter}
 use Rattle.unicode_normalization.specs.StreamSafe.{has_short_runs}
+use Rattle.nfd_points.specs.declared.limits.TheConstants.{MOST_WAITING}
 use Rattle.nfd_points.specs.Points.{decomposition, byte_len}
 use Rattle.nfd_points.specs.PointFaults.{run_after, fault_of_code_point, fault_from, part_fault}
 use Rattle.nfd_points.proofs.DecompositionLemmas.{length-decomposition}
@@ -34,13 +35,26 @@ run_after-append run (x ∷ xs) ys =
           run_after-starter run x (xs ++ ys) starter ∙ run_after-append 0 xs ys ∙ ap (λ n. run_after n ys) (sym (run_after-starter run x xs starter))
     ]
 
-pub short-mark : (run d : ℕ) (ds : List ℕ) → is_nonstarter d ≡ true → has_short_runs run (d ∷ ds) ≡ (nat_lt run 30 && has_short_runs (run + 1) ds)
+-- the limit that the definition of short runs has is that of the code
+pub short-mark : (run d : ℕ) (ds : List ℕ) → is_nonstarter d ≡ true → has_short_runs run (d ∷ ds) ≡ (nat_lt run MOST_WAITING && has_short_runs (run + 1) ds)
 unfolding has_short_runs
 short-mark run d ds h = cond-true _ _ _ h
 
 pub short-starter : (run d : ℕ) (ds : List ℕ) → is_nonstarter d ≡ false → has_short_runs run (d ∷ ds) ≡ has_short_runs 0 ds
 unfolding has_short_runs
 short-starter run d ds h = cond-false _ _ _ h
+
+-- a non-starter where there is room for one more, and where there is none
+pub short-longer : (run d : ℕ) (ds : List ℕ) → is_nonstarter d ≡ true → run < MOST_WAITING → has_short_runs run (d ∷ ds) ≡ has_short_runs (run + 1) ds
+short-longer run d ds h room = short-mark run d ds h ∙ ap (λ b. b && has_short_runs (run + 1) ds) (lt-ltb run MOST_WAITING room)
+
+pub short-too_long : (run d : ℕ) (ds : List ℕ) → is_nonstarter d ≡ true → MOST_WAITING ≤ run → has_short_runs run (d ∷ ds) ≡ false
+short-too_long run d ds h full = short-mark run d ds h ∙ and_left _ _ (le-ltb run MOST_WAITING full)
+
+pub short-room : (run d : ℕ) (ds : List ℕ) → is_nonstarter d ≡ true → has_short_runs run (d ∷ ds) ≡ true → (run < MOST_WAITING) × (has_short_runs (run + 1) ds ≡ true)
+short-room run d ds mark h =
+    let parts = and_parts (nat_lt run MOST_WAITING) (has_short_runs (run + 1) ds) (sym (short-mark run d ds mark) ∙ h) in
+    (ltb-true run MOST_WAITING parts.0, parts.1)
 
 pub short-nil : (run : ℕ) → has_short_runs run [] ≡ true
 unfolding has_short_runs
@@ -51,21 +65,21 @@ short-append run [] ys = ap₂ (λ (a : Bool) n. a && has_short_runs n ys) (sym 
 short-append run (x ∷ xs) ys =
     elim (cases_Bool (is_nonstarter x)) [
       | inl mark ↦
-          short-mark run x (xs ++ ys) mark ∙ ap (λ b. nat_lt run 30 && b) (short-append (run + 1) xs ys)
-          ∙ sym (and_assoc (nat_lt run 30) (has_short_runs (run + 1) xs) _)
+          short-mark run x (xs ++ ys) mark ∙ ap (λ b. nat_lt run MOST_WAITING && b) (short-append (run + 1) xs ys)
+          ∙ sym (and_assoc (nat_lt run MOST_WAITING) (has_short_runs (run + 1) xs) _)
           ∙ ap₂ (λ a n. a && has_short_runs n ys) (sym (short-mark run x xs mark)) (sym (run_after-mark run x xs mark))
       | inr starter ↦
           short-starter run x (xs ++ ys) starter ∙ short-append 0 xs ys
           ∙ ap₂ (λ a n. a && has_short_runs n ys) (sym (short-starter run x xs starter)) (sym (run_after-starter run x xs starter))
     ]
 
-pub run_after-few : (run : ℕ) (ds : List ℕ) → run ≤ 30 → has_short_runs run ds ≡ true → run_after run ds ≤ 30
+pub run_after-few : (run : ℕ) (ds : List ℕ) → run ≤ MOST_WAITING → has_short_runs run ds ≡ true → run_after run ds ≤ MOST_WAITING
 run_after-few run [] le h = omega (arith, run_after-nil run)
 run_after-few run (d ∷ ds) le h =
     elim (cases_Bool (is_nonstarter d)) [
       | inl mark ↦
-          let parts = and_parts (nat_lt run 30) (has_short_runs (run + 1) ds) (sym (short-mark run d ds mark) ∙ h) in
-          omega (arith, ltb-true run 30 parts.0, run_after-mark run d ds mark, run_after-few (run + 1) ds (omega (arith, ltb-true run 30 parts.0)) parts.1)
+          let parts = short-room run d ds mark h in
+          omega (arith, run_after-mark run d ds mark, run_after-few (run + 1) ds (omega (arith, parts.0)) parts.1)
       | inr starter ↦
           omega (arith, run_after-starter run d ds starter, run_after-few 0 ds (omega arith) (sym (short-starter run d ds starter) ∙ h))
     ]

@@ -1,4 +1,4 @@
--- The points of a text without a fault have no more than 30 non-starters in a row, and a text whose decompositions have no
+-- The points of a text without a fault have no more than `MOST_WAITING` non-starters in a row, and a text whose decompositions have no
 -- longer run has no fault.
 use Rattle.std.proofs.Common.{◌≡◌, ℕ, ◌+◌, ◌<◌, true, false, ◌&&◌, nat_lt, List, [], ◌∷◌, ◌++◌, flat_map, All, Some, None, sym, ap, ◌∙◌, arith, inl, inr, ne_eqb, zero-add}
 use Rattle.std.proofs.lemmas.Bool.{cases_Bool, and_from, and_parts, not_from_false}
@@ -9,6 +9,7 @@ use Rattle.std.specs.Char.{len_utf8}
 use Rattle.unicode_normalization.specs.Lookups.{canonical_combining_class}
 use Rattle.unicode_normalization.specs.Order.{is_nonstarter}
 use Rattle.unicode_normalization.specs.StreamSafe.{has_short_runs}
+use Rattle.nfd_points.specs.declared.limits.TheConstants.{MOST_WAITING}
 use Rattle.nfd_points.specs.declared.points.Point.{Point}
 use Rattle.nfd_points.specs.Points.{decomposition, byte_len, points_from, points, is_reorderable, sink, ordered}
 use Rattle.nfd_points.specs.PointFaults.{run_after, fault_from, point_fault}
@@ -22,7 +23,7 @@ use Rattle.nfd_points.proofs.RunLemmas.{short-mark, short-starter, short-nil, sh
 same_after : (run c : ℕ) (xs ys : List ℕ) → ((n : ℕ) → has_short_runs n xs ≡ has_short_runs n ys) → has_short_runs run (c ∷ xs) ≡ has_short_runs run (c ∷ ys)
 same_after run c xs ys same =
     elim (cases_Bool (is_nonstarter c)) [
-      | inl mark ↦ short-mark run c xs mark ∙ ap (λ b. nat_lt run 30 && b) (same (run + 1)) ∙ sym (short-mark run c ys mark)
+      | inl mark ↦ short-mark run c xs mark ∙ ap (λ b. nat_lt run MOST_WAITING && b) (same (run + 1)) ∙ sym (short-mark run c ys mark)
       | inr starter ↦ short-starter run c xs starter ∙ same 0 ∙ sym (short-starter run c ys starter)
     ]
 
@@ -40,7 +41,7 @@ short-sink run p (q ∷ qs) of_p rest =
           let mark_q = mark_of q (All-head HasClass q qs rest) classes.0 in
           let mark_p = mark_of p of_p (omega arith) in
           ap (λ l. has_short_runs run (code_points l)) (sink-past p q qs past) ∙ short-mark run q.cp (code_points (sink p qs)) mark_q
-          ∙ ap (λ b. nat_lt run 30 && b)
+          ∙ ap (λ b. nat_lt run MOST_WAITING && b)
           (short-sink (run + 1) p qs of_p (All-tail HasClass q qs rest) ∙ short-mark (run + 1) p.cp (code_points qs) mark_p
           ∙ sym (short-mark (run + 1) q.cp (code_points qs) mark_q))
           ∙ sym (short-mark run p.cp (code_points (q ∷ qs)) mark_p)
