@@ -1,7 +1,7 @@
 -- The points that a unit leaves: each was there before, and no run of non-starters among them is longer. A unit takes the first
 -- points and, of those that follow, non-starters only.
-use Rattle.std.proofs.Common.{◌≡◌, ℕ, zero, suc, ◌+◌, ◌≤◌, nat_lt, ◌==◌, not, Bool, true, false, cond, ◌&&◌, List, [], ◌∷◌, ◌++◌, take, drop, refl, sym, ◌∙◌, ap, inl, inr, arith, append_assoc, ltb-true, lt-ltb}
-use Rattle.std.proofs.lemmas.Bool.{and_parts, and_from, cases_Bool, cond-true, cond-false}
+use Rattle.std.proofs.Common.{◌≡◌, ℕ, zero, suc, ◌+◌, ◌≤◌, ◌==◌, not, Bool, true, false, cond, List, [], ◌∷◌, ◌++◌, take, drop, refl, sym, ◌∙◌, ap, inl, inr, arith, append_assoc}
+use Rattle.std.proofs.lemmas.Bool.{cases_Bool}
 use Rattle.std.proofs.lemmas.List.{append-nil, map-append}
 use Rattle.std.proofs.lemmas.List.Elements.{All-nil, All-head, All-tail, All-append, All-push, All-drop}
 use Rattle.std.specs.List.{All}
@@ -10,6 +10,7 @@ use Rattle.unicode_normalization.specs.StreamSafe.{has_short_runs}
 use Rattle.nfd_points.specs.declared.points.Point.{Point}
 use Rattle.nfd_points.specs.Points.{is_starter}
 use Rattle.nfd_points.specs.Reordering.{IsSoundPoint}
+use Rattle.nfd_points.proofs.RunLemmas.{short-longer, short-room, short-starter, short-nil}
 use Rattle.collation_table.specs.Table.{TableMap}
 use Rattle.collation_elements.specs.Units.{code_points, Cut, joins, extended, prefix_length}
 use Rattle.collation_elements.specs.Windows.{next_cut}
@@ -40,39 +41,26 @@ all-next_cut P T (p ∷ ps) h =
 
 -- ---- runs of non-starters
 
-short-nil : (run : ℕ) → has_short_runs run [] ≡ true
-unfolding has_short_runs
-short-nil run = refl
-
-short-mark : (run d : ℕ) (ds : List ℕ) → is_nonstarter d ≡ true → has_short_runs run (d ∷ ds) ≡ (nat_lt run 30 && has_short_runs (run + 1) ds)
-unfolding has_short_runs
-short-mark run d ds h = cond-true _ _ _ h
-
-short-starter : (run d : ℕ) (ds : List ℕ) → is_nonstarter d ≡ false → has_short_runs run (d ∷ ds) ≡ has_short_runs 0 ds
-unfolding has_short_runs
-short-starter run d ds h = cond-false _ _ _ h
-
 -- fewer non-starters before
 short-fewer : (few run : ℕ) (ds : List ℕ) → few ≤ run → has_short_runs run ds ≡ true → has_short_runs few ds ≡ true
 short-fewer few run [] le h = short-nil few
 short-fewer few run (d ∷ ds) le h =
     elim (cases_Bool (is_nonstarter d)) [
       | inl mark ↦
-          let parts = and_parts (nat_lt run 30) (has_short_runs (run + 1) ds) (sym (short-mark run d ds mark) ∙ h) in
-          let below = ltb-true run 30 parts.0 in
-          short-mark few d ds mark ∙ and_from _ _ (lt-ltb few 30 (omega arith)) (short-fewer (few + 1) (run + 1) ds (omega arith) parts.1)
+          let parts = short-room run d ds mark h in
+          short-longer few d ds mark (omega (arith, le, parts.0)) ∙ short-fewer (few + 1) (run + 1) ds (omega arith) parts.1
       | inr starter ↦ short-starter few d ds starter ∙ sym (short-starter run d ds starter) ∙ h
     ]
 
 -- one non-starter less
 short-without : (run : ℕ) (xs : List ℕ) (d : ℕ) (ys : List ℕ) → is_nonstarter d ≡ true → has_short_runs run (xs ++ d ∷ ys) ≡ true → has_short_runs run (xs ++ ys) ≡ true
 short-without run [] d ys mark h =
-    short-fewer run (run + 1) ys (omega arith) (and_parts (nat_lt run 30) (has_short_runs (run + 1) ys) (sym (short-mark run d ys mark) ∙ h)).1
+    short-fewer run (run + 1) ys (omega arith) (short-room run d ys mark h).1
 short-without run (x ∷ xs) d ys mark h =
     elim (cases_Bool (is_nonstarter x)) [
       | inl mark_x ↦
-          let parts = and_parts (nat_lt run 30) (has_short_runs (run + 1) (xs ++ d ∷ ys)) (sym (short-mark run x (xs ++ d ∷ ys) mark_x) ∙ h) in
-          short-mark run x (xs ++ ys) mark_x ∙ and_from _ _ parts.0 (short-without (run + 1) xs d ys mark parts.1)
+          let parts = short-room run x (xs ++ d ∷ ys) mark_x h in
+          short-longer run x (xs ++ ys) mark_x parts.0 ∙ short-without (run + 1) xs d ys mark parts.1
       | inr starter ↦
           short-starter run x (xs ++ ys) starter ∙ short-without 0 xs d ys mark (sym (short-starter run x (xs ++ d ∷ ys) starter) ∙ h)
     ]
@@ -83,8 +71,7 @@ short-drop run zero ps h = short-fewer 0 run (code_points ps) (omega arith) h
 short-drop run (suc n) [] h = short-nil 0
 short-drop run (suc n) (p ∷ ps) h =
     elim (cases_Bool (is_nonstarter p.cp)) [
-      | inl mark ↦
-          short-drop (run + 1) n ps (and_parts (nat_lt run 30) (has_short_runs (run + 1) (code_points ps)) (sym (short-mark run p.cp (code_points ps) mark) ∙ h)).1
+      | inl mark ↦ short-drop (run + 1) n ps (short-room run p.cp (code_points ps) mark h).1
       | inr starter ↦ short-drop 0 n ps (sym (short-starter run p.cp (code_points ps) starter) ∙ h)
     ]
 
