@@ -16,6 +16,7 @@ use Rattle.collation_elements.specs.Units.{units}
 use Rattle.collation_elements.specs.Items.{items as items_of, unit_items, after_unit}
 use Rattle.collation_elements.specs.Weighing.{after_units}
 use Rattle.collation_pattern.specs.Compiled.{Compiled}
+use Rattle.collation_letters.specs.declared.joining.TheConstants.{MOST_POINTS}
 use Rattle.collation_letters.specs.declared.letter.Letter.{Letter}
 use Rattle.collation_letters.specs.declared.letter.Role.{Role}
 use Rattle.collation_letters.specs.declared.letter.Role.TheVariants.{Steps, Plain, Base, VariableBase, Silent, PrimaryMark, Mark}
@@ -173,7 +174,7 @@ items-both table pattern ps qs k a m both after closed possible ka km j =
     (j.symbols pattern.keys first later after
     (subst (λ l. AreLastSymbols pattern.keys first l) (base-counted a.role after (listed a.symbols) j.base_begins) ha.symbols_are) hm.symbols_are))
 
-known-both : (table : TableMap) (pattern : Compiled) (ps qs : List Point) (k : ℕ) (a m both : Letter) → AreClosed table ps → a.class ≤ m.class → both.class ≡ m.class → both.points ≡ a.points + 1 → both.points ≤ 30 →
+known-both : (table : TableMap) (pattern : Compiled) (ps qs : List Point) (k : ℕ) (a m both : Letter) → AreClosed table ps → a.class ≤ m.class → both.class ≡ m.class → both.points ≡ a.points + 1 → both.points ≤ MOST_POINTS →
     IsKnown table pattern ps a → IsKnown table pattern qs m → Joins a m (both.role, both.symbols) → IsKnown table pattern (ps ++ here k qs) both
 known-both table pattern ps qs k a m both closed rises class points most ka km j =
     let one = only-one qs (km.one j.mark_joins) in
@@ -195,7 +196,7 @@ known-both table pattern ps qs k a m both closed rises class points most ka km j
     }
 
 pub letter-both : PointsOfParts → PointsAreShifted → (table : TableMap) (pattern : Compiled) (cs : List ℕ) (c : ℕ) (a m both : Letter) → a.is_closed ≡ true → m.is_closed ≡ true → a.class ≤ m.class →
-    both.is_apart ≡ a.is_apart → both.class ≡ m.class → both.points ≡ a.points + 1 → both.points ≤ 30 → both.role ≢ Plain → Joins a m (both.role, both.symbols) →
+    both.is_apart ≡ a.is_apart → both.class ≡ m.class → both.points ≡ a.points + 1 → both.points ≤ MOST_POINTS → both.role ≢ Plain → Joins a m (both.role, both.symbols) →
     IsLetter table pattern cs a → IsLetter table pattern (c ∷ []) m → IsLetter table pattern (cs ++ c ∷ []) both
 letter-both parts shift table pattern cs c a m both closed closed_mark rises apart class points most other j ha hm =
     let ps = points_from 0 cs in

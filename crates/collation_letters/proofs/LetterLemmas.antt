@@ -4,6 +4,7 @@ use Rattle.std.specs.List.{All}
 use Rattle.std.proofs.Common.{◌≡◌, ◌≢◌, ◌∙◌, ℕ, ◌≤◌, Bool, true, false, cond, List, [], ◌∷◌, ◌++◌, length, map, Option, Some, None, refl, sym, ap, ap₂, subst, arith}
 use Rattle.std.proofs.lemmas.List.{append-nil}
 use Rattle.std.proofs.lemmas.List.Elements.{All-map}
+use Rattle.nfd_points.specs.declared.limits.TheConstants.{MOST_WAITING}
 use Rattle.nfd_points.specs.declared.points.Point.{Point}
 use Rattle.nfd_points.specs.Points.{decomposition, points_at, points_of, points_from, shifted, is_in_order, begins_with_starter}
 use Rattle.nfd_points.specs.Laws.{DecompositionsAreShort}
@@ -37,7 +38,7 @@ unfolding points_at
 many_at start first [] = refl
 many_at start first (d ∷ ds) = omega (arith, many_at start false ds)
 
-pub few-points : DecompositionsAreShort → (start c : ℕ) → length (points_of start c) ≤ 30
+pub few-points : DecompositionsAreShort → (start c : ℕ) → length (points_of start c) ≤ MOST_WAITING
 few-points law start c =
     let few = (law c).1 in
     let same = many_at start true (decomposition c) in omega (arith, few, same)
@@ -122,7 +123,7 @@ letter-at table pattern cs ps l same other closed apart known =
       plain = λ yes. absurd (other yes);
     }
 
-pub known-at : (table : TableMap) (pattern : Compiled) (ps : List Point) (l : Letter) (plain : CharacterItems) (after : Option CharacterItems) → 1 ≤ length ps → length ps ≤ 30 → is_in_order ps ≡ true →
+pub known-at : (table : TableMap) (pattern : Compiled) (ps : List Point) (l : Letter) (plain : CharacterItems) (after : Option CharacterItems) → 1 ≤ length ps → length ps ≤ MOST_WAITING → is_in_order ps ≡ true →
     l.points ≡ length ps → IsLastClass ps l.class → HasItems table pattern ps plain after → HasRole ps plain after l.role → AreLastSymbols pattern.keys (character_keys plain) (listed l.symbols) →
     IsKnown table pattern ps l
 known-at table pattern ps l plain after some few in_order count class are has symbols =

@@ -1,5 +1,6 @@
 use Rattle.std.proofs.Common.{◌≡◌, ◌≢◌, ◌∙◌, [], ◌∷◌, refl, sym, ap, subst, length, List, ◌≤◌}
 use Rattle.nfd_points.specs.Points.{is_in_order, points_of}
+use Rattle.nfd_points.specs.declared.limits.TheConstants.{MOST_WAITING}
 use Rattle.nfd_points.specs.declared.points.Point.{Point}
 use Rattle.collation_elements.specs.CharacterItems.{character_keys}
 use Rattle.collation_letters.specs.declared.letter.Role.{Role}
@@ -20,7 +21,7 @@ returns-clause-letter g c =
     let ch = c.args.c in
     let ps = c.as_slice-points.result.now in
     let value : ps ≡ points_of 0 ch = c.as_slice-points.ensures.value ∙ c.points_of_character-points.ensures.value in
-    let few = subst (λ (qs : List Point). length qs ≤ 30) (sym value) (few-points c.laws_of_decompositions.ensures.short 0 ch) in
+    let few = subst (λ (qs : List Point). length qs ≤ MOST_WAITING) (sym value) (few-points c.laws_of_decompositions.ensures.short 0 ch) in
     let some = subst (λ (qs : List Point). 1 ≤ length qs) (sym value) (some-points c.laws_of_decompositions.ensures.short 0 ch) in
     let in_order = ap is_in_order value ∙ c.laws_of_decompositions.ensures.in_order 0 ch in
     let other : c.match-items_of.role.0 ≢ Plain = elim c.match-items_of.branch [
