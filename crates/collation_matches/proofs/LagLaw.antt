@@ -5,6 +5,7 @@ use Rattle.std.specs.Str.{chars, IsUtf8}
 use Rattle.std.proofs.lemmas.Bool.{false≢true}
 use Rattle.std.proofs.lemmas.Str.{encodes-chars}
 use Rattle.utf8_cut.specs.Characters.{characters_end}
+use Rattle.nfd_points.specs.declared.limits.TheConstants.{MOST_WAITING}
 use Rattle.nfd_points.specs.declared.points.Point.{Point}
 use Rattle.nfd_points.specs.Points.{byte_len, points_from, points, ordered}
 use Rattle.nfd_points.specs.Reordering.{Waiting, HasReordered}
@@ -62,17 +63,17 @@ given-left table test window given us cut none =
 
 -- the points of the code points taken were given, or wait
 taken-given : LagLaws → (test : Point → Bool) (taken : List ℕ) (waiting : Waiting) (given : List Point) → HasReordered waiting taken given →
-    count test (points_from 0 taken) ≤ count test given + 30
+    count test (points_from 0 taken) ≤ count test given + MOST_WAITING
 taken-given laws test taken waiting given reordered =
     let all = ap (count test) (laws.others waiting taken given reordered) in
     let parts = count-append test given waiting.held in
     omega (arith, all, parts, count-ordered test (points_from 0 taken), count-le test waiting.held, reordered.held.few)
 
--- From the offset of a unit that begins a cluster on, there are as many code points at most as points in the window, and 30.
+-- From the offset of a unit that begins a cluster on, there are as many code points at most as points in the window, and `MOST_WAITING`.
 held_back : LagLaws → (table : TableMap) (taken more : List ℕ) (waiting : Waiting) (window : Held) (given : List Point) (us vs : List (List Point)) (p : Point) (ps : List Point) (ws : List (List Point)) →
     HasReordered waiting taken given → WindowStandsFor table window given us →
     begins_cluster table (p ∷ ps) ≡ true → units table (points (taken ++ more)) ≡ (us ++ vs) ++ (p ∷ ps) ∷ ws →
-    code_points_from p.offset taken ≤ length window.points + 30
+    code_points_from p.offset taken ≤ length window.points + MOST_WAITING
 held_back laws table taken more waiting window given us vs p ps ws reordered cut begins all =
     let test = stands_from p.offset in
     let parts = laws.parts table (taken ++ more) (us ++ vs) p ps ws begins all in
@@ -111,7 +112,7 @@ splits (y ∷ ys) x (inr h) = let s = splits ys x h in record { before = y ∷ s
 in_time : LagLaws → (table : TableMap) (strength : Strength) (variable : Variable) (taken more : List ℕ) (waiting : Waiting) (window : Held) (ended : List Cluster) (current : Cluster) (c : Cluster) (following : List Cluster) (vs : List (List Point)) (at end : ℕ) →
     (w : IsUnderWay table strength variable taken waiting window ended current) → units table (points (taken ++ more)) ≡ w.units ++ vs →
     current.start ≡ c.start → Rising Below (starts (ended ++ c ∷ following) ++ end ∷ []) →
-    length window.points + 31 ≤ code_points_from at taken → 0 < at → BeginsAt table (units table (points (taken ++ more))) at → at ≤ c.start
+    length window.points + (MOST_WAITING + 1) ≤ code_points_from at taken → 0 < at → BeginsAt table (units table (points (taken ++ more))) at → at ≤ c.start
 in_time laws table strength variable taken more waiting window ended current c following vs at end w all_units same up enough some b =
     elim (in_append w.units vs (b.p ∷ b.ps) (subst (λ us. In us (b.p ∷ b.ps)) all_units b.among)) [
       | inl given ↦
@@ -132,7 +133,7 @@ in_time laws table strength variable taken more waiting window ended current c f
 
 some_text : LagLaws → (table : TableMap) (strength : Strength) (variable : Variable) (pattern : List Key) (b : ℕ) (bs taken more : List ℕ) (waiting : Waiting) (window : Held) (ended : List Cluster) (current : Cluster) (range : ℕ × ℕ) →
     IsUtf8 (b ∷ bs) → chars (b ∷ bs) ≡ taken ++ more → IsUnderWay table strength variable taken waiting window ended current →
-    length window.points + 31 ≤ code_points_from range.1 taken →
+    length window.points + (MOST_WAITING + 1) ≤ code_points_from range.1 taken →
     In (found pattern (clusters table strength variable (b ∷ bs)) (length (b ∷ bs))) range → In (found pattern ended current.start) range
 some_text laws table strength variable pattern b bs taken more waiting window ended current range utf8 same w enough h =
     let text = b ∷ bs in

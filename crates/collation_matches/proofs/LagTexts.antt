@@ -13,6 +13,7 @@ use Rattle.collation_table.specs.Table.{TableMap}
 use Rattle.collation_elements.specs.declared.settings.Variable.{Variable}
 use Rattle.collation_elements.specs.declared.settings.Strength.{Strength}
 use Rattle.collation_matches.specs.declared.faults.TextFault.{TextFault}
+use Rattle.collation_matches.specs.declared.faults.TheConstants.TextFault.{ILL_FORMED, TOO_LONG}
 use Rattle.collation_matches.specs.GoodPrefix.{most_bytes, seen, whole, byte_fault, first_of, fault, good_prefix, prefix_at, is_good_so_far}
 use Rattle.collation_matches.specs.Matches.{matches, settled}
 use Rattle.collation_matches.specs.Answer.{Answer, answer, answer_at}
@@ -91,13 +92,13 @@ no_byte_fault laws bytes h =
     let n = characters_end (seen bytes) in
     elim (cases_Bool (nat_lt most_bytes (length bytes) && is_utf8_prefix (seen bytes))) [
       | inl e ↦
-          let too_long : TextFault = record { kind = 34; offset = n } in
+          let too_long : TextFault = record { kind = TOO_LONG; offset = n } in
           let some : Some too_long ≡ None = rw e at h in
           absurd (none-some too_long (sym some))
       | inr e ↦
           elim (cases_Bool (nat_lt n (length (seen bytes)))) [
             | inl f ↦
-                let ill_formed : TextFault = record { kind = 31; offset = n } in
+                let ill_formed : TextFault = record { kind = ILL_FORMED; offset = n } in
                 let some : Some ill_formed ≡ None = rw (e, f) at h in
                 absurd (none-some ill_formed (sym some))
             | inr f ↦

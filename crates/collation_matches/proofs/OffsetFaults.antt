@@ -1,6 +1,6 @@
 -- The fault of the rest of a text is that of the text: from the beginning of a cluster on, runs of non-starters begin anew.
 use Rattle.std.proofs.Common.{◌≡◌, ℕ, zero, suc, ◌+◌, ◌≤◌, ◌&&◌, Bool, true, false, cond, not, ◌==◌, nat_lt, List, [], ◌∷◌, ◌++◌, length, take, drop, flat_map, Option, Some, None, refl, sym, ap, ap₂, ◌∙◌, subst, arith, inl, inr}
-use Rattle.std.proofs.lemmas.Bool.{cases_Bool, cond-false, and_parts, le-ltb, lt-ltb, ltb-true, ltb-false}
+use Rattle.std.proofs.lemmas.Bool.{cases_Bool, and_parts, le-ltb, lt-ltb, ltb-true, ltb-false}
 use Rattle.std.proofs.lemmas.List.{append_cancel_left, append_assoc, length-append, length-drop, length-take, take-append-drop, take_all, nil_from_length}
 use Rattle.std.proofs.lemmas.Option.{none-some}
 use Rattle.std.proofs.lemmas.Str.{chars-append}
@@ -9,18 +9,19 @@ use Rattle.std.specs.Char.{len_utf8}
 use Rattle.std.specs.Str.{chars, IsUtf8}
 use Rattle.unicode_normalization.specs.Lookups.{canonical_combining_class}
 use Rattle.unicode_normalization.specs.Order.{is_nonstarter}
-use Rattle.unicode_normalization.specs.StreamSafe.{has_short_runs}
 use Rattle.utf8_cut.specs.Characters.{characters_end}
 use Rattle.nfd_points.specs.declared.limits.TheConstants.{MOST_DECOMPOSITION}
 use Rattle.nfd_points.specs.declared.points.Point.{Point}
 use Rattle.nfd_points.specs.Laws.{DecompositionsAreShort, FaultInPrefix, OrderingCounts, StartersStay}
 use Rattle.nfd_points.specs.PointFaults.{part_fault, fault_of_code_point, run_after, fault_from, point_fault}
 use Rattle.nfd_points.specs.Points.{byte_len, decomposition, is_starter, ordered, points, points_at, points_from}
+use Rattle.nfd_points.proofs.RunLemmas.{run_after-starter, short-starter}
 use Rattle.collation_table.specs.Table.{TableMap}
 use Rattle.collation_elements.specs.Context.{UnitsPartWhereClustersBegin}
 use Rattle.collation_elements.specs.Elements.{begins_cluster, begins_primary, unit_row}
 use Rattle.collation_elements.specs.Units.{Cut, extended, first_unit, joins, prefix_length, units}
 use Rattle.collation_matches.specs.declared.faults.TextFault.{TextFault}
+use Rattle.collation_matches.specs.declared.faults.TheConstants.TextFault.{ILL_FORMED}
 use Rattle.collation_matches.specs.GoodPrefix.{most_bytes, whole, byte_fault, first_of, fault}
 use Rattle.collation_matches.specs.Offsets.{fault_moved}
 use Rattle.collation_matches.proofs.LagTexts.{TextLaws, begins-chars}
@@ -35,19 +36,11 @@ abbrev pub BeginsAnew : List ℕ → Type 0
 BeginsAnew [] = Unit {0}
 BeginsAnew (c ∷ cs) = (d : ℕ) × (ds : List ℕ) × (decomposition c ≡ d ∷ ds) × (is_nonstarter d ≡ false)
 
-short-anew : (run d : ℕ) (ds : List ℕ) → is_nonstarter d ≡ false → has_short_runs run (d ∷ ds) ≡ has_short_runs 0 ds
-unfolding has_short_runs
-short-anew run d ds h = cond-false (is_nonstarter d) (nat_lt run 30 && has_short_runs (run + 1) ds) (has_short_runs 0 ds) h
-
-run-anew : (run d : ℕ) (ds : List ℕ) → is_nonstarter d ≡ false → run_after run (d ∷ ds) ≡ run_after 0 ds
-unfolding run_after
-run-anew run d ds h = cond-false (is_nonstarter d) (run_after (run + 1) ds) (run_after 0 ds) h
-
 code_point-anew : (run c d : ℕ) (ds : List ℕ) → decomposition c ≡ d ∷ ds → is_nonstarter d ≡ false → fault_of_code_point run c ≡ fault_of_code_point 0 c
 unfolding fault_of_code_point
 code_point-anew run c d ds e h =
     let decide : Bool → Option ℕ = λ short. cond (nat_lt MOST_DECOMPOSITION (length (d ∷ ds))) (Some 33) (cond short None (Some 32)) in
-    ap (part_fault run) e ∙ ap decide (short-anew run d ds h ∙ sym (short-anew 0 d ds h)) ∙ sym (ap (part_fault 0) e)
+    ap (part_fault run) e ∙ ap decide (short-starter run d ds h ∙ sym (short-starter 0 d ds h)) ∙ sym (ap (part_fault 0) e)
 
 -- so what stood before does not count
 pub fault-anew : (start run : ℕ) (cs : List ℕ) → BeginsAnew cs → fault_from start run cs ≡ fault_from start 0 cs
@@ -56,7 +49,7 @@ fault-anew start run (c ∷ cs) (d, ds, e, h) =
     let same = code_point-anew run c d ds e h in
     elim (either (fault_of_code_point run c)) [
       | inl none ↦
-          let after : run_after run (decomposition c) ≡ run_after 0 (decomposition c) = ap (run_after run) e ∙ run-anew run d ds h ∙ sym (run-anew 0 d ds h) ∙ sym (ap (run_after 0) e) in
+          let after : run_after run (decomposition c) ≡ run_after 0 (decomposition c) = ap (run_after run) e ∙ run_after-starter run d ds h ∙ sym (run_after-starter 0 d ds h) ∙ sym (ap (run_after 0) e) in
           fault_later start run c cs none ∙ ap (λ n. fault_from (start + len_utf8 c) n cs) after ∙ sym (fault_later start 0 c cs (sym same ∙ none))
       | inr some ↦ fault_here start run c some.0 cs some.1 ∙ sym (fault_here start 0 c some.0 cs (sym same ∙ some.1))
     ]
@@ -174,7 +167,7 @@ first_of-moved : (by : ℕ) (at : Option (ℕ × ℕ)) (later : Option TextFault
 first_of-moved by None later = refl
 first_of-moved by (Some at) later = refl
 
-ill-moved : (by n : ℕ) (test : Bool) → cond test (Some (record { kind = 31; offset = by + n })) None ≡ fault_moved by (cond test (Some (record { kind = 31; offset = n })) None)
+ill-moved : (by n : ℕ) (test : Bool) → cond test (Some (record { kind = ILL_FORMED; offset = by + n })) None ≡ fault_moved by (cond test (Some (record { kind = ILL_FORMED; offset = n })) None)
 ill-moved by n true = refl
 ill-moved by n false = refl
 
@@ -185,7 +178,7 @@ shifted-test by a b =
       | inr more ↦ let m = ltb-false a b more in le-ltb (by + a) (by + b) (omega (arith, m)) ∙ sym more
     ]
 
-short-fault : (bytes : List ℕ) → length bytes ≤ most_bytes → byte_fault bytes ≡ cond (nat_lt (characters_end bytes) (length bytes)) (Some (record { kind = 31; offset = characters_end bytes })) None
+short-fault : (bytes : List ℕ) → length bytes ≤ most_bytes → byte_fault bytes ≡ cond (nat_lt (characters_end bytes) (length bytes)) (Some (record { kind = ILL_FORMED; offset = characters_end bytes })) None
 short-fault bytes h = let under = le-ltb most_bytes (length bytes) h in let same = seen_short bytes h in rw (under, same) refl
 
 byte_fault-moved : (front rest : List ℕ) (by : ℕ) → length front ≡ by → length (front ++ rest) ≤ most_bytes → characters_end (front ++ rest) ≡ by + characters_end rest →
@@ -193,7 +186,7 @@ byte_fault-moved : (front rest : List ℕ) (by : ℕ) → length front ≡ by �
 byte_fault-moved front rest by len few end =
     let sum : length (front ++ rest) ≡ by + length rest = length-append front rest ∙ ap (λ n. n + length rest) len in
     let test : nat_lt (characters_end (front ++ rest)) (length (front ++ rest)) ≡ nat_lt (characters_end rest) (length rest) = ap₂ nat_lt end sum ∙ shifted-test by (characters_end rest) (length rest) in
-    let answer : Bool → ℕ → Option TextFault = λ t n. cond t (Some (record { kind = 31; offset = n })) None in
+    let answer : Bool → ℕ → Option TextFault = λ t n. cond t (Some (record { kind = ILL_FORMED; offset = n })) None in
     short-fault (front ++ rest) few
     ∙ ap₂ answer test end
     ∙ ill-moved by (characters_end rest) (nat_lt (characters_end rest) (length rest))

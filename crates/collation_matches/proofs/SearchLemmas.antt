@@ -12,6 +12,7 @@ use Rattle.utf8_cut.specs.Characters.{characters_end, is_utf8_prefix}
 use Rattle.nfd_points.specs.Points.{decomposition, byte_len}
 use Rattle.nfd_points.specs.PointFaults.{fault_of_code_point, fault_from, run_after, point_fault}
 use Rattle.collation_matches.specs.declared.faults.TextFault.{TextFault}
+use Rattle.collation_matches.specs.declared.faults.TheConstants.TextFault.{ILL_FORMED, TOO_LONG}
 use Rattle.collation_table.specs.Table.{TableMap}
 use Rattle.collation_elements.specs.declared.settings.Variable.{Variable}
 use Rattle.collation_elements.specs.declared.settings.Strength.{Strength}
@@ -134,9 +135,9 @@ offset_of f at h = let same : f ≡ at = cc in ap (λ t. t.offset) same
 pub byte_fault_at : (bytes : List ℕ) (at : TextFault) → byte_fault bytes ≡ Some at → at.offset ≡ characters_end (seen bytes)
 byte_fault_at bytes at h =
     elim (cases_Bool (nat_lt most_bytes (length bytes) && is_utf8_prefix (seen bytes))) [
-      | inl e ↦ let some : Some (record { kind = 34; offset = characters_end (seen bytes) }) ≡ Some at = rw e at h in sym (offset_of (record { kind = 34; offset = characters_end (seen bytes) }) at some)
+      | inl e ↦ let some : Some (record { kind = TOO_LONG; offset = characters_end (seen bytes) }) ≡ Some at = rw e at h in sym (offset_of (record { kind = TOO_LONG; offset = characters_end (seen bytes) }) at some)
       | inr e ↦ elim (cases_Bool (nat_lt (characters_end (seen bytes)) (length (seen bytes)))) [
-        | inl f ↦ let some : Some (record { kind = 31; offset = characters_end (seen bytes) }) ≡ Some at = rw (e, f) at h in sym (offset_of (record { kind = 31; offset = characters_end (seen bytes) }) at some)
+        | inl f ↦ let some : Some (record { kind = ILL_FORMED; offset = characters_end (seen bytes) }) ≡ Some at = rw (e, f) at h in sym (offset_of (record { kind = ILL_FORMED; offset = characters_end (seen bytes) }) at some)
         | inr f ↦ let none : None ≡ Some at = rw (e, f) at h in cc
       ]
     ]

@@ -12,6 +12,7 @@ use Rattle.nfd_points.specs.Points.{byte_len}
 pub use Rattle.nfd_points.proofs.ByteLenLemmas.{byte_len_encoded}
 use Rattle.nfd_points.specs.PointFaults.{point_fault}
 use Rattle.collation_matches.specs.declared.faults.TextFault.{TextFault}
+use Rattle.collation_matches.specs.declared.faults.TheConstants.TextFault.{ILL_FORMED, TOO_LONG}
 use Rattle.collation_matches.specs.GoodPrefix.{most_bytes, seen, whole, byte_fault, first_of, fault, is_good_so_far}
 
 -- ---- characters
@@ -134,14 +135,14 @@ fault_by_code x at h = ap (λ o. first_of o (byte_fault x)) h
 
 -- an ill-formed sequence
 pub fault_by_form : (x : List ℕ) (at : ℕ) → point_fault (chars (whole (seen x))) ≡ None → ill_formed_at (seen x) ≡ Some at → characters_end (seen x) < length (seen x) →
-    fault x ≡ Some (record { kind = 31; offset = at })
+    fault x ≡ Some (record { kind = ILL_FORMED; offset = at })
 fault_by_form x at good bad within =
     let parts = formed (seen x) at bad in
     let closed = parts.0 in
     let here = parts.1 in
     let less = lt-ltb (characters_end (seen x)) (length (seen x)) within in
     let none : (nat_lt most_bytes (length x) && is_utf8_prefix (seen x)) ≡ false = and_right (nat_lt most_bytes (length x)) (is_utf8_prefix (seen x)) closed in
-    let bytes : byte_fault x ≡ Some (record { kind = 31; offset = at }) = rw (none, less, here) refl in
+    let bytes : byte_fault x ≡ Some (record { kind = ILL_FORMED; offset = at }) = rw (none, less, here) refl in
     ap (λ o. first_of o (byte_fault x)) good ∙ bytes
 
 pub not_open_by_form : (x : List ℕ) (at : ℕ) → ill_formed_at (seen x) ≡ Some at → is_good_so_far x ≡ false
@@ -154,7 +155,7 @@ not_open_by_form x at h = elim (cases_Bool (is_good_so_far x)) [
 pub full : (u : List ℕ) → is_good_so_far u ≡ true → most_bytes ≤ length u → length u ≡ most_bytes
 full u o h = let short = open_short u o in omega arith
 
-pub fault_by_length : (u : List ℕ) (b : ℕ) (more : List ℕ) → is_good_so_far u ≡ true → most_bytes ≤ length u → fault (u ++ b ∷ more) ≡ Some (record { kind = 34; offset = characters_end u })
+pub fault_by_length : (u : List ℕ) (b : ℕ) (more : List ℕ) → is_good_so_far u ≡ true → most_bytes ≤ length u → fault (u ++ b ∷ more) ≡ Some (record { kind = TOO_LONG; offset = characters_end u })
 fault_by_length u b more o h =
     let exact = full u o h in
     let prefix = seen_prefix u (b ∷ more) (open_short u o) in
@@ -165,7 +166,7 @@ fault_by_length u b more o h =
     let sum = length-append u (b ∷ more) in
     let over = lt-ltb most_bytes (length (u ++ b ∷ more)) (omega arith) in
     let end = ap characters_end same in
-    let bytes : byte_fault (u ++ b ∷ more) ≡ Some (record { kind = 34; offset = characters_end u }) = rw (over, cut, end) refl in
+    let bytes : byte_fault (u ++ b ∷ more) ≡ Some (record { kind = TOO_LONG; offset = characters_end u }) = rw (over, cut, end) refl in
     ap (λ t. first_of t (byte_fault (u ++ b ∷ more))) good ∙ bytes
 
 pub not_open_by_length : (u : List ℕ) (b : ℕ) (more : List ℕ) → most_bytes ≤ length u → is_good_so_far (u ++ b ∷ more) ≡ false
@@ -176,7 +177,7 @@ not_open_by_length u b more h = elim (cases_Bool (is_good_so_far (u ++ b ∷ mor
 
 -- ---- the end of an open text
 
-no_bytes_fault : (u : List ℕ) → is_good_so_far u ≡ true → fault u ≡ cond (nat_lt (characters_end u) (length u)) (Some (record { kind = 31; offset = characters_end u })) None
+no_bytes_fault : (u : List ℕ) → is_good_so_far u ≡ true → fault u ≡ cond (nat_lt (characters_end u) (length u)) (Some (record { kind = ILL_FORMED; offset = characters_end u })) None
 no_bytes_fault u o =
     let same = open_seen u o in
     let good = ap (λ t. point_fault (chars (whole t))) same ∙ open_good u o in
@@ -189,7 +190,7 @@ good_end u o h = elim (cases_Bool (characters_end u == length u)) [
   | inr e ↦ let some : None ≡ Some (characters_end u) = rw e at h in cc
 ]
 
-pub cut_end : (u : List ℕ) (at : ℕ) → is_good_so_far u ≡ true → characters_end u ≤ length u → Some at ≡ first_fault u → Some (record { kind = 31; offset = at }) ≡ fault u
+pub cut_end : (u : List ℕ) (at : ℕ) → is_good_so_far u ≡ true → characters_end u ≤ length u → Some at ≡ first_fault u → Some (record { kind = ILL_FORMED; offset = at }) ≡ fault u
 cut_end u at o within h = elim (cases_Bool (characters_end u == length u)) [
   | inl e ↦ let none : Some at ≡ None = rw e at h in cc
   | inr e ↦
@@ -243,7 +244,7 @@ ill_after x at listed formed faulty within = record {
 }
 
 pub fault_ill : (u : List ℕ) (b : ℕ) (more : List ℕ) (at : ℕ) → is_good_so_far u ≡ true → length u < most_bytes → chars (whole (u ++ b ∷ [])) ≡ chars (whole u) → IsIllAfter (u ++ b ∷ []) at →
-    fault (u ++ b ∷ more) ≡ Some (record { kind = 31; offset = at })
+    fault (u ++ b ∷ more) ≡ Some (record { kind = ILL_FORMED; offset = at })
 fault_ill u b more at o short codes ill =
     let x = u ++ b ∷ [] in
     let tail = take (most_bytes - length x) more in
@@ -280,7 +281,7 @@ no_some x h = cc
 pub whole_of_good : (u : List ℕ) → is_good_so_far u ≡ true → None ≡ fault u → whole u ≡ u
 whole_of_good u o h = elim (cases_Bool (nat_lt (characters_end u) (length u))) [
   | inl less ↦
-      let ill : TextFault = record { kind = 31; offset = characters_end u } in
+      let ill : TextFault = record { kind = ILL_FORMED; offset = characters_end u } in
       let reported : cond (nat_lt (characters_end u) (length u)) (Some ill) None ≡ Some ill = rw less refl in
       absurd (no_some ill (h ∙ no_bytes_fault u o ∙ reported))
   | inr all ↦ take_all (characters_end u) u (ltb-false (characters_end u) (length u) all)
