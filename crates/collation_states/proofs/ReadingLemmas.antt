@@ -4,6 +4,7 @@ use Rattle.std.proofs.lemmas.Bool.{and_parts, le-leb, leb-true, lt-leb, eq-eqb, 
 use Rattle.std.proofs.Common.{◌≡◌, ℕ, ◌+◌, ◌-◌, ◌<◌, ◌≤◌, ◌==◌, Bool, true, false, List, length, take, drop, refl, sym, ap, ◌∙◌, subst, arith}
 use Rattle.std.proofs.lemmas.List.{take_all, length-drop}
 use Rattle.utf8_cut.specs.Characters.{is_incomplete_or_empty}
+use Rattle.nfd_points.specs.declared.limits.TheConstants.{MOST_WAITING}
 use Rattle.collation_matches.specs.GoodPrefix.{most_bytes}
 use Rattle.collation_matches.specs.declared.select.Select.{Select}
 use Rattle.collation_states.specs.declared.read_state.ReadState.{ReadState}
@@ -76,7 +77,7 @@ records-follow r h words first =
     let g = and_parts (has_records r h words) (nat_le h.start (h.taken - h.held_len)) f.1 in
     let i = and_parts (nat_le h.state r.pattern_len) _ g.0 in
     let j = and_parts (nat_le h.window_len r.longest_key) _ i.1 in
-    let k = and_parts (nat_le h.waiting_len 30) _ j.1 in
+    let k = and_parts (nat_le h.waiting_len MOST_WAITING) _ j.1 in
     let n = head_len r.select in
     let many : length words ≡ n + 4 * (h.state + (h.window_len + h.waiting_len)) = eqb-true (length words) (n + 4 * (h.state + (h.window_len + h.waiting_len))) k.1 in
     omega (arith, many, ap length (after-head n words), length-drop n words)

@@ -10,6 +10,7 @@ use Rattle.std.proofs.lemmas.List.{length-append}
 use Rattle.std.proofs.lemmas.List.Elements.{All-head, All-tail}
 use Rattle.unicode_normalization.specs.Lookups.{canonical_combining_class}
 use Rattle.utf8_cut.specs.Characters.{is_incomplete_or_empty}
+use Rattle.nfd_points.specs.declared.limits.TheConstants.{MOST_WAITING}
 use Rattle.nfd_points.specs.declared.points.Point.{Point}
 use Rattle.nfd_points.specs.Points.{decomposition}
 use Rattle.collation_matches.specs.declared.faults.TextFault.{TextFault}
@@ -175,7 +176,7 @@ module _ (r : Sizes) (s : State) (o : IsOpen r s) where
 
   records : has_records r h all ≡ true
   records = and_from _ _ (le-leb (length s.places) r.pattern_len o.few_places) (and_from _ _ (le-leb (length s.window) r.longest_key o.few_in_window)
-      (and_from _ _ (le-leb (length s.waiting) 30 o.few_waiting) (eq-eqb (length all) _ (states_are_records r s))))
+      (and_from _ _ (le-leb (length s.waiting) MOST_WAITING o.few_waiting) (eq-eqb (length all) _ (states_are_records r s))))
 
   open_first : is_open_head r h all ≡ true
   open_first = and_from _ _ (ap (λ f. fault_offset_word f == 0) o.none) (and_from _ _ (flag-is s.after_variable) (and_from _ _ (flag-is s.has_keys)

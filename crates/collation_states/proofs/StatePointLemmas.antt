@@ -1,14 +1,17 @@
 -- Points read from a state, one by one.
-use Rattle.std.proofs.Common.{◌≡◌, ℕ, suc, ◌+◌, ◌-◌, ◌≤◌, ◌<◌, ◌≢◌, ◌&&◌, ◌==◌, nat_lt, List, [], ◌∷◌, length, take, drop, Some, None, slice_get, slice_index_or, true, false, refl, ap, sym, ◌∙◌, subst, arith}
-use Rattle.std.proofs.lemmas.Bool.{and_parts, lt-ltb, le-ltb, ne_eqb}
+use Rattle.std.proofs.Common.{◌≡◌, ℕ, suc, ◌+◌, ◌-◌, ◌≤◌, ◌<◌, ◌≢◌, ◌&&◌, ◌==◌, nat_lt, not, List, [], ◌∷◌, length, take, drop, Some, None, slice_get, slice_index_or, true, false, refl, ap, sym, ◌∙◌, subst, arith}
+use Rattle.std.proofs.lemmas.Bool.{and_parts, ne_eqb}
 use Rattle.std.proofs.lemmas.List.{take_all, drop_all, drop_more}
 use lib.Utf8.{scalar}
 use Rattle.unicode_normalization.specs.Lookups.{canonical_combining_class}
+use Rattle.unicode_normalization.specs.Order.{is_nonstarter}
 use Rattle.unicode_normalization.specs.StreamSafe.{has_short_runs}
 use Rattle.collation_states.specs.StateTests.{decomposed, is_flag, are_points, points_in}
+use Rattle.nfd_points.specs.declared.limits.TheConstants.{MOST_WAITING}
 use Rattle.nfd_points.specs.declared.points.Point.{Point}
 use Rattle.nfd_points.specs.Points.{is_starter, is_in_order}
 use Rattle.nfd_points.specs.Reordering.{IsSoundPoint, IsHeld, code_points, is_closed}
+use Rattle.nfd_points.proofs.RunLemmas.{short-nil, short-starter, short-longer, short-too_long}
 
 -- ---- the last point
 
@@ -71,38 +74,27 @@ right-next end (a ∷ b ∷ c ∷ d ∷ later) len e =
 abbrev pub no_point : Point
 no_point = record { cp = 0; ccc = 0; offset = 0; first = false }
 
-pub after-none : (run : ℕ) → has_short_runs run [] ≡ true
-unfolding has_short_runs
-after-none run = refl
-
-pub run-starter : (run c : ℕ) (cs : List ℕ) → canonical_combining_class c ≡ 0 → has_short_runs run (c ∷ cs) ≡ has_short_runs 0 cs
-unfolding has_short_runs
-run-starter run c cs h = rw h refl
-
-run-longer : (run c : ℕ) (cs : List ℕ) → (canonical_combining_class c == 0) ≡ false → run < 30 → has_short_runs run (c ∷ cs) ≡ has_short_runs (run + 1) cs
-unfolding has_short_runs
-run-longer run c cs h short = rw (h, lt-ltb run 30 short) refl
-
-run-too_long : (run c : ℕ) (cs : List ℕ) → (canonical_combining_class c == 0) ≡ false → 30 ≤ run → has_short_runs run (c ∷ cs) ≡ false
-unfolding has_short_runs
-run-too_long run c cs h long = rw (h, le-ltb run 30 long) refl
-
 module _ (ps : List Point) (i : ℕ) (p : Point) (here : i < length ps) (is : slice_index_or ps i no_point ≡ p) (sound : IsSoundPoint p) where
   at-point : (run : ℕ) → has_short_runs run (code_points (drop i ps)) ≡ has_short_runs run (p.cp ∷ code_points (drop (i + 1) ps))
   at-point run = ap (λ l. has_short_runs run (code_points l)) (drop_more ps i no_point here ∙ ap (λ q. q ∷ drop (i + 1) ps) is)
 
+  starter : p.ccc ≡ 0 → is_nonstarter p.cp ≡ false
+  starter h = ap (λ (n : ℕ). not (n == 0)) (sym sound.class ∙ h)
+
+  mark : p.ccc ≢ 0 → is_nonstarter p.cp ≡ true
+  mark h = ap (λ (n : ℕ). not (n == 0)) (sym sound.class) ∙ ap not (ne_eqb p.ccc 0 h)
+
   pub after-starter : (run : ℕ) → p.ccc ≡ 0 → has_short_runs run (code_points (drop i ps)) ≡ has_short_runs 0 (code_points (drop (i + 1) ps))
-  after-starter run h = at-point run ∙ run-starter run p.cp (code_points (drop (i + 1) ps)) (sym sound.class ∙ h)
+  after-starter run h = at-point run ∙ short-starter run p.cp (code_points (drop (i + 1) ps)) (starter h)
 
-  pub after-mark : (run : ℕ) → p.ccc ≢ 0 → run < 30 → has_short_runs run (code_points (drop i ps)) ≡ has_short_runs (run + 1) (code_points (drop (i + 1) ps))
-  after-mark run h short = at-point run ∙ run-longer run p.cp (code_points (drop (i + 1) ps)) (ap (λ n. n == 0) (sym sound.class) ∙ ne_eqb p.ccc 0 h) short
+  pub after-mark : (run : ℕ) → p.ccc ≢ 0 → run < MOST_WAITING → has_short_runs run (code_points (drop i ps)) ≡ has_short_runs (run + 1) (code_points (drop (i + 1) ps))
+  after-mark run h short = at-point run ∙ short-longer run p.cp (code_points (drop (i + 1) ps)) (mark h) short
 
-  pub after-too-many : (run : ℕ) → p.ccc ≢ 0 → 30 ≤ run → has_short_runs run (code_points (drop i ps)) ≡ false
-  after-too-many run h long = at-point run ∙ run-too_long run p.cp (code_points (drop (i + 1) ps)) (ap (λ n. n == 0) (sym sound.class) ∙ ne_eqb p.ccc 0 h) long
+  pub after-too-many : (run : ℕ) → p.ccc ≢ 0 → MOST_WAITING ≤ run → has_short_runs run (code_points (drop i ps)) ≡ false
+  after-too-many run h long = at-point run ∙ short-too_long run p.cp (code_points (drop (i + 1) ps)) (mark h) long
 
 pub after-all : (ps : List Point) (i run : ℕ) → length ps ≤ i → has_short_runs run (code_points (drop i ps)) ≡ true
-unfolding has_short_runs
-after-all ps i run h = rw (drop_all i ps h) refl
+after-all ps i run h = ap (λ l. has_short_runs run (code_points l)) (drop_all i ps h) ∙ short-nil run
 
 -- ---- no points
 
@@ -111,4 +103,4 @@ unfolding is_in_order
 none-held ps none = let empty : IsHeld [] = record { non_starters = refl; in_order = refl; few = omega arith; sound = λ i p below. let no : ⊥ = omega (arith, below) in elim no [ ] } in subst (λ (l : List Point). IsHeld l) (sym none) empty
 
 pub none-short : (ps : List Point) → ps ≡ [] → has_short_runs 0 (code_points ps) ≡ true
-none-short ps none = ap (λ (l : List Point). has_short_runs 0 (code_points l)) none ∙ after-none 0
+none-short ps none = ap (λ (l : List Point). has_short_runs 0 (code_points l)) none ∙ short-nil 0

@@ -6,6 +6,7 @@ use Rattle.std.proofs.lemmas.Bool.{and_parts, cases_Bool, leb-true, eqb-true}
 use Rattle.std.proofs.lemmas.List.{drop_more, length-drop, length-take-le, take-append-drop}
 use lib.Utf8.{scalar}
 use Rattle.utf8_cut.specs.Characters.{is_incomplete_or_empty}
+use Rattle.nfd_points.specs.declared.limits.TheConstants.{MOST_WAITING}
 use Rattle.collation_matches.specs.declared.select.Select.{Select}
 use Rattle.collation_matches.specs.declared.select.Select.TheVariants.{All, Chain}
 use Rattle.collation_states.specs.declared.states.Head.{Head}
@@ -166,7 +167,7 @@ module _ (r : Sizes) (all : List ℕ) (form : has_form r.select all ≡ true) (s
       let g = and_parts (has_records r h all) (nat_le h.start (h.taken - h.held_len)) f.1 in
       let i = and_parts (nat_le h.state r.pattern_len) _ g.0 in
       let j = and_parts (nat_le h.window_len r.longest_key) _ i.1 in
-      let k = and_parts (nat_le h.waiting_len 30) _ j.1 in
+      let k = and_parts (nat_le h.waiting_len MOST_WAITING) _ j.1 in
       let many : length all ≡ head_len r.select + 4 * (h.state + (h.window_len + h.waiting_len)) = eqb-true (length all) _ k.1 in
       let t_len : length tail ≡ 4 * (h.state + (h.window_len + h.waiting_len)) = omega (arith, many, length-drop (head_len r.select) all) in
       let points = drop (4 * h.state) tail in
