@@ -1,4 +1,4 @@
-use Rattle.std.proofs.Common.{rules, ◌∙◌, ◌++◌, refl, ap}
+use Rattle.std.proofs.Common.{rules, refl}
 use Rattle.colfind_io.proofs.Gathered.{grown}
 use Rattle.colfind_io.proofs.lines.Lines.put.Goals as goal
 
