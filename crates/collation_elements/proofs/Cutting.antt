@@ -53,7 +53,7 @@ pub is_closed-both : (xs ys : List Point) → is_closed xs ≡ true → is_close
 is_closed-both xs [] a b = ap is_closed (append-nil xs) ∙ a
 is_closed-both xs (y ∷ ys) a b = is_closed-append xs (y ∷ ys) (omega arith) ∙ b
 
-is_closed-drop : (n : ℕ) (ps : List Point) → is_closed ps ≡ true → is_closed (drop n ps) ≡ true
+pub is_closed-drop : (n : ℕ) (ps : List Point) → is_closed ps ≡ true → is_closed (drop n ps) ≡ true
 unfolding is_closed
 is_closed-drop zero ps h = h
 is_closed-drop (suc n) [] h = h
