@@ -1,14 +1,12 @@
 -- Where the units of a letter's characters end.
 use Rattle.std.specs.Char.{len_utf8}
 use Rattle.std.proofs.lemmas.Bool.{false≢true}
-use Rattle.std.proofs.Common.{◌≡◌, ◌≢◌, ◌∙◌, ◌⊎◌, ℕ, ◌+◌, ◌≤◌, Bool, true, false, List, [], ◌∷◌, ◌++◌, length, map, flat_map, slice_get, inl, inr, refl, sym, ap, ap₂, subst, arith, length-append}
+use Rattle.std.proofs.Common.{◌≡◌, ◌≢◌, ◌∙◌, ◌⊎◌, ℕ, ◌+◌, Bool, true, false, List, [], ◌∷◌, ◌++◌, length, map, flat_map, inl, inr, refl, sym, ap, subst, arith, length-append}
 use Rattle.nfd_points.specs.declared.points.Point.{Point}
-use Rattle.nfd_points.specs.Points.{decomposition, byte_len, points_at, points_of, points_from, shifted, ordered, is_starter, begins_with_starter}
+use Rattle.nfd_points.specs.Points.{decomposition, byte_len, points_of, points_from, shifted, ordered, is_starter, begins_with_starter}
 use Rattle.nfd_points.specs.Laws.{OrderingIsShifted, PointsAreShifted}
 use Rattle.collation_table.specs.Table.{TableMap, ContinuesNoString}
-use Rattle.collation_elements.specs.declared.settings.Variable.TheVariants.{NonIgnorable}
 use Rattle.collation_elements.specs.Units.{units}
-use Rattle.collation_elements.specs.Weighing.{after_units}
 use Rattle.collation_pattern.specs.Compiled.{Compiled}
 use Rattle.collation_letters.specs.declared.letter.Letter.{Letter}
 use Rattle.collation_letters.specs.declared.letter.Role.{Role}
