@@ -1,11 +1,10 @@
 -- Faults and open texts, from what a cutter of characters and a reorderer represent.
 use Rattle.std.specs.Str.{chars, IsUtf8}
-use Rattle.std.specs.Char.{len_utf8, encode_utf8}
-use Rattle.std.specs.Prelude.{encode_utf8_all}
+use Rattle.std.specs.Char.{len_utf8}
 use Rattle.std.proofs.Common.{◌≡◌, ℕ, suc, ◌+◌, ◌-◌, ◌<◌, ◌≤◌, true, false, ◌&&◌, ◌==◌, cond, nat_lt, nat_le, Result, Ok, Err, IfOk, OnOk, OnErr, IfErr, subst, List, [], ◌∷◌, ◌++◌, length, take, drop, get_or, map, Option, Some, None, is_none, inl, inr, sym, ◌∙◌, ap, arith, refl}
 use Rattle.std.proofs.lemmas.Bool.{cases_Bool, and_parts, and_right, ltb-false, leb-true, lt-ltb, le-ltb, le-leb, eqb-true, eqb-false}
 use Rattle.std.proofs.lemmas.List.{take_all, map-append, append-nil, length-append, length-take-le, append_assoc}
-use Rattle.std.proofs.lemmas.Str.{length-encode, encodes-chars}
+use Rattle.std.proofs.lemmas.Str.{encodes-chars}
 use Rattle.std.proofs.Math.Seq.{take-append-add, split_at}
 use Rattle.utf8_cut.specs.Characters.{characters, characters_end, with_offsets, first_fault, ill_formed_at, is_utf8_prefix}
 use Rattle.nfd_points.specs.Points.{byte_len}
