@@ -10,7 +10,7 @@ use Rattle.std.proofs.lemmas.Grind.{flat_map-append}
 use Rattle.std.proofs.Math.Seq.{take-suc}
 use Rattle.nfd_points.specs.declared.points.Point.{Point}
 use Rattle.nfd_points.specs.Points.{ascii_point, byte_len, points_of, points_from, is_starter, begins_with_starter, ordered}
-use Rattle.nfd_points.specs.Laws.{AsciiIsItself, PointsAreShifted}
+use Rattle.nfd_points.specs.Laws.{AsciiIsItself}
 use Rattle.collation_table.specs.Table.{TableMap, ContinuesNoString}
 use Rattle.collation_elements.specs.declared.keys.Key.{Key}
 use Rattle.collation_elements.specs.declared.keys.Item.{Item}

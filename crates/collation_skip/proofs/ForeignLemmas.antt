@@ -7,7 +7,6 @@ use Rattle.std.proofs.lemmas.Str.{chars-nil, encodes-chars}
 use Rattle.utf8_cut.specs.Sequences.{SpellsCharacter}
 use Rattle.utf8_cut.proofs.TextLemmas.{text-more, chars-more, one_char}
 use Rattle.nfd_points.specs.Points.{byte_len, points_from, begins_with_starter}
-use Rattle.nfd_points.specs.Laws.{PointsAreShifted}
 use Rattle.nfd_points.proofs.ByteLenLemmas.{byte_len_encoded}
 use Rattle.collation_table.specs.Table.{TableMap}
 use Rattle.collation_elements.specs.declared.keys.Key.{Key}

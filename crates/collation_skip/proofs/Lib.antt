@@ -10,4 +10,4 @@ pub mod AsciiLemmas
 pub mod ClassLemmas
 pub mod BlockLemmas
 pub mod ForeignLemmas
-pub mod TwoByteLemmas
+pub mod TwoByteCharacters

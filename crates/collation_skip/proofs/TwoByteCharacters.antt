@@ -1,7 +1,7 @@
 -- Text of characters of one and of two bytes that passes, character by character.
 use Rattle.std.specs.Char.{len_utf8}
 use Rattle.std.specs.Str.{chars, IsUtf8}
-use Rattle.std.proofs.Common.{◌≡◌, ◌↔◌, ◌∙◌, ◌⊎◌, ℕ, zero, suc, ◌+◌, ◌-◌, ◌/◌, ◌≤◌, ◌<◌, min, max, bit_or, true, false, List, [], ◌∷◌, ◌++◌, length, map, replicate, take, drop, get_or, Contains, inl, inr, refl, sym, ap, subst, arith}
+use Rattle.std.proofs.Common.{◌≡◌, ◌∙◌, ◌⊎◌, ℕ, zero, suc, ◌+◌, ◌-◌, ◌/◌, ◌≤◌, ◌<◌, true, false, List, [], ◌∷◌, ◌++◌, length, map, replicate, take, drop, get_or, Contains, inl, inr, refl, sym, ap, subst, arith}
 use Rattle.std.proofs.lemmas.Bool.{cases_lt, cond-false, ne_eqb}
 use Rattle.std.proofs.lemmas.List.{get_or_append_left, get_or-append-add, get_or-replicate}
 use Rattle.std.proofs.lemmas.List.Elements.{Contains-append_cases}
@@ -23,8 +23,7 @@ use Rattle.collation_elements.specs.Weighing.{after_units}
 use Rattle.collation_pattern.specs.Border.{border}
 use Rattle.collation_pattern.specs.Compiled.{Compiled}
 use Rattle.collation_letters.specs.Apart.{IsNext}
-use Rattle.collation_letters.specs.declared.letter.Letter.{Letter}
-use Rattle.collation_letters.specs.Letters.{IsClean, AreApart, IsLetter}
+use Rattle.collation_letters.specs.Letters.{AreApart}
 use Rattle.collation_letters.proofs.ApartLemmas.{begins_anywhere, from_one, next-more, next_of_one}
 use Rattle.collation_letters.proofs.CharacterLemmas.{points_are_shifted}
 use Rattle.collation_skip.specs.declared.two_byte_blocks.Ending.{Ending}
@@ -33,13 +32,12 @@ use Rattle.byte_blocks.specs.declared.sets.TheConstants.{LEADS, TRAILS}
 use Rattle.collation_skip.specs.Blocks.{Says, items_at, most}
 use Rattle.collation_skip.specs.Passed.{IsPassed, IsQuiet}
 use Rattle.collation_skip.specs.Reached.{items_from}
-use Rattle.byte_blocks.specs.TwoBytes.{DoesNotGoOn, GoesOn, Pass, StopsAt}
+use Rattle.byte_blocks.specs.TwoBytes.{Pass}
 use Rattle.byte_blocks.specs.Sets.{is_in, leads, trails}
 use Rattle.collation_skip.specs.TwoBytes.{IsEnding, AreRightOf, AreSetsRight, character_of}
 use Rattle.collation_skip.proofs.AsciiLemmas.{RunLaws, contained, items-next, keys-append, possible, quiet-more}
 use Rattle.collation_skip.proofs.BlockLemmas.{spells-ascii}
 use Rattle.collation_skip.proofs.ForeignLemmas.{AreQuiet, ForeignLaws, chars-on, no-keys, passed-on, quiet-begin, text-on}
-use Rattle.byte_blocks.proofs.LaneLemmas.{min-zero, or-left, or-right, or-none}
 use Rattle.collation_skip.proofs.ReachedLemmas.{begins-more}
 use Rattle.collation_skip.proofs.TextLemmas.{same-character}
 

@@ -24,7 +24,7 @@ pub struct Automaton {
 }
 
 impl Automaton {
-    ghost use Rattle.std.specs.Prelude.{◌+◌, ◌<◌, ◌≤◌, ℕ, List, length, take, IfSome};
+    ghost use Rattle.std.specs.Prelude.{◌<◌, ◌≤◌, ℕ, List, length, take, IfSome};
     ghost use Rattle.std.specs.Char.{len_utf8};
     ghost use Rattle.byte_dfa.specs.Moves.{IsCursor};
     ghost use Rattle.utf8_cut.specs.Sequences.{SpellsCharacter};

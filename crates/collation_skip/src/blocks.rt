@@ -1,5 +1,5 @@
 //! Passes by text of ASCII sixteen bytes at a time, as long as no two neighbours may be part of a match.
-ghost use Rattle.std.specs.Prelude.{◌≡◌, ◌<◌, ◌≤◌, ◌∷◌, [], length, true, IfSome, slice_index};
+ghost use Rattle.std.specs.Prelude.{◌<◌, ◌≤◌, ◌∷◌, [], length, IfSome, slice_index};
 ghost use Rattle.collation_letters.specs.Letters.{IsClean, IsLetter};
 ghost use Rattle.collation_letters.specs.Store.{AreLetters};
 ghost use Rattle.collation_skip.specs.Blocks.{AreClassesRight};

@@ -22,7 +22,7 @@ pub struct Skip {
 }
 
 impl Skip {
-    ghost use Rattle.std.specs.Prelude.{◌≡◌, IfSome};
+    ghost use Rattle.std.specs.Prelude.{IfSome};
     ghost use Rattle.collation_table.specs.Table.{TableMap};
     ghost use Rattle.collation_pattern.specs.Compiled.{Compiled};
     ghost use Rattle.collation_letters.specs.Store.{AreLetters};

@@ -1,7 +1,7 @@
 use Rattle.std.proofs.Common.{arith}
 use Rattle.collation_skip.proofs.AsciiLemmas.{RunLaws}
 use Rattle.collation_skip.proofs.ForeignLemmas.{ForeignLaws}
-use Rattle.collation_skip.proofs.TwoByteLemmas.{ending-of}
+use Rattle.collation_skip.proofs.TwoByteCharacters.{ending-of}
 use Rattle.collation_skip.proofs.two_byte_blocks.pass_two_bytes.Goals as goal
 
 pub returns-clause-passes : goal.returns-clause-passes

@@ -2,7 +2,7 @@ use Rattle.std.proofs.Common.{arith, inl, inr, subst, sym, ◌≡◌, ◌≤◌}
 use Rattle.std.proofs.lemmas.Bool.{cases_lt}
 use Rattle.byte_blocks.specs.Sets.{is_in}
 use Rattle.collation_skip.specs.TwoBytes.{AreRightOf}
-use Rattle.collation_skip.proofs.TwoByteLemmas.{each-more}
+use Rattle.collation_skip.proofs.TwoByteCharacters.{each-more}
 use Rattle.collation_skip.proofs.two_byte_sets.are_right.Goals as goal
 
 pub loop-lead-preserved : goal.loop-lead-preserved

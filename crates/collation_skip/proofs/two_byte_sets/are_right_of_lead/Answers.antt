@@ -1,7 +1,7 @@
 use Rattle.std.proofs.Common.{◌≡◌, ◌≤◌, arith, subst}
 use Rattle.byte_blocks.specs.Sets.{is_in}
 use Rattle.collation_skip.specs.TwoBytes.{AreRightOf, IsSetRight}
-use Rattle.collation_skip.proofs.TwoByteLemmas.{each-more, number-of}
+use Rattle.collation_skip.proofs.TwoByteCharacters.{each-more, number-of}
 use Rattle.collation_skip.proofs.two_byte_sets.are_right_of_lead.Goals as goal
 
 pub loop-trail-preserved-then-has-ne0-2 : goal.loop-trail-preserved-then-has-ne0-2

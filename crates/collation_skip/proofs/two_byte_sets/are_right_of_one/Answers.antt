@@ -1,7 +1,7 @@
 use Rattle.std.proofs.Common.{◌≡◌, arith}
 use Rattle.byte_blocks.specs.Sets.{is_in}
 use Rattle.collation_skip.specs.TwoBytes.{IsSetRight}
-use Rattle.collation_skip.proofs.TwoByteLemmas.{each-more}
+use Rattle.collation_skip.proofs.TwoByteCharacters.{each-more}
 use Rattle.collation_skip.proofs.two_byte_sets.are_right_of_one.Goals as goal
 
 pub loop-byte-preserved-then-has-ne0 : goal.loop-byte-preserved-then-has-ne0

@@ -1,8 +1,6 @@
-use Rattle.std.proofs.Common.{◌≤◌, arith}
+use Rattle.std.proofs.Common.{arith}
 use Rattle.std.proofs.lemmas.List.{length-take}
-use Rattle.collation_skip.specs.declared.passed.Passed.{Passed}
-use Rattle.collation_skip.specs.Passed.{PassesTo}
-use Rattle.collation_skip.proofs.RunLemmas.{if-some, stands-whole}
+use Rattle.collation_skip.proofs.RunLemmas.{stands-whole}
 use Rattle.collation_skip.proofs.automaton.Automaton.pass.Goals as goal
 
 pub answer-requires-clause-passed : goal.answer-requires-clause-passed
