@@ -6,8 +6,7 @@ use Rattle.nfd_points.specs.Reordering.{Waiting, HasReordered}
 use Rattle.nfd_points.specs.Laws.{GivenAreFinal}
 use Rattle.collation_table.specs.Table.{TableMap}
 use Rattle.collation_elements.specs.Decided.{left_points, DecidedUnitsStay}
-use Rattle.collation_finder.specs.Early.{IsCutUpTo}
-use Rattle.collation_finder.specs.Early.{final_points}
+use Rattle.collation_finder.specs.Early.{IsCutUpTo, final_points}
 use Rattle.collation_finder.proofs.ApartLemmas.{Splits}
 
 -- what a reorderer gives comes after the points that were final

@@ -1,16 +1,15 @@
 -- Points that are plain letters by themselves, one after another: their units are their own.
-use Rattle.std.proofs.Common.{◌≡◌, ◌⊎◌, ◌∙◌, ℕ, ◌-◌, ◌<◌, true, false, List, [], ◌∷◌, ◌++◌, length, take, drop, inl, inr, refl, sym, ap, arith, append_assoc}
+use Rattle.std.proofs.Common.{◌≡◌, ◌∙◌, ℕ, ◌-◌, true, false, List, [], ◌∷◌, ◌++◌, length, take, drop, sym, ap, append_assoc}
 use Rattle.std.proofs.lemmas.List.{take-append-drop, take_rest}
 use Rattle.std.specs.List.{Contains}
 use Rattle.std.proofs.lemmas.List.Elements.{All-same, All-drop}
 use Rattle.nfd_points.specs.declared.points.Point.{Point}
 use Rattle.nfd_points.specs.Points.{decomposition, points_at, points_from}
 use Rattle.nfd_points.specs.Laws.{PointsAreShifted}
-use Rattle.nfd_points.specs.Reordering.{IsSoundPoint, is_closed}
+use Rattle.nfd_points.specs.Reordering.{IsSoundPoint}
 use Rattle.collation_table.specs.Table.{TableMap}
 use Rattle.collation_elements.specs.Units.{units}
 use Rattle.collation_elements.specs.Windows.{Held}
-use Rattle.collation_elements.proofs.Cutting.{is_closed-append}
 use Rattle.collation_pattern.specs.Compiled.{Compiled}
 use Rattle.collation_letters.specs.declared.letter.Letter.{Letter}
 use Rattle.collation_letters.specs.declared.letter.Role.TheVariants.{Plain}
@@ -45,20 +44,6 @@ closed-on table ps p before one = λ more.
     ∙ sym (append_assoc (units table ps) (units table (p ∷ [])) (units table more)) ∙ ap (λ us. us ++ units table more) (sym (before (p ∷ [])))
 
 -- ---- a window without them
-
-some_or_none : {X : Type 0} (xs : List X) → (xs ≡ []) ⊎ (0 < length xs)
-some_or_none [] = inl refl
-some_or_none (x ∷ xs) = inr (omega arith)
-
-none_closed : is_closed [] ≡ true
-unfolding is_closed
-none_closed = refl
-
-pub closed-drop : (n : ℕ) (ps : List Point) → is_closed ps ≡ true → is_closed (drop n ps) ≡ true
-closed-drop n ps h = elim (some_or_none (drop n ps)) [
-  | inl none ↦ ap is_closed none ∙ none_closed
-  | inr some ↦ sym (is_closed-append (take n ps) (drop n ps) some) ∙ ap is_closed (take-append-drop n ps) ∙ h
-]
 
 pub matched-cut : (table : TableMap) (pattern : Compiled) (old new : Held) (m m' : Matcher) (n : ℕ) (points : List Point) (ranges found : List (ℕ × ℕ)) → old.has_ended ≡ false →
     new.points ≡ drop n old.points → AreClosedHere table (take n old.points) → HasWalkedOn table pattern m m' (units table (take n old.points)) found →

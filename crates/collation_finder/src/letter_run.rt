@@ -6,7 +6,7 @@ ghost use Rattle.std.specs.Prelude.{◌≡◌, ℕ, ◌+◌, ◌≤◌, List, []
 ghost use Rattle.std.specs.Char.{len_utf8};
 ghost use Rattle.std.specs.Str.{chars, IsUtf8};
 ghost use Rattle.utf8_cut.specs.Sequences.{SpellsCharacter};
-ghost use Rattle.collation_letters.specs.Letters.{IsLetter, is_mark};
+ghost use Rattle.collation_letters.specs.Letters.{IsLetter};
 ghost use Rattle.collation_letters.specs.Store.{AreLetters};
 ghost use Rattle.collation_finder.specs.LetterRun.{StandsInFront};
 

@@ -5,6 +5,7 @@ use Rattle.unicode_normalization.specs.StreamSafe.{has_short_runs}
 use Rattle.nfd_points.specs.declared.points.Point.{Point}
 use Rattle.std.specs.List.{Contains}
 use Rattle.nfd_points.specs.Reordering.{IsSoundPoint, code_points, is_closed}
+use Rattle.collation_elements.proofs.Cutting.{is_closed-drop}
 use Rattle.collation_elements.proofs.LeftPoints.{short-drop}
 use Rattle.nfd_points.specs.Laws.{PointsAreDecomposed, WaitingAreOthers}
 use Rattle.collation_table.specs.Table.{TableMap}
@@ -13,7 +14,7 @@ use Rattle.collation_finder.specs.declared.finder.Finder.{Finder}
 use Rattle.collation_finder.specs.Apart.{IsDecomposed, AreDecomposed}
 use Rattle.collation_finder.specs.Finding.{FinderStandsFor}
 use Rattle.collation_finder.specs.Matching.{HasMatched}
-use Rattle.collation_finder.proofs.PointLetters.{closed-drop, left-of, matched-cut}
+use Rattle.collation_finder.proofs.PointLetters.{left-of, matched-cut}
 use Rattle.collation_finder.proofs.finder.Finder.cut_letters.Goals as goal
 
 pub returns-then-len-gt-MOST_GIVEN-clause-cut : goal.returns-then-len-gt-MOST_GIVEN-clause-cut
@@ -38,7 +39,7 @@ invariant_of-self-2 g c =
       capacity = ap (λ w. w.capacity) c.push_points.ensures.points ∙ ap (λ w. w.capacity) c.move_points.ensures.emptied ∙ old.capacity;
       short = old.short;
       undecided = let count = ap length is in let fewer = length-drop n old.window.points in let few = old.undecided in omega (arith, count, fewer, few);
-      closed = ap is_closed is ∙ closed-drop n old.window.points old.closed;
+      closed = ap is_closed is ∙ is_closed-drop n old.window.points old.closed;
       sound = All-same IsSoundPoint _ _ is (All-drop IsSoundPoint n old.window.points old.sound);
       short_runs = ap (λ (ps : List Point). has_short_runs 0 (code_points ps)) is ∙ short-drop 0 n old.window.points old.short_runs;
       state = let state = c.walk_points-len.ensures.keeps.state in omega (arith, state, c.requires.made.pattern_len);
