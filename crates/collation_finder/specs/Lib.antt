@@ -1,6 +1,7 @@
 pub mod Matching
 pub mod Finding
 pub mod Early
+pub mod Taking
 pub mod Apart
 pub mod LetterRun
 pub mod Caches

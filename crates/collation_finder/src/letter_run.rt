@@ -174,16 +174,13 @@ fn joins_next<W: Weights>(
 }
 
 impl Finder {
-    ghost use Rattle.std.specs.Prelude.{◌≡◌, ℕ, ◌+◌, ◌≤◌, List, [], ◌++◌, length, take, false};
-    ghost use Rattle.std.specs.Char.{len_utf8};
-    ghost use Rattle.std.specs.Str.{chars, IsUtf8};
+    ghost use Rattle.std.specs.Prelude.{◌≡◌, ℕ, ◌+◌, ◌≤◌, List, length, take, false};
+    ghost use Rattle.std.specs.Str.{IsUtf8};
     ghost use Rattle.std.specs.List.{FoldsTo};
-    ghost use Rattle.utf8_cut.specs.Sequences.{SpellsCharacter};
-    ghost use Rattle.nfd_points.specs.Points.{byte_len};
     ghost use Rattle.collation_finder.specs.Caches.{AreRight};
     ghost use Rattle.collation_matches.specs.GoodPrefix.{most_bytes};
-    ghost use Rattle.collation_finder.specs.Early.{IsCutUpTo};
-    ghost use Rattle.collation_finder.specs.Finding.{FinderStandsFor, IsMadeFor, KeepsSetup};
+    ghost use Rattle.collation_finder.specs.Finding.{IsMadeFor, KeepsSetup};
+    ghost use Rattle.collation_finder.specs.Taking.{CutsWithin, TakesText};
 
     /// Takes characters at the front of a piece, which stands at a byte offset, and calls the sink once for each range that became
     /// known, in order. It answers how many bytes it took: those up to the first character that it can't take so, or that begins
@@ -206,20 +203,12 @@ impl Finder {
         ensures text { IsUtf8 (take result front.entry.piece.now) }
         ensures taken { (ranges : List (ℕ × ℕ))
             × FoldsTo (λ f range g. F.step f range.0 range.1 tt g) sink.old ranges sink.new
-            × ((taken : List ℕ) (handed : List (ℕ × ℕ))
-            → FinderStandsFor (W.table query.now.table.now) query.now.pattern.now
-            self.old taken handed
-            → front.entry.offset ≡ byte_len taken
-            → FinderStandsFor (W.table query.now.table.now) query.now.pattern.now self.new
-            (taken ++ chars (take result front.entry.piece.now)) (handed ++ ranges)) }
+            × TakesText (W.table query.now.table.now) query.now.pattern.now self.old self.new
+            front.entry.offset (take result front.entry.piece.now) ranges }
         // units may be cut early, but only before a character that does not begin after `reach`
-        ensures left { (place : ℕ) (taken : List ℕ) (handed : List (ℕ × ℕ))
-            → FinderStandsFor (W.table query.now.table.now) query.now.pattern.now
-            self.old taken handed
-            → front.entry.offset ≡ byte_len taken → front.entry.offset + front.entry.reach ≤ place
-            → IsCutUpTo (W.table query.now.table.now) place taken self.old.window.points
-            → IsCutUpTo (W.table query.now.table.now) place (taken ++ chars
-            (take result front.entry.piece.now)) self.new.window.points }
+        ensures left { CutsWithin (W.table query.now.table.now) query.now.pattern.now
+            self.old self.new front.entry.offset front.entry.reach
+            (take result front.entry.piece.now) }
         ensures right { AreRight (W.table query.now.table.now) query.now.pattern.now cache.new }
         ensures open { self.new.window.has_ended ≡ false }
         ensures setup { KeepsSetup self.old self.new }
@@ -254,20 +243,12 @@ impl Finder {
         ensures text { IsUtf8 (take result front.entry.piece.now) }
         ensures taken { (ranges : List (ℕ × ℕ))
             × FoldsTo (λ f range g. F.step f range.0 range.1 tt g) sink.old ranges sink.new
-            × ((taken : List ℕ) (handed : List (ℕ × ℕ))
-            → FinderStandsFor (W.table query.now.table.now) query.now.pattern.now
-            self.old taken handed
-            → front.entry.offset ≡ byte_len taken
-            → FinderStandsFor (W.table query.now.table.now) query.now.pattern.now self.new
-            (taken ++ chars (take result front.entry.piece.now)) (handed ++ ranges)) }
+            × TakesText (W.table query.now.table.now) query.now.pattern.now self.old self.new
+            front.entry.offset (take result front.entry.piece.now) ranges }
         // units may be cut early, but only before a character that does not begin after `reach`
-        ensures left { (place : ℕ) (taken : List ℕ) (handed : List (ℕ × ℕ))
-            → FinderStandsFor (W.table query.now.table.now) query.now.pattern.now
-            self.old taken handed
-            → front.entry.offset ≡ byte_len taken → front.entry.offset + front.entry.reach ≤ place
-            → IsCutUpTo (W.table query.now.table.now) place taken self.old.window.points
-            → IsCutUpTo (W.table query.now.table.now) place (taken ++ chars
-            (take result front.entry.piece.now)) self.new.window.points }
+        ensures left { CutsWithin (W.table query.now.table.now) query.now.pattern.now
+            self.old self.new front.entry.offset front.entry.reach
+            (take result front.entry.piece.now) }
         ensures right { AreRight (W.table query.now.table.now) query.now.pattern.now cache.new }
         ensures open { self.new.window.has_ended ≡ false }
         ensures setup { KeepsSetup self.old self.new }
