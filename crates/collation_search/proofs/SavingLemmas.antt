@@ -2,6 +2,7 @@
 use Rattle.std.proofs.Common.{◌≡◌, ℕ, zero, suc, ◌+◌, ◌-◌, ◌*◌, ◌≤◌, List, [], ◌∷◌, ◌++◌, length, take, drop, slice_get, Option, Some, None, refl, sym, ap, ◌∙◌, arith, append_assoc, add-one, Result, Ok, Err, OnErr, true, false, is_some}
 use Rattle.std.proofs.lemmas.List.{append-nil, length-drop, length-map}
 use Rattle.utf8_cut.specs.Value.{CutState}
+use Rattle.nfd_points.specs.declared.limits.TheConstants.{MOST_WAITING}
 use Rattle.collation_table.specs.Table.{longest_mapped}
 use Rattle.collation_matches.specs.declared.faults.TextFault.{TextFault}
 use Rattle.collation_matches.specs.declared.select.Select.{Select}
@@ -67,7 +68,7 @@ head_len-records All = refl
 head_len-records Chain = refl
 
 pub state-records : StatesAreRecords → (s : Sought) (cut : CutState) (finder : Finder) (fault : Option TextFault) →
-    finder.matcher.walk.state ≤ length s.pattern.keys → length finder.window.points ≤ longest_mapped s.table → length finder.reorder.held ≤ 30 →
+    finder.matcher.walk.state ≤ length s.pattern.keys → length finder.window.points ≤ longest_mapped s.table → length finder.reorder.held ≤ MOST_WAITING →
     HasRecords (words (sizes_of s) (state_of s.pattern cut finder fault)) (most_records s)
 state-records law s cut finder (Some fault) state window waiting =
     (records_before s.select, omega arith, omega (arith, law (sizes_of s) (reported fault), head_len-records s.select))
