@@ -90,8 +90,24 @@ def code_points(points):
     return tuple(point[0] for point in points)
 
 
+class LargeRows(dict):
+    """The rows of a large table, which stay as they are: what is asked of all of them is found once."""
+
+    @functools.cached_property
+    def longest_string(self):
+        return max(map(len, self))
+
+    @functools.cached_property
+    def longest_row(self):
+        return max(map(len, self.values()))
+
+
 def longest_string(rows):
-    return max(map(len, rows))
+    return rows.longest_string if isinstance(rows, LargeRows) else max(map(len, rows))
+
+
+def longest_row(rows):
+    return rows.longest_row if isinstance(rows, LargeRows) else max(map(len, rows.values()))
 
 
 def prefix_length(rows, points):
@@ -252,9 +268,8 @@ def answer(table, strength, is_shifted, is_chain, pattern, data):
     return chain(found) if is_chain else found, fault
 
 
-def printed(table, strength, is_shifted, output, is_chain, pattern, data):
-    """The status, and what goes to standard output and standard error."""
-    found, fault = answer(table, strength, is_shifted, is_chain, pattern, data)
+def printed(found, fault, output):
+    """The status, and what goes to standard output and standard error, where these ranges are handed out, and this is the fault."""
     lines = lines_of(found, output)
     if fault:
         return 2, lines, fault_line(*fault)[2]

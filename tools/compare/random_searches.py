@@ -1,7 +1,8 @@
 """Compares what colfind prints with what model.py gives, on random small tables, tailors, patterns and texts, for the whole
-command: strengths, weightings, forms of output, texts in files and from standard input, there in pieces of all sizes.
+command: strengths, weightings, forms of output, selections, texts in files and from standard input, there in pieces of all sizes. Where
+a TABLE is given all searches are with that one, over texts of all scripts of tools/bench.
 
-    python3 random_searches.py COLFIND SEED TABLES
+    python3 random_searches.py COLFIND SEED SEARCHES [TABLE]
 """
 
 import os
@@ -12,12 +13,15 @@ import tempfile
 import unicodedata
 
 import model
+import scripts
 
 LETTERS = [0x61, 0x62, 0x63, 0x65, 0x68, 0x75]
 MARKS = [0x300, 0x301, 0x323, 0x327, 0x345, 0xF71, 0xF72]
 OTHERS = [0x20, 0x2D, 0xAD, 0xE9, 0xFA, 0x344, 0xF73, 0x1100, 0x1161, 0x11A8, 0x1EAD, 0x20DD]
 OTHERS += [0x2F00, 0x4E00, 0xAC01, 0x17005, 0x1D15E]
 BASES = LETTERS + [0x20, 0x2D, 0xAD, 0x1100, 0x1161, 0x20DD, 0x2F00, 0x4E00]
+LONGEST = 1_000_000  # the most bytes of quiet text
+LONG_DATA = 10_000  # from so many bytes on pieces are long
 MALFORMED = ["61 ; [.1C00.0020.0002]", "0061 ; [.1c00.0020.0002]", "0061 ;", "0061 ; [.1C00.0020.0002"]
 
 # ---- tables; a sane one is mostly well formed
@@ -158,19 +162,34 @@ def random_bytes(choice, text):
     return data[:place] if kind < 0.12 else data
 
 
+class Text:
+    """A short text and a pattern."""
+
+    def __init__(self, pattern, data):
+        self.pattern, self.data = pattern, data
+
+    def answer(self, table, strength, is_shifted, is_chain):
+        return model.answer(table, strength, is_shifted, is_chain, self.pattern.encode(), self.data)
+
+
+def any_text(choice):
+    text = random_runs(choice) if choice.random() < 0.4 else random_text(choice, 14)
+    return Text(random_pattern(choice, text), random_bytes(choice, text))
+
+
 # ---- commands
 
 
 class Search:
     """The settings of one search, and where its text stands."""
 
-    def __init__(self, choice):
+    def __init__(self, choice, given):
         self.strength, self.is_shifted = choice.choice([1, 2, 3]), choice.random() < 0.5
         self.output = choice.choice(["ranges", "ranges", "count", "marks"])
         self.is_chain = choice.random() < 0.5
         self.is_in_file = choice.random() < 0.3
-        text = random_runs(choice) if choice.random() < 0.4 else random_text(choice, 14)
-        self.pattern, self.data = random_pattern(choice, text), random_bytes(choice, text)
+        self.text = given.text(choice, random_bytes, LONGEST) if given else any_text(choice)
+        self.pattern, self.data = self.text.pattern, self.text.data
         kind = choice.random()
         self.lacks = None if kind > 0.02 else choice.choice(["words", "table", "tailor", "text"])
 
@@ -214,14 +233,12 @@ class Search:
         kind = model.pattern_fault(table, self.strength, self.is_shifted, self.pattern.encode())
         if kind or self.lacks == "text":
             return model.fault_line(kind or 41, 0)
-        return model.printed(
-            table, self.strength, self.is_shifted, self.output, self.is_chain, self.pattern.encode(), self.data
-        )
+        return model.printed(*self.text.answer(table, self.strength, self.is_shifted, self.is_chain), self.output)
 
 
 def pieces(choice, data):
     """The data cut at random."""
-    most = choice.choice([1, 2, 5, 40, 1000])
+    most = choice.choice([1, 2, 5, 40, 1000] if len(data) < LONG_DATA else [5000, len(data)])
     place = 0
     while place < len(data):
         size = choice.randrange(1, most + 1)
@@ -246,9 +263,13 @@ def given(choice, words, data):
 
 
 class Comparison:
-    def __init__(self, colfind, choice, folder):
-        self.colfind, self.choice = colfind, choice
+    """Random searches by a program: over random tables, or where `given` is some texts of scripts, over their table."""
+
+    def __init__(self, colfind, choice, folder, given=None, table=None):
+        self.colfind, self.choice, self.given = colfind, choice, given
         self.paths = {name: os.path.join(folder, name) for name in ("table", "tailor", "text", "none")}
+        if table:
+            self.paths["table"] = table
         self.searches = self.with_matches = self.with_faults = self.different = 0
 
     def write(self, name, data):
@@ -257,13 +278,17 @@ class Comparison:
 
     def try_table(self):
         choice = self.choice
+        if self.given:
+            search = Search(choice, self.given)
+            self.compare(search, [], None, search.wanted(self.given.table, None))
+            return
         lines = random_lines(choice, 16)
         tailor = random_tailor(choice, lines) if choice.random() < 0.3 else None
         self.write("table", spelled_file(choice, lines).encode())
         self.write("tailor", spelled_file(choice, tailor or []).encode())
         table, fault = model.table_of(lines, tailor or [])
         for _ in range(1 if fault else 6):
-            search = Search(choice)
+            search = Search(choice, None)
             self.compare(search, lines, tailor, search.wanted(table, fault))
 
     def compare(self, search, lines, tailor, wanted):
@@ -281,10 +306,12 @@ class Comparison:
 
 
 def main():
-    colfind, seed, tables = os.path.abspath(sys.argv[1]), int(sys.argv[2]), int(sys.argv[3])
+    colfind, seed, most = os.path.abspath(sys.argv[1]), int(sys.argv[2]), int(sys.argv[3])
+    table = os.path.abspath(sys.argv[4]) if len(sys.argv) > 4 else None
+    given = scripts.Scripts(scripts.read_table(table), seed) if table else None
     with tempfile.TemporaryDirectory() as folder:
-        compared = Comparison(colfind, random.Random(seed), folder)
-        for _ in range(tables):
+        compared = Comparison(colfind, random.Random(seed), folder, given, table)
+        while compared.searches < most:
             compared.try_table()
     print(
         f"seed {seed}: {compared.searches} searches, {compared.with_matches} with matches,"

@@ -126,7 +126,7 @@ class State:
         """The words; `ranges` are those of the whole text that are handed out in the end."""
         rows = self.table[0]
         form = FORM_OF_CHAIN if is_chain else FORM_OF_ALL
-        words = [form, len(self.pattern_keys), model.longest_string(rows), max(2, *(len(row) for row in rows.values()))]
+        words = [form, len(self.pattern_keys), model.longest_string(rows), max(2, model.longest_row(rows))]
         words += [self.strength, int(self.is_shifted)]
         if self.fault:
             kind, offset = self.fault

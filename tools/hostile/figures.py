@@ -1,9 +1,6 @@
 """How long colfind takes over hostile tables and texts, and that it answers what it must there.
 
     python3 figures.py COLFIND [tables|texts]
-    python3 figures.py COLFIND ways STEPS
-
-The last one compares with STEPS, a build that takes no letters and passes nothing by (see `steps`).
 
 Each figure is processor time, the best of three runs; seconds of one program beside those of another only mean something
 in one run of this script. A line that begins with `wrong` is an answer that is not the one that must come.
@@ -17,7 +14,6 @@ import tempfile
 import unicodedata
 
 LETTERS = os.path.join(os.path.dirname(os.path.abspath(__file__)), "..", "..", "docs", "example", "letters.txt")
-CLDR = "/usr/share/unicode/cldr/common/uca/allkeys_CLDR.txt"
 MEGABYTE = 1 << 20
 PLAIN_MEGABYTES = 64  # that the time of plain text is measured over
 ROUNDS = 3
@@ -234,58 +230,6 @@ def texts(bench):
         print(f"| {case[0]} | {one:.3f} | {four:.3f} | {four / max(one, 1e-3):.1f} | {four / 4 / plain:.1f} |", flush=True)
 
 
-def assigned(choice):
-    """All assigned characters, shuffled."""
-    characters = [c for c in map(chr, range(0x20, 0x30000)) if unicodedata.category(c) not in ("Cn", "Cs", "Co", "Cc")]
-    choice.shuffle(characters)
-    return "".join(characters)
-
-
-def random_marks(choice):
-    """Letters with up to three marks each, in any order."""
-    marks = "\u0300\u0301\u0323\u0327\u0330\u0345"
-    return "".join(choice.choice("aeiou") + "".join(choice.choice(marks) for _ in range(choice.randrange(4))) for _ in range(20000))
-
-
-def ways(bench, steps):
-    """Texts aimed at the ways that a search takes, each with the same text by steps alone."""
-    choice, prose = random.Random(2), plain_text(1 << 13).decode()
-    blocks = "".join(map(chr, range(0x4E00, 0x9F00, 0x100)))
-    chosen = "".join(choice.choice(blocks) + chr(0x4E00 + choice.randrange(0x5000)) for _ in range(20000))
-    thai = "\u0e44\u0e17\u0e22 "
-    # A name, the pattern, and the text that is repeated.
-    cases = [
-        ("plain text, no match", "zz", prose),
-        ("two characters that share a place", "zz", "\u4e00\U00024e00"),
-        ("pairs that share a place", "zz", "\u0e40\u0e01\u0e41\u0e02\u0e42\u0e03\u0ec0\u0e81\u0ec1\u0e82"),
-        ("a word of ASCII, one of Thai, a smile, in turn", "zz", "words " + thai + "\U0001f600 "),
-        ("marks in and out of order in turn", "zz", "e\u0327\u0301e\u0301\u0327"),
-        ("letters with any marks", "zz", random_marks(choice)),
-        ("a mark at each second character", "zz", "e\u0301"),
-        ("a contraction at each third character", "zz", "a\u0e40\u0e01"),
-        ("a unit left to the steps at each second character", "zz", "a\u0f71\u0f72"),
-        ("the first key at each character", "ab", "a"),
-        ("the first two keys at each 17th byte", "abc", "ab" + "m" * 15),
-        ("the first two keys at each 17th byte, past ASCII", "\u0436\u0437\u0438", "\u0436\u0437" + "\u043c" * 7 + "m"),
-        ("the pattern but for its last key, again and again", "abababac", "ababab"),
-        ("a character of another block at each character", "zz", chosen),
-        ("all assigned characters in any order", "zz", assigned(choice)),
-        ("plain text with Thai every 20 bytes", "zz", "a plain text of so " + thai),
-        ("one line of Polish, a match in each", "ksi", "Ta ksi\u0105\u017cka jest moja.\n"),
-    ]
-    print()
-    print("| text | pattern | seconds, 4 MB | by steps alone | times as fast |")
-    print("|---|---|---|---|---|")
-    other = Bench(steps, bench.folder)
-    none, words = bench.file("none", b""), ["--table", CLDR, "--strength", "1", "--output", "count", "--"]
-    for name, pattern, part in cases:
-        text = bench.file("text", repeated(part, 4 * MEGABYTE))
-        wanted, _ = other.once(words + [pattern], text)
-        both = [one.seconds(name, words + [pattern], text, wanted) - one.seconds(name, words + [pattern], none, counted(0)) for one in (bench, other)]
-        print(f"| {name} | `{pattern}` | {both[0]:.3f} | {both[1]:.3f} | {both[1] / max(both[0], 1e-3):.1f} |", flush=True)
-    bench.wrong += other.wrong
-
-
 def main():
     if len(sys.argv) < 2:
         sys.exit(__doc__)
@@ -294,10 +238,9 @@ def main():
         for part in (tables, texts):
             if len(sys.argv) < 3 or sys.argv[2] == part.__name__:
                 part(bench)
-        if sys.argv[2:3] == ["ways"]:
-            ways(bench, os.path.abspath(sys.argv[3]))
     print(f"\n{bench.wrong} wrong answers")
     sys.exit(1 if bench.wrong else 0)
 
 
-main()
+if __name__ == "__main__":
+    main()

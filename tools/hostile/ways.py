@@ -1,0 +1,202 @@
+"""How long colfind takes over texts aimed at the ways that a search takes, beside builds that take fewer of them.
+
+    python3 ways.py COLFIND LETTERS STEPS
+
+LETTERS takes letters and passes nothing by; STEPS goes by steps alone. Both are made by `steps`. Each figure is processor time over
+4 MB, the best of five runs, one program after the other, with the time of an empty text taken off. Two numbers of matches are compared,
+that of the pattern and that of a few characters of the text itself. A line that begins with `wrong` is an answer, or memory, that is not
+what it must be.
+"""
+
+import os
+import random
+import subprocess
+import sys
+import tempfile
+import unicodedata
+
+from figures import MEGABYTE, Bench, plain_text
+
+CLDR = "/usr/share/unicode/cldr/common/uca/allkeys_CLDR.txt"
+ROUNDS = 5
+SIZE = 4 * MEGABYTE
+MOST_MEMORY = 15  # megabytes
+PIECE = 4096  # the bytes that the program reads at once
+SHIFTED = "--variable", "shifted"
+RUSSIAN, THAI, HAN = "\u043f\u0440\u043e\u0441\u0442\u043e\u0439 ", "\u0e44\u0e17\u0e22 ", "\u4e2d\u6587\u5b57\u3002"
+
+
+# ---- texts; each is repeated
+
+
+def assigned():
+    """All assigned characters in order."""
+    return [c for c in map(chr, range(0x20, 0x30000)) if unicodedata.category(c) not in ("Cn", "Cs", "Co", "Cc")]
+
+
+def with_short_runs(characters):
+    """The characters with a letter behind each twenty marks in a row: thirty-one are a fault."""
+    parts, run = [], 0
+    for c in characters:
+        run = run + 1 if unicodedata.combining(c) else 0
+        parts.append(c)
+        if run == 20:
+            parts.append("a")
+            run = 0
+    return "".join(parts)
+
+
+def any_marks(choice):
+    """Letters with up to three marks each, in any order."""
+    marks = "\u0300\u0301\u0323\u0327\u0330\u0345"
+    return "".join(choice.choice("aeiou") + "".join(choice.choice(marks) for _ in range(choice.randrange(4))) for _ in range(20000))
+
+
+def other_blocks(choice):
+    """Han, each second character at the beginning of a block of 256."""
+    blocks = "".join(map(chr, range(0x4E00, 0x9F00, 0x100)))
+    return "".join(choice.choice(blocks) + chr(0x4E00 + choice.randrange(0x5000)) for _ in range(20000))
+
+
+def any_code_points(choice):
+    """Code points of one to four bytes, those of each length as often as the others; runs of marks stay short."""
+    ranges = ((0x20, 0x80), (0x80, 0x800), (0x800, 0xD800), (0x10000, 0x110000))
+    return "".join(chr(choice.randrange(*choice.choice(ranges))) for _ in range(100000))
+
+
+def across_cuts(prose, string):
+    """Plain text with this string across each cut between two pieces that the program reads, one byte more before it each time."""
+    string = string.encode()
+    text = bytearray(repeated(prose, PIECE * len(string)))
+    for before in range(1, len(string)):
+        place = (PIECE - 1) * before
+        text[place : place + len(string)] = string
+    return text.decode()
+
+
+def repeated(part, size):
+    """So many bytes of a text that is repeated, with spaces at the end where a character has no room."""
+    part = part.encode()
+    text = (part * (size // len(part) + 1))[:size].decode("utf-8", "ignore").encode()
+    return text + b" " * (size - len(text))
+
+
+def turns(*parts):
+    """A kilobyte of each."""
+    return "".join(repeated(part, 1024).decode() for part in parts)
+
+
+def cases():
+    """A name, the pattern, the text that is repeated, what stands in front of it once, and options."""
+    choice, prose = random.Random(2), plain_text(1 << 13).decode()
+    foreign = "".join("a plain text of so m" + c for c in "\u0436\u0e01\u4e2d\uac00\u05d0\u0915\u10d0\U0001f600")
+    random_bytes = choice.randbytes(200000)
+    pair, later, seven = "ab" + "m" * 15, "bc" + "m" * 15, "\u043c" * 7 + "m"
+    prevowels = "\u0e40\u0e01\u0e41\u0e02\u0e42\u0e03\u0ec0\u0e81\u0ec1\u0e82"
+    yield "plain text, no match", "zz", prose
+    yield "two characters that share a place", "zz", "\u4e00\U00024e00"
+    yield "pairs that share a place", "zz", prevowels
+    yield "a word of ASCII, one of Thai, a smile, in turn", "zz", "words " + THAI + "\U0001f600 "
+    yield "a kilobyte of ASCII, of Russian, of Thai, of Han, in turn", "zz", turns(prose, RUSSIAN, THAI, HAN)
+    yield "marks in and out of order in turn", "zz", "e\u0327\u0301e\u0301\u0327"
+    yield "letters with any marks", "zz", any_marks(choice)
+    yield "a mark at each second character", "zz", "e\u0301"
+    yield "three marks behind each letter", "zz", "e\u0327\u0323\u0301"
+    yield "four marks behind each letter", "zz", "e\u0327\u0323\u0301\u0345"
+    yield "a contraction at each third character", "zz", "a\u0e40\u0e01"
+    yield "a contraction at each second character", "zz", "\u0e40\u0e01"
+    yield "a contraction across each cut of 4,096 bytes", "zz", across_cuts(prose, "\u0e40\u0e01")
+    yield "a letter and marks across each cut of 4,096 bytes", "zz", across_cuts(prose, "e\u0327\u0301")
+    yield "a unit left to the steps at each second character", "zz", "a\u0f71\u0f72"
+    yield "the first key at each character", "ab", "a"
+    yield "the first eight keys at each character", "a" * 9 + "b", "a"
+    yield "a match at each character", "a", "a"
+    yield "the first two keys at each 17th byte", "abc", pair
+    yield "the first two keys at each 17th byte, past ASCII", "\u0436\u0437\u0438", "\u0436\u0437" + seven
+    yield "each two keys of the pattern at each 34th byte", "aba", pair + "ba" + "m" * 15
+    yield "two keys that are rare in the first kilobyte, then at each 17th byte", "abc", later, pair * 61
+    yield "the same past ASCII, behind a megabyte", "\u0436\u0437\u0438", "\u0437\u0438" + seven, ("\u0436\u0437" + seven) * 55000
+    yield "the pattern but for its last key, again and again", "abababac", "ababab"
+    yield "the same, pattern of 1,000 keys", "ab" * 500 + "c", "ab"
+    yield "a character of another block at each character", "zz", other_blocks(choice)
+    yield "all assigned characters in order", "zz", with_short_runs(assigned())
+    yield "all assigned characters in any order", "zz", with_short_runs(choice.sample(assigned(), len(assigned())))
+    yield "random bytes, without those that are ill-formed", "zz", random_bytes.decode("utf-8", "ignore")
+    yield "random bytes, as Latin-1", "zz", random_bytes.decode("latin-1")
+    yield "any code points", "zz", any_code_points(choice)
+    yield "plain text with Thai every 20 bytes", "zz", "a plain text of so " + THAI
+    yield "plain text with a letter of another script every 20 bytes", "zz", foreign
+    yield "Russian with a character of Han every 20 bytes", "zz", "\u043f\u0440\u043e\u0441\u0442\u043e\u0439 \u0442\u0435\u4e2d"
+    yield "letters and commas in turn, shifted", "zz", "a,", "", SHIFTED
+    yield "one line of Polish, a match in each", "ksi", "Ta ksi\u0105\u017cka jest moja.\n"
+
+
+# ---- runs
+
+
+def own_pattern(part):
+    """The first few characters behind the middle of a text that begin with a letter and can stand in a command."""
+    place = len(part) // 2
+    while not part[place].isalpha() or "\0" in part[place : place + 3]:
+        place = (place + 1) % len(part)
+    return part[place : place + 3]
+
+
+def matches(bench, name, words, text, others):
+    """How many matches the first program finds; the others must answer the same."""
+    answer, _ = bench.once(words, text)
+    for other in others:
+        if other.once(words, text)[0] != answer:
+            bench.wrong += 1
+            print(f"wrong: {name}, {words[-1]}: {answer}, {other.once(words, text)[0]} by {other.colfind}")
+    return f"{int(answer[1]):,}" if answer[1] else answer[2].decode().strip()
+
+
+def best_seconds(benches, words, text, none):
+    """The best time of each program, which run one after the other."""
+    runs = [[(bench.once(words, text)[1], bench.once(words, none)[1]) for bench in benches] for _ in range(ROUNDS)]
+    bests = [[min(times) for times in zip(*of_one)] for of_one in zip(*runs)]
+    return [max(whole - empty, 1e-4) for whole, empty in bests]
+
+
+def megabytes(bench, words, text):
+    """The most memory of a run."""
+    with open(text, "rb") as data:
+        ran = subprocess.run(["/usr/bin/time", "-f", "%M", bench.colfind, *words], stdin=data, capture_output=True, check=False)
+    return int(ran.stderr.split()[-1]) / 1024
+
+
+def row(benches, name, pattern, part, front="", options=()):
+    """Measures and prints a row: the seconds beside each of the other programs, and the megabytes."""
+    bench, others = benches[0], benches[1:]
+    text, none = bench.file("text", front.encode() + repeated(part, SIZE - len(front.encode()))), bench.file("none", b"")
+    words = ["--table", CLDR, "--strength", "1", "--output", "count", *options, "--"]
+    numbers = [matches(bench, name, words + [sought], text, others) for sought in (pattern, own_pattern(part))]
+    seconds, memory = best_seconds(benches, words + [pattern], text, none), megabytes(bench, words + [pattern], text)
+    if memory > MOST_MEMORY:
+        bench.wrong += 1
+        print(f"wrong: {name}: {memory:.1f} MB")
+    beside = [seconds[0] / other for other in seconds[1:]]
+    sought = f"`{pattern}`" if len(pattern) < 20 else f"{len(pattern):,} letters"
+    figures = [f"{figure:.4f}" for figure in seconds] + [f"{ratio:.2f}" for ratio in beside] + [f"{memory:.1f}"]
+    print("| " + " | ".join([name, sought, *numbers, *figures]) + " |", flush=True)
+    return [*beside, memory]
+
+
+def main():
+    if len(sys.argv) != 4:
+        sys.exit(__doc__)
+    headings = ["text", "pattern", "matches", "of some of its characters", "seconds, 4 MB", "by letters alone", "by steps alone"]
+    headings += ["beside letters", "beside steps", "MB"]
+    print("| " + " | ".join(headings) + " |\n|" + "---|" * len(headings))
+    with tempfile.TemporaryDirectory() as folder:
+        benches = [Bench(os.path.abspath(path), folder) for path in sys.argv[1:]]
+        rows = [row(benches, *case) for case in cases()]
+    letters, steps, memory = map(max, zip(*rows))
+    print(f"\nAt most {letters:.2f} times as long as by letters alone, {steps:.2f} times as by steps alone; {memory:.1f} MB")
+    print(f"\n{benches[0].wrong} wrong answers")
+    sys.exit(1 if benches[0].wrong else 0)
+
+
+if __name__ == "__main__":
+    main()
