@@ -4,7 +4,7 @@
 
 LETTERS takes letters and passes nothing by; STEPS goes by steps alone. Both are made by `steps`. Each figure is processor time over
 4 MB, the best of five runs, one program after the other, with the time of an empty text taken off. Two numbers of matches are compared,
-that of the pattern and that of a few characters of the text itself. A line that begins with `wrong` is an answer, or memory, that is not
+that of the pattern and that of two characters of the text itself. A line that begins with `wrong` is an answer, or memory, that is not
 what it must be.
 """
 
@@ -135,11 +135,9 @@ def cases():
 
 
 def own_pattern(part):
-    """The first few characters behind the middle of a text that begin with a letter and can stand in a command."""
-    place = len(part) // 2
-    while not part[place].isalpha() or "\0" in part[place : place + 3]:
-        place = (place + 1) % len(part)
-    return part[place : place + 3]
+    """Two characters of a text, of which the first is a letter; that one, or else the second, is past ASCII if there are such ones."""
+    pairs = [part[place : place + 2] for place, c in enumerate(part) if c.isalpha() and part[place + 1 : place + 2] != "\0"]
+    return min(pairs, key=lambda pair: (pair[0].isascii(), pair.isascii()))
 
 
 def matches(bench, name, words, text, others):
@@ -186,7 +184,7 @@ def row(benches, name, pattern, part, front="", options=()):
 def main():
     if len(sys.argv) != 4:
         sys.exit(__doc__)
-    headings = ["text", "pattern", "matches", "of some of its characters", "seconds, 4 MB", "by letters alone", "by steps alone"]
+    headings = ["text", "pattern", "matches", "of two of its characters", "seconds, 4 MB", "by letters alone", "by steps alone"]
     headings += ["beside letters", "beside steps", "MB"]
     print("| " + " | ".join(headings) + " |\n|" + "---|" * len(headings))
     with tempfile.TemporaryDirectory() as folder:
