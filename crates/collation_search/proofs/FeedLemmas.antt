@@ -202,11 +202,21 @@ module _ {W : Type 0} {G : Ghosts W} where
     same_sought = same;
   }
 
+  -- nothing was taken, and the search was put together again of the same parts
+  pub takes-kept : (old parts new : Search W G) (reach : ℕ) → new ≡ parts → old.fault ≡ None → parts.fault ≡ None → sought parts ≡ sought old →
+      ((place : ℕ) (u : List ℕ) (handed : List (ℕ × ℕ)) → HasTaken old place u handed → HasTaken parts place u handed) → Takes old reach [] (Ok tt) [] new
+  takes-kept old parts new reach is none_before none same stands =
+      subst (λ (s : Search W G). Takes old reach [] (Ok tt) [] s) (sym is)
+      (takes-good old parts reach [] [] none_before none same
+      (λ place u handed h.
+      subst (λ t. HasTaken parts place t (handed ++ [])) (sym (append-nil u))
+      (subst (λ (t : List (ℕ × ℕ)). HasTaken parts place u t) (sym (append-nil handed)) (stands place u handed h.1))))
+
   -- ---- a whole piece
 
   -- where none was cut early, or where enough starters follow the place
   searched-from : (search : Search W G) (place : ℕ) (u : List ℕ) (handed : List (ℕ × ℕ)) → (h : HasTaken search place u handed) →
-      search.finder.window.points ≡ left_points (sought search).table (final_points (chars (whole u))) → HasSearched search u handed
+      search.finder.value.window.points ≡ left_points (sought search).table (final_points (chars (whole u))) → HasSearched search u handed
   searched-from search place u handed h left = record {
     cut_stands = h.cut_stands;
     found = h.found;
@@ -230,12 +240,12 @@ module _ {W : Type 0} {G : Ghosts W} where
       ((place : ℕ) → (0 < reach → length u + reach ≤ place) → HasTaken b place (u ++ piece) handed) → HasSearched b (u ++ piece) handed
   made_good short law b zero u piece handed enough taken =
       let h = taken 0 (λ some. absurd (omega (arith, some))) in
-      searched-from b 0 (u ++ piece) handed h (made-good_none (sought b).table (chars (whole (u ++ piece))) b.finder.window.points h.left)
+      searched-from b 0 (u ++ piece) handed h (made-good_none (sought b).table (chars (whole (u ++ piece))) b.finder.value.window.points h.left)
   made_good short law b (suc reach) u piece handed enough taken =
       let place = length u + suc reach in
       let h = taken place (λ some. omega arith) in
       let follow = enough u h.open_bytes (omega arith) in
-      searched-from b place (u ++ piece) handed h (made-good short law (sought b).table place (chars (whole (u ++ piece))) b.finder.window.points (omega (arith, follow)) h.left)
+      searched-from b place (u ++ piece) handed h (made-good short law (sought b).table place (chars (whole (u ++ piece))) b.finder.value.window.points (omega (arith, follow)) h.left)
 
   -- what was taken of a whole piece, of which enough was left to the steps, is what steps alone make of it
   pub feeds-of : StateLaws → DecompositionsAreShort → EarlyCutsAreMadeGood → (a b : Search W G) (reach : ℕ) (piece : List ℕ) (r : Result (Unit {0}) TextFault) (found : List (ℕ × ℕ)) →
@@ -277,7 +287,7 @@ module _ {W : Type 0} {G : Ghosts W} where
       reported : (u : List ℕ) (handed : List (ℕ × ℕ)) → HasSearched b (u ++ piece) (handed ++ found) → IsReported (sought a) (u ++ piece) (handed ++ found) None
       reported u handed now =
           subst (λ s. IsReported s (u ++ piece) (handed ++ found) None) t.same_sought
-          (reported-known laws (sought b) b.cut b.finder b.fault (u ++ piece) (handed ++ found) now refl, fault-known laws (sought b) b.cut b.finder b.fault (u ++ piece) (handed ++ found) now refl)
+          (reported-known laws (sought b) b.cut b.finder.value b.fault (u ++ piece) (handed ++ found) now refl, fault-known laws (sought b) b.cut b.finder.value b.fault (u ++ piece) (handed ++ found) now refl)
 
   -- where none is cut early
   pub feeds-steps : StateLaws → DecompositionsAreShort → EarlyCutsAreMadeGood → (a b : Search W G) (piece : List ℕ) (r : Result (Unit {0}) TextFault) (found : List (ℕ × ℕ)) →

@@ -42,17 +42,17 @@ back-of laws s state all a = ap (state_in s.select) a.are ∙ laws.back (sizes_o
 
 -- one that goes on
 record GoesOnWith {W : Type 0} {G : Ghosts W} (saved : Search W G) (s : Sought) (all taken : List ℕ) (handed : List (ℕ × ℕ)) : Type 0 where
-  searched : Searched s.table s.pattern saved.cut saved.finder None taken handed
-  goes_on : saved.finder.window.has_ended ≡ false
-  longest : saved.finder.longest_key ≡ longest_mapped s.table
-  select : saved.finder.matcher.walk.select ≡ s.select
-  of : AreOf s (open_state s.pattern saved.cut saved.finder) all
+  searched : Searched s.table s.pattern saved.cut saved.finder.value None taken handed
+  goes_on : saved.finder.value.window.has_ended ≡ false
+  longest : saved.finder.value.longest_key ≡ longest_mapped s.table
+  select : saved.finder.value.matcher.walk.select ≡ s.select
+  of : AreOf s (open_state s.pattern saved.cut saved.finder.value) all
 
 goes-on-with : {W : Type 0} {G : Ghosts W} (laws : SavedLaws) (saved : Search W G) (s : Sought) (all taken : List ℕ) (handed : List (ℕ × ℕ)) → AreSaved saved s all taken handed → GoesOnWith saved s all taken handed
 goes-on-with laws saved s all taken handed a =
     let none : saved.fault ≡ None = a.2.no_fault in
-    let searched = subst (λ (f : Option TextFault). Searched s.table s.pattern saved.cut saved.finder f taken handed) none
-    (subst (λ (t : Sought). Searched t.table t.pattern saved.cut saved.finder saved.fault taken handed) a.0 a.2) in
+    let searched = subst (λ (f : Option TextFault). Searched s.table s.pattern saved.cut saved.finder.value f taken handed) none
+    (subst (λ (t : Sought). Searched t.table t.pattern saved.cut saved.finder.value saved.fault taken handed) a.0 a.2) in
     let goes_on = saved.«open» none in
     let longest = saved.longest ∙ saved.query.longest ∙ ap (λ (t : Sought). longest_mapped t.table) a.0 in
     let select = ap (λ (t : Sought). t.select) a.0 in
@@ -62,9 +62,9 @@ goes-on-with laws saved s all taken handed a =
       longest = longest;
       select = select;
       of = record {
-        are = a.1 ∙ ap (λ (t : Sought). words (sizes_of t) (state_of t.pattern saved.cut saved.finder saved.fault)) a.0
-            ∙ ap (λ (f : Option TextFault). words (sizes_of s) (state_of s.pattern saved.cut saved.finder f)) none;
-        may = inl (is-open laws s saved.cut saved.finder taken handed searched goes_on longest select);
+        are = a.1 ∙ ap (λ (t : Sought). words (sizes_of t) (state_of t.pattern saved.cut saved.finder.value saved.fault)) a.0
+            ∙ ap (λ (f : Option TextFault). words (sizes_of s) (state_of s.pattern saved.cut saved.finder.value f)) none;
+        may = inl (is-open laws s saved.cut saved.finder.value taken handed searched goes_on longest select);
       };
     }
 
@@ -73,8 +73,8 @@ reported-of : {W : Type 0} {G : Ghosts W} (saved : Search W G) (s : Sought) (all
 reported-of saved s all f a =
     let k = saved.kept f a.2 in
     record {
-      are = a.1 ∙ ap (λ (t : Sought). words (sizes_of t) (state_of t.pattern saved.cut saved.finder saved.fault)) a.0
-          ∙ ap (λ (o : Option TextFault). words (sizes_of s) (state_of s.pattern saved.cut saved.finder o)) a.2;
+      are = a.1 ∙ ap (λ (t : Sought). words (sizes_of t) (state_of t.pattern saved.cut saved.finder.value saved.fault)) a.0
+          ∙ ap (λ (o : Option TextFault). words (sizes_of s) (state_of s.pattern saved.cut saved.finder.value o)) a.2;
       may = inr (has-ended f k.0 k.1 k.2);
     }
 
@@ -85,7 +85,7 @@ pub keeps-saved : {W : Type 0} {G : Ghosts W} (laws : SavedLaws) (result : Resul
 keeps-saved laws result s all kind fault = record {
   searched = λ saved taken handed a.
       let o = goes-on-with laws saved s all taken handed a in
-      let no : None ≡ Some kind = sym (accepted-of laws s (open_state s.pattern saved.cut saved.finder) all o.of) ∙ fault in cc;
+      let no : None ≡ Some kind = sym (accepted-of laws s (open_state s.pattern saved.cut saved.finder.value) all o.of) ∙ fault in cc;
   reported = λ saved f a. let no : None ≡ Some kind = sym (accepted-of laws s (reported f) all (reported-of saved s all f a)) ∙ fault in cc;
 }
 
@@ -114,17 +114,17 @@ unfolding points_from ordered
 none-given w given h = none-before given (ordered (w.held ++ points_from 0 [])) (h.continues [])
 
 -- its window is empty
-pub new-window : {W : Type 0} {G : Ghosts W} (new : Search W G) → HasSearched new [] [] → new.finder.window.points ≡ []
+pub new-window : {W : Type 0} {G : Ghosts W} (new : Search W G) → HasSearched new [] [] → new.finder.value.window.points ≡ []
 unfolding chars is_utf8 utf8_valid_len encode_utf8 fault_from
 new-window new h =
-    let none = none-given new.finder.reorder h.found.points h.found.reordered in
-    none-contained new.finder.window.points (subst (λ (ps : List Point). AllOf (Contains ps) new.finder.window.points) none h.found.matched.kept)
+    let none = none-given new.finder.value.reorder h.found.points h.found.reordered in
+    none-contained new.finder.value.window.points (subst (λ (ps : List Point). AllOf (Contains ps) new.finder.value.window.points) none h.found.matched.kept)
 
 -- ---- what goes on
 
 -- a search at the state that the words say
 pub goes-on : {W : Type 0} {G : Ghosts W} (laws : SavedLaws) (new : Search W G) (s : Sought) (all : List ℕ) (state : State) → state ≡ state_in s.select all →
-    sought new ≡ s → new.fault ≡ state.fault → IsRestored s state new.finder →
+    sought new ≡ s → new.fault ≡ state.fault → IsRestored s state new.finder.value →
     ((cut : CutState) (bytes : List ℕ) (given : List (ℕ × ℕ)) → StandsFor cut bytes given → cut.is_bad ≡ false → cut.held ≡ state.held → cut.count ≡ state.taken → StandsFor new.cut bytes given) →
     GoesOn new s all
 goes-on {W} {G} laws new s all state said same fault restored cut = record {
@@ -136,12 +136,12 @@ goes-on {W} {G} laws new s all state said same fault restored cut = record {
     stands : (saved : Search W G) (taken : List ℕ) (handed : List (ℕ × ℕ)) → AreSaved saved s all taken handed → HasSearched new taken handed
     stands saved taken handed a =
         let o = goes-on-with laws saved s all taken handed a in
-        let is : state ≡ open_state s.pattern saved.cut saved.finder = said ∙ back-of laws s (open_state s.pattern saved.cut saved.finder) all o.of in
-        let there = subst (λ (t : State). IsRestored s t new.finder) is restored in
+        let is : state ≡ open_state s.pattern saved.cut saved.finder.value = said ∙ back-of laws s (open_state s.pattern saved.cut saved.finder.value) all o.of in
+        let there = subst (λ (t : State). IsRestored s t new.finder.value) is restored in
         let cut_stands = λ (bs : List ℕ) (given : List (ℕ × ℕ)) (st : StandsFor saved.cut bs given) (good : saved.cut.is_bad ≡ false).
         cut saved.cut bs given st good (sym (ap (λ (t : State). t.held) is)) (sym (ap (λ (t : State). t.taken) is)) in
-        let done : Searched s.table s.pattern new.cut new.finder None taken handed =
-        restored-stands laws s saved.cut saved.finder taken handed o.searched o.goes_on o.longest o.select new.finder there new.cut cut_stands in
+        let done : Searched s.table s.pattern new.cut new.finder.value None taken handed =
+        restored-stands laws s saved.cut saved.finder.value taken handed o.searched o.goes_on o.longest o.select new.finder.value there new.cut cut_stands in
         let none : new.fault ≡ None = fault ∙ ap (λ (t : State). t.fault) is in
-        subst (λ (f : Option TextFault). Searched (sought new).table (sought new).pattern new.cut new.finder f taken handed) (sym none)
-        (subst (λ (u : Sought). Searched u.table u.pattern new.cut new.finder None taken handed) (sym same) done)
+        subst (λ (f : Option TextFault). Searched (sought new).table (sought new).pattern new.cut new.finder.value f taken handed) (sym none)
+        (subst (λ (u : Sought). Searched u.table u.pattern new.cut new.finder.value None taken handed) (sym same) done)

@@ -28,11 +28,11 @@ module _ {W : Type 0} {G : Ghosts W} where
   known-open : StateLaws → (search : Search W G) (u : List ℕ) (handed : List (ℕ × ℕ)) → HasSearched search u handed → IsKnown search (sought search) u handed
   known-open laws search u handed h =
       let s = sought search in
-      let none = fault-known laws s search.cut search.finder search.fault u handed h refl in
+      let none = fault-known laws s search.cut search.finder.value search.fault u handed h refl in
       record {
-        handed_is = reported-known laws s search.cut search.finder search.fault u handed h refl;
+        handed_is = reported-known laws s search.cut search.finder.value search.fault u handed h refl;
         words_are = ap (words (sizes_of s))
-            (ap (state_of s.pattern search.cut search.finder) h.no_fault ∙ state-known laws s search.cut search.finder search.fault u handed h refl ∙ ap (state_at s u) none);
+            (ap (state_of s.pattern search.cut search.finder.value) h.no_fault ∙ state-known laws s search.cut search.finder.value search.fault u handed h refl ∙ ap (state_at s u) none);
       }
 
   known-ended : (search : Search W G) (u : List ℕ) (handed : List (ℕ × ℕ)) (fault : TextFault) → HasEnded search (sought search) u handed fault → IsKnown search (sought search) u handed
@@ -42,7 +42,7 @@ module _ {W : Type 0} {G : Ghosts W} where
       record {
         handed_is = here.0 ∙ ap (reported_after s) (append-nil u);
         words_are = ap (words (sizes_of s))
-            (ap (state_of s.pattern search.cut search.finder) h.reported ∙ ap (state_at s u) (here.1 ∙ ap fault_so_far (append-nil u)));
+            (ap (state_of s.pattern search.cut search.finder.value) h.reported ∙ ap (state_at s u) (here.1 ∙ ap fault_so_far (append-nil u)));
       }
 
   known-at : StateLaws → (search : Search W G) (u : List ℕ) (handed : List (ℕ × ℕ)) → IsUnderWay search (sought search) u handed → IsKnown search (sought search) u handed

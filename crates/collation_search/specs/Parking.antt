@@ -13,21 +13,21 @@ use Rattle.collation_search.specs.State.{sizes_of, state_of}
 
 -- which ranges it hands out, and the fault that it has reported
 abbrev pub parked_select : Parked → Select
-parked_select parked = parked.finder.matcher.walk.select
+parked_select parked = parked.finder.value.matcher.walk.select
 
 abbrev pub parked_fault : Parked → Option TextFault
 parked_fault parked = parked.fault
 
 -- It was put away by a search with this table and this pattern.
 pub record IsFor (table : TableMap) (pattern : Compiled) (parked : Parked) : Type 0 where
-  pub right : AreRight table pattern parked.cache
-  pub longest : parked.finder.longest_key ≡ longest_mapped table
-  pub pattern_len : parked.finder.pattern_len ≡ length pattern.keys
+  pub right : AreRight table pattern parked.cache.value
+  pub longest : parked.finder.value.longest_key ≡ longest_mapped table
+  pub pattern_len : parked.finder.value.pattern_len ≡ length pattern.keys
 
 -- the bytes went in and the ranges were handed out, as of a search (`HasSearched`)
 abbrev pub HasParked : Sought → Parked → List ℕ → List (ℕ × ℕ) → Type 0
-HasParked s parked taken handed = Searched s.table s.pattern parked.cut parked.finder parked.fault taken handed
+HasParked s parked taken handed = Searched s.table s.pattern parked.cut parked.finder.value parked.fault taken handed
 
 -- the words that are saved of it
 abbrev pub parked_words : Sought → Parked → List ℕ
-parked_words s parked = words (sizes_of s) (state_of s.pattern parked.cut parked.finder parked.fault)
+parked_words s parked = words (sizes_of s) (state_of s.pattern parked.cut parked.finder.value parked.fault)

@@ -11,18 +11,18 @@ abbrev pub sought : {W : Type 0} {G : Ghosts W} → Search W G → Sought
 sought {W} {G} search = record {
   table = G.table search.query.table.now;
   pattern = search.query.pattern.now;
-  select = search.finder.matcher.walk.select;
+  select = search.finder.value.matcher.walk.select;
 }
 
 -- The bytes `taken` went in, which are open, and the ranges were handed out.
 abbrev pub HasSearched : {W : Type 0} {G : Ghosts W} → Search W G → List ℕ → List (ℕ × ℕ) → Type 0
 HasSearched {W} {G} search taken handed =
-    Searched (G.table search.query.table.now) search.query.pattern.now search.cut search.finder search.fault taken handed
+    Searched (G.table search.query.table.now) search.query.pattern.now search.cut search.finder.value search.fault taken handed
 
 -- The same within a piece, where units may have been cut early, up to a byte offset in the text at most.
 abbrev pub HasTaken : {W : Type 0} {G : Ghosts W} → Search W G → ℕ → List ℕ → List (ℕ × ℕ) → Type 0
 HasTaken {W} {G} search place taken handed =
-    Taken (G.table search.query.table.now) search.query.pattern.now search.cut search.finder search.fault place taken handed
+    Taken (G.table search.query.table.now) search.query.pattern.now search.cut search.finder.value search.fault place taken handed
 
 -- a fault was reported, at which the text counts as ended
 abbrev pub HasReported : {W : Type 0} {G : Ghosts W} → Search W G → TextFault → Type 0

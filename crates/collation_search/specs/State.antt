@@ -46,4 +46,4 @@ state_of pattern cut finder (Some fault) = reported fault
 
 -- the words of a search
 abbrev pub words_of : {W : Type 0} {G : Ghosts W} → Search W G → List ℕ
-words_of search = words (sizes_of (sought search)) (state_of search.query.pattern.now search.cut search.finder search.fault)
+words_of search = words (sizes_of (sought search)) (state_of search.query.pattern.now search.cut search.finder.value search.fault)

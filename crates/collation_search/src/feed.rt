@@ -140,8 +140,8 @@ impl<'a, W: Weights> Search<'a, W> {
         ensures enough { (u : List ℕ) → is_good_so_far (u ++ piece.now) ≡ true → 0 < result
             → max 2 (longest_mapped (sought self.old).table) ≤ starters_from (length u + result)
             (chars (whole (u ++ piece.now))) }
-        ensures counted { self.new.cache.by_steps
-            ≡ self.old.cache.by_steps - length piece.now }
+        ensures counted { self.new.cache.value.by_steps
+            ≡ self.old.cache.value.by_steps - length piece.now }
     {
         let by_steps = self.cache.by_steps;
         self.cache.by_steps = by_steps.saturating_sub(piece.len());
@@ -180,7 +180,7 @@ impl<'a, W: Weights> Search<'a, W> {
         };
         let len = self
             .finder
-            .take_letters(&self.query, &mut self.cache, front, found, sink);
+            .take_letters(&self.query, &mut *self.cache, front, found, sink);
         self.cut.take_characters(len as u64);
         len
     }

@@ -52,7 +52,7 @@ pub fn index<W: Weights>(
             offset: 0,
         });
     };
-    search.cache.by_steps = search.cache.by_steps.max(bytes_by_steps(text));
+    search.go_by_steps(bytes_by_steps(text));
     search.first_in(text)
 }
 
@@ -88,7 +88,7 @@ pub fn index_from<W: Weights>(
         });
     };
     let rest = &text[from.min(text.len())..];
-    search.cache.by_steps = search.cache.by_steps.max(bytes_by_steps(rest));
+    search.go_by_steps(bytes_by_steps(rest));
     search.first_from(text, from)
 }
 
@@ -100,6 +100,13 @@ impl<'a, W: Weights> Search<'a, W> {
     ghost use Rattle.collation_search.specs.Feeding.{Feeds, fault_of};
     ghost use Rattle.collation_search.specs.Indexing.{first_range};
     ghost use Rattle.collation_search.specs.Search.{HasSearched, sought};
+
+    /// Lets at least so many bytes go by steps alone.
+    fn go_by_steps(&mut self, bytes: usize)
+        ensures sought { sought self.new ≡ sought self.old }
+    {
+        self.cache.by_steps = self.cache.by_steps.max(bytes);
+    }
 
     /// The first range of the answer to a text, if there is one, though a fault may stand after it: its start and its end, in
     /// bytes from the beginning of this text, the end not included. The search begins again before it and after it, so that one search

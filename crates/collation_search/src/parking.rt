@@ -17,10 +17,10 @@ use utf8_cut::Cut;
 #[derive(Drop)]
 pub struct Parked {
     pub(crate) cut: Cut,
-    pub(crate) finder: Finder,
+    pub(crate) finder: Box<Finder>,
     pub(crate) fault: Option<TextFault>,
-    pub(crate) cache: Cache,
-    ghost open: { fault ≡ None → finder.window.has_ended ≡ false },
+    pub(crate) cache: Box<Cache>,
+    ghost open: { fault ≡ None → finder.value.window.has_ended ≡ false },
     ghost count: { cut.count ≤ most_bytes },
     ghost kept: { ForSome fault (λ f. (31 ≤ f.kind) × (f.kind ≤ 35) × (f.offset ≤ most_bytes)) },
 }

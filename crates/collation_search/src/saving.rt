@@ -92,7 +92,7 @@ impl<'a, W: Weights> Search<'a, W> {
             (vec_capacity words.old < vec_len words.old + length (words_of self.now)) }
         ensures few { HasRecords (words_of self.now) (most_records (sought self.now)) }
     {
-        let finder = &self.finder;
+        let finder = &*self.finder;
         let sizes = sizes(
             self.query.table,
             self.query.pattern,
@@ -111,7 +111,7 @@ impl<'a, W: Weights> Search<'a, W> {
     /// Of a chain where the last range ends that was handed out; after a fault 0.
     fn last_end(&self) -> u64
         ensures { result
-            ≡ (state_of self.now.query.pattern.now self.now.cut self.now.finder
+            ≡ (state_of self.now.query.pattern.now self.now.cut self.now.finder.value
             self.now.fault).last_end }
     {
         match self.fault {
@@ -123,12 +123,12 @@ impl<'a, W: Weights> Search<'a, W> {
     /// The numbers of the first five records.
     fn head(&self) -> Head
         ensures numbers { result
-            ≡ head_of (state_of self.now.query.pattern.now self.now.cut self.now.finder
+            ≡ head_of (state_of self.now.query.pattern.now self.now.cut self.now.finder.value
             self.now.fault) }
         ensures few { HasRecords (words_of self.now) (most_records (sought self.now)) }
     {
         laws_of_states();
-        let finder = &self.finder;
+        let finder = &*self.finder;
         let waiting = finder.reorder.waiting();
         if let Some(fault) = self.fault {
             return reported_head(fault);

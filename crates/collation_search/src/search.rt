@@ -21,15 +21,16 @@ use utf8_cut::{Cut, Cutting, any_bytes_may_follow, whole_characters_are_the_long
 pub struct Search<'a, W: Weights> {
     pub(crate) query: Query<'a, W>,
     pub(crate) cut: Cut,
-    pub(crate) finder: Finder,
+    /// It stands on the heap, as what it has found out does, so that a search that is moved does not carry it.
+    pub(crate) finder: Box<Finder>,
     /// The fault at which the text counts as ended.
     pub(crate) fault: Option<TextFault>,
     /// What it has found out of the characters that it met. It is no part of a state: it is found anew.
-    pub(crate) cache: Cache,
-    ghost right: { AreRight (W.table query.table.now) query.pattern.now cache } by { Prim.hlevel props },
-    ghost longest: { finder.longest_key ≡ query.longest_key },
-    ghost pattern_len: { finder.pattern_len ≡ length query.pattern.now.keys },
-    ghost open: { fault ≡ None → finder.window.has_ended ≡ false },
+    pub(crate) cache: Box<Cache>,
+    ghost right: { AreRight (W.table query.table.now) query.pattern.now cache.value } by { Prim.hlevel props },
+    ghost longest: { finder.value.longest_key ≡ query.longest_key },
+    ghost pattern_len: { finder.value.pattern_len ≡ length query.pattern.now.keys },
+    ghost open: { fault ≡ None → finder.value.window.has_ended ≡ false },
     ghost count: { cut.count ≤ most_bytes },
     ghost kept: { ForSome fault (λ f. (31 ≤ f.kind) × (f.kind ≤ 35) × (f.offset ≤ most_bytes)) },
 }
@@ -91,9 +92,9 @@ impl<'a, W: Weights> Search<'a, W> {
                 longest_key: table.longest_key(),
             },
             cut: Cut::new(),
-            finder,
+            finder: Box::new(alloc, finder)?,
             fault: None,
-            cache,
+            cache: Box::new(alloc, cache)?,
         })
     }
 
@@ -107,7 +108,7 @@ impl<'a, W: Weights> Search<'a, W> {
         ensures kept { (place : ℕ) (u : List ℕ) (ranges : List _) → HasTaken self.old place u ranges
             → OnErr result
             (FinderStandsFor
-            (W.table self.new.query.table.now) self.new.query.pattern.now self.new.finder
+            (W.table self.new.query.table.now) self.new.query.pattern.now self.new.finder.value
             (chars (whole u)) ranges) }
         ensures fault { (place : ℕ) (u more : List ℕ) (ranges : List _)
             → HasTaken self.old place u ranges
@@ -122,7 +123,8 @@ impl<'a, W: Weights> Search<'a, W> {
         ensures place { IfErr result (λ f. f.offset ≤ most_bytes) }
         ensures none { OnErr result (found.new.items ≡ []) }
         ensures same { self.new.query ≡ self.old.query }
-        ensures select { self.new.finder.matcher.walk.select ≡ self.old.finder.matcher.walk.select }
+        ensures select { self.new.finder.value.matcher.walk.select
+            ≡ self.old.finder.value.matcher.walk.select }
         ensures good { self.new.fault ≡ None }
         ensures few { array_vec_len found.new ≤ longest_key_of
             (W.table self.old.query.table.now) + MOST_GIVEN }

@@ -31,7 +31,7 @@ returns-clause-begins g c = λ text u later handed compiled h.
       faults = c.laws_of_faults.ensures.following;
     } in
     let laws_of = c.matches_by_clusters.ensures in
-    begins-answer laws (sought search) laws_of.matches laws_of.settled laws_of.items text u later search.finder handed refl compiled h.some_key h.open_bytes h.found (search.open h.no_fault)
+    begins-answer laws (sought search) laws_of.matches laws_of.settled laws_of.items text u later search.finder.value handed refl compiled h.some_key h.open_bytes h.found (search.open h.no_fault)
 
 pub returns-clause-in_time : goal.returns-clause-in_time
 returns-clause-in_time g c = λ text u later handed range compiled h late there.
@@ -46,8 +46,8 @@ returns-clause-in_time g c = λ text u later handed range compiled h late there.
     let m = h.found.matched in
     let walked = m.went.walked in
     let given : items s.table s.pattern.strength s.pattern.variable false m.units ≡ m.went.items =
-    sym (m.went.weighed.items ∙ ap (λ t. items s.table t search.finder.matcher.weigher.variable false m.units) m.went.strength ∙ ap (λ v. items s.table s.pattern.strength v false m.units) m.went.variable) in
-    let under_way : IsUnderWay s.table s.pattern.strength s.pattern.variable (chars (whole u)) search.finder.reorder search.finder.window walked.before walked.current =
+    sym (m.went.weighed.items ∙ ap (λ t. items s.table t search.finder.value.matcher.weigher.variable false m.units) m.went.strength ∙ ap (λ v. items s.table s.pattern.strength v false m.units) m.went.variable) in
+    let under_way : IsUnderWay s.table s.pattern.strength s.pattern.variable (chars (whole u)) search.finder.value.reorder search.finder.value.window walked.before walked.current =
     record {
       given = h.found.points;
       units = m.units;
@@ -56,16 +56,16 @@ returns-clause-in_time g c = λ text u later handed range compiled h late there.
       goes_on = search.open h.no_fault;
       clusters = λ rest. ap (λ (t : List Item). clusters_from text_begin (t ++ rest)) given ∙ walked.clusters rest;
     } in
-    let few : length search.finder.window.points ≤ longest_mapped s.table = omega (arith, search.finder.undecided, search.longest, search.query.longest) in
+    let few : length search.finder.value.window.points ≤ longest_mapped s.table = omega (arith, search.finder.value.undecided, search.longest, search.query.longest) in
     let key = has_key s text compiled h.some_key in
     let raw = (answer s.table s.pattern.strength s.pattern.variable text (u ++ later)).ranges in
     let among = contains-in (selected s.select raw) range there in
-    let found_there = c.answers_in_time.ensures s.pattern.strength s.pattern.variable text u later search.finder.reorder search.finder.window walked.before walked.current range
+    let found_there = c.answers_in_time.ensures s.pattern.strength s.pattern.variable text u later search.finder.value.reorder search.finder.value.window walked.before walked.current range
     compiled.text key h.open_bytes under_way few late (in-contains raw range (selected-among s.select raw range among)) in
     let early = found s.pattern.keys walked.before walked.current.start in
     let here : Contains early range = subst (λ (ks : List Key). Contains (found ks walked.before walked.current.start) range) (sym compiled.keys) found_there in
     let laws_of = c.matches_by_clusters.ensures in
-    let begins = begins-found laws s laws_of.matches laws_of.settled laws_of.items text u later search.finder handed compiled h.some_key h.open_bytes h.found (search.open h.no_fault) in
+    let begins = begins-found laws s laws_of.matches laws_of.settled laws_of.items text u later search.finder.value handed compiled h.some_key h.open_bytes h.found (search.open h.no_fault) in
     let rise = answered-rise s.table s.pattern.strength s.pattern.variable text (u ++ later) in
     let kept = selected-early s.select raw early begins.0 range rise begins.1 (contains-in early range here) among in
     subst (λ (t : List (ℕ × ℕ)). Contains t range) (sym walked.handed_out) (in-contains (selected s.select early) range kept)
@@ -74,4 +74,4 @@ pub returns-clause-known : goal.returns-clause-known
 returns-clause-known g c = λ u handed h.
     let laws = state_laws c.decided_units_stay.ensures.begin c.laws_of_reordering.ensures.last c.laws_of_reordering.ensures.others in
     let search = c.args.self.now in
-    reported-known laws (sought search) search.cut search.finder search.fault u handed h refl
+    reported-known laws (sought search) search.cut search.finder.value search.fault u handed h refl

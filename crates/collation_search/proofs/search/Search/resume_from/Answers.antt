@@ -1,12 +1,14 @@
 -- What a search saved is no words with a fault, and a state that was read is gone on from.
 use Rattle.std.proofs.Common.{◌∙◌, sym, ap, subst}
 use Rattle.collation_matches.specs.declared.select.Select.{Select}
-use Rattle.collation_matches.specs.Sought.{Sought}
+use Rattle.collation_finder.specs.declared.finder.Finder.{Finder}
+use Rattle.collation_matches.specs.Sought.{Sought, seeking}
 use Rattle.collation_states.specs.declared.states.Sizes.{Sizes}
 use Rattle.collation_states.specs.StateTests.{state_fault}
 use Rattle.collation_states.specs.Reading.{state_in, Says}
 use Rattle.collation_search.specs.Resuming.{GoesOn}
 use Rattle.collation_search.specs.Search.{sought}
+use Rattle.collation_search.specs.State.{sizes_of}
 use Rattle.collation_search.proofs.SavedState.{SavedLaws}
 use Rattle.collation_search.proofs.ResumeLemmas.{accepts-saved}
 use Rattle.collation_search.proofs.search.Search.resume_from.Goals as goal
@@ -24,12 +26,16 @@ returns-in_err-state-clause-kept g c =
       back = c.laws_of_states.ensures.back;
     } in
     let words = c.args.words.now in
-    accepts-saved laws _ (sought c.args.self.now) words _ (sym (ap (λ (r : Sizes). state_fault r words) c.sizes-sizes.ensures) ∙ c.in_err-state.ensures.refused)
+    let query = c.args.self.now.query in
+    let sizes = c.sizes-sizes.ensures ∙ ap (λ (f : Finder). sizes_of (seeking (g.W.Weights.table query.table.now) query.pattern.now f.matcher.walk.select)) c.deref.ensures in
+    accepts-saved laws _ (sought c.args.self.now) words _ (sym (ap (λ (r : Sizes). state_fault r words) sizes) ∙ c.in_err-state.ensures.refused)
 
 pub returns-clause-goes_on : goal.returns-clause-goes_on
 returns-clause-goes_on g c =
     let words = c.args.words.now in
+    let query = c.args.self.now.query in
+    let sizes = c.sizes-sizes.ensures ∙ ap (λ (f : Finder). sizes_of (seeking (g.W.Weights.table query.table.now) query.pattern.now f.matcher.walk.select)) c.deref.ensures in
     let same = c.begin_again.ensures.sought in
-    let select = ap (λ (r : Sizes). r.select) c.sizes-sizes.ensures ∙ sym (ap (λ (t : Sought). t.select) same) in
+    let select = ap (λ (r : Sizes). r.select) sizes ∙ sym (ap (λ (t : Sought). t.select) same) in
     let says = subst (λ (x : Select). Says c.in_ok-state.state (state_in x words)) select c.in_ok-state.ensures.says in
     subst (λ (t : Sought). GoesOn c.go_on_from.new.self t words) same (c.go_on_from.ensures.goes_on words says)

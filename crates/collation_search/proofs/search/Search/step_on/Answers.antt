@@ -5,6 +5,8 @@ use Rattle.collation_matches.specs.GoodPrefix.{whole}
 use Rattle.collation_search.specs.Feeding.{Takes}
 use Rattle.collation_search.specs.Search.{HasTaken, sought}
 use Rattle.collation_matches.specs.Sought.{Sought}
+use Rattle.collation_finder.specs.declared.finder.Finder.{Finder}
+use Rattle.collation_finder.specs.Finding.{FinderStandsFor}
 use Rattle.collation_walk.specs.Walks.{WalksOver}
 use Rattle.collation_search.proofs.FeedLemmas.{takes-byte, takes-good, takes-reported}
 use Rattle.collation_search.proofs.SearchAnswers.{answer-at_fault, items_in}
@@ -27,11 +29,13 @@ returns-in-Err-clause-takes g c =
     let old = sought c.args.self.now in
     let new : Sought = record { table = table c.take.new.self.query.table.now; pattern = c.take.new.self.query.pattern.now; select = old.select } in
     let same : new ≡ old = ap (λ q. let s : Sought = record { table = table q.table.now; pattern = q.pattern.now; select = old.select } in s) c.in-Err.ensures.same in
-    let select = c.end.ensures.setup.select ∙ c.in-Err.ensures.select in
+    let there = c.deref_mut.ensures.value in
+    let select = c.end.ensures.setup.select ∙ ap (λ (f : Finder). f.matcher.walk.select) there ∙ c.in-Err.ensures.select in
     let walked : (place : ℕ) (u : List ℕ) (handed : List (ℕ × ℕ)) → HasTaken c.args.self.now place u handed → WalksOver old.pattern.keys (items_in old (whole u)) (handed ++ c.end.new.found.items) c.end.new.self.matcher.walk =
     λ place u handed h.
     subst (λ (s : Sought). WalksOver s.pattern.keys (items_in s (whole u)) (handed ++ c.end.new.found.items) c.end.new.self.matcher.walk) same
-    (c.end.ensures.ended (chars (whole u)) handed (c.in-Err.ensures.kept place u handed h)) in
+    (c.end.ensures.ended (chars (whole u)) handed
+    (subst (λ (f : Finder). FinderStandsFor new.table new.pattern f (chars (whole u)) handed) (sym there) (c.in-Err.ensures.kept place u handed h))) in
     takes-byte c.args.self.now _ c.args.byte (Err c.in-Err.fault) c.end.new.found.items
     (λ place u handed h. tt)
     (λ place u more handed h.

@@ -1,5 +1,7 @@
 use Rattle.std.specs.Str.{chars}
-use Rattle.std.proofs.Common.{◌++◌}
+use Rattle.std.proofs.Common.{◌∙◌, ◌++◌, sym, ap, subst}
+use Rattle.collation_finder.specs.declared.finder.Finder.{Finder}
+use Rattle.collation_finder.specs.Finding.{FinderStandsFor}
 use Rattle.collation_matches.specs.GoodPrefix.{whole}
 use Rattle.collation_search.specs.Search.{sought}
 use Rattle.collation_search.proofs.SearchAnswers.{walked-settled}
@@ -7,5 +9,8 @@ use Rattle.collation_search.proofs.search.Search.stop.Goals as goal
 
 pub returns-then-is_none-clause-settled : goal.returns-then-is_none-clause-settled
 returns-then-is_none-clause-settled g c = λ text u handed compiled h.
+    let s = sought c.args.self in
+    let there = c.deref_mut.ensures.value in
     walked-settled (sought c.args.self) c.matches_by_clusters.ensures.settled c.matches_by_clusters.ensures.items text (whole u) (handed ++ c.end.new.found.items) c.end.new.self.matcher.walk
-    c.end.ensures.setup.select compiled h.some_key (c.whole_characters_are_the_longest_text.ensures.text u) (c.end.ensures.ended (chars (whole u)) handed h.found)
+    (c.end.ensures.setup.select ∙ ap (λ (f : Finder). f.matcher.walk.select) there) compiled h.some_key (c.whole_characters_are_the_longest_text.ensures.text u)
+    (c.end.ensures.ended (chars (whole u)) handed (subst (λ (f : Finder). FinderStandsFor s.table s.pattern f (chars (whole u)) handed) (sym there) h.found))

@@ -8,6 +8,7 @@ use Rattle.nfd_points.specs.PointFaults.{point_fault}
 use Rattle.collation_table.specs.Table.{TableMap}
 use Rattle.collation_pattern.specs.Compiled.{Compiled}
 use Rattle.collation_matches.specs.GoodPrefix.{most_bytes, whole}
+use Rattle.collation_finder.specs.declared.finder.Finder.{Finder}
 use Rattle.collation_finder.specs.Finding.{FinderStandsFor}
 use Rattle.collation_search.specs.Early.{IsCutUpTo, Taken}
 use Rattle.collation_matches.proofs.TextCheckLemmas.{fault_by_length, not_open_by_length, open_good, same_codes, still_open, fault_by_code, not_open_by_code, IsIllAfter, ill_after, fault_ill, not_open_ill}
@@ -41,17 +42,17 @@ returns-in-More-clause-stands g c = λ place u ranges h.
     let listed = sym (ap (λ t. ranges ++ t) c.requires.empty ∙ append-nil ranges) in
     record {
       cut_stands = subst (λ t. StandsFor c.push.new.self (u ++ c.args.byte ∷ []) t) stands.characters_given stands;
-      found = subst (λ t. FinderStandsFor table pattern c.args.self.now.finder (chars (whole (u ++ c.args.byte ∷ []))) t) listed
-          (subst (λ cs. FinderStandsFor table pattern c.args.self.now.finder cs ranges) (sym codes) h.found);
+      found = subst (λ t. FinderStandsFor table pattern c.args.self.now.finder.value (chars (whole (u ++ c.args.byte ∷ []))) t) listed
+          (subst (λ cs. FinderStandsFor table pattern c.args.self.now.finder.value cs ranges) (sym codes) h.found);
       open_bytes = still_open u c.args.byte short (sym formed) (ap point_fault codes ∙ open_good u h.open_bytes);
       no_fault = h.no_fault;
       some_key = h.some_key;
-      left = subst (λ cs. IsCutUpTo table place cs c.args.self.now.finder.window.points) (sym codes) h.left;
+      left = subst (λ cs. IsCutUpTo table place cs c.args.self.now.finder.value.window.points) (sym codes) h.left;
     }
 
 -- what is known once an ill-formed sequence was met
 ill : (g : Over) (c : In-Bad g) (table : TableMap) (pattern : Compiled) (place : ℕ) (u : List ℕ) (ranges : List (ℕ × ℕ)) →
-    Taken table pattern c.args.self.now.cut c.args.self.now.finder c.args.self.now.fault place u ranges → IsIllAfter (u ++ c.args.byte ∷ []) c.in-Bad.offset
+    Taken table pattern c.args.self.now.cut c.args.self.now.finder.value c.args.self.now.fault place u ranges → IsIllAfter (u ++ c.args.byte ∷ []) c.in-Bad.offset
 ill g c table pattern place u ranges h =
     let x = u ++ c.args.byte ∷ [] in
     let state = c.in-Bad.ensures.state in
@@ -90,7 +91,10 @@ returns-in-Ok-clause-stands g c = λ place u ranges h.
     (c.whole_characters_are_the_longest_text.ensures.text u) (c.whole_characters_are_the_longest_text.ensures.within u)
     (λ more now. c.any_bytes_may_follow.ensures.begins c.push.new.self (u ++ c.args.byte ∷ []) more (characters (u ++ c.args.byte ∷ [])) now) in
     let formed = c.in-Char.ensures.bad u (characters u) h.cut_stands in
-    let next = c.in-Ok.ensures.stands (chars (whole u)) ranges h.found known.offset in
+    let there = sym c.deref_mut.ensures.value in
+    let before = subst (λ (f : Finder). FinderStandsFor table pattern f (chars (whole u)) ranges) there h.found in
+    let left = subst (λ (f : Finder). IsCutUpTo table place (chars (whole u)) f.window.points) there h.left in
+    let next = c.in-Ok.ensures.stands (chars (whole u)) ranges before known.offset in
     let good = ap point_fault known.codes ∙ next.reordered.good in
     record {
       cut_stands = known.stands;
@@ -98,7 +102,7 @@ returns-in-Ok-clause-stands g c = λ place u ranges h.
       open_bytes = still_open u c.args.byte known.short (sym formed) good;
       no_fault = h.no_fault;
       some_key = h.some_key;
-      left = subst (λ cs. IsCutUpTo table place cs c.take.new.self.window.points) (sym known.codes) (c.in-Ok.ensures.left place (chars (whole u)) ranges h.found known.offset h.left);
+      left = subst (λ cs. IsCutUpTo table place cs c.take.new.self.window.points) (sym known.codes) (c.in-Ok.ensures.left place (chars (whole u)) ranges before known.offset left);
     }
 
 pub returns-in-Err-clause-fault : goal.returns-in-Err-clause-fault
@@ -107,7 +111,8 @@ returns-in-Err-clause-fault g c = λ place u more ranges h.
     (let count = c.count.ensures.stands_for u (characters u) h.cut_stands in omega (arith, c.if-count-ge-MOST_BYTES.false)) c.in-Char.ensures.char_start
     (c.whole_characters_are_the_longest_text.ensures.text u) (c.whole_characters_are_the_longest_text.ensures.within u)
     (λ more now. c.any_bytes_may_follow.ensures.begins c.push.new.self (u ++ c.args.byte ∷ []) more (characters (u ++ c.args.byte ∷ [])) now) in
-    let at = character-at_fault u c.args.byte c.in-Char.c c.in-Char.offset c.push.new.self more c.in-Err.fault.kind known (λ rest. c.in-Err.ensures.fault (chars (whole u)) rest ranges h.found) in
+    let before = subst (λ (f : Finder). FinderStandsFor (g.W.Weights.table c.args.self.now.query.table.now) c.args.self.now.query.pattern.now f (chars (whole u)) ranges) (sym c.deref_mut.ensures.value) h.found in
+    let at = character-at_fault u c.args.byte c.in-Char.c c.in-Char.offset c.push.new.self more c.in-Err.fault.kind known (λ rest. c.in-Err.ensures.fault (chars (whole u)) rest ranges before) in
     fault_by_code (u ++ c.args.byte ∷ more) (byte_len (chars (whole u)), c.in-Err.fault.kind) at ∙ ap (λ o. Some (record { kind = c.in-Err.fault.kind; offset = o })) (sym known.offset)
 
 pub returns-in-Err-clause-closed : goal.returns-in-Err-clause-closed
@@ -116,5 +121,6 @@ returns-in-Err-clause-closed g c = λ place u more ranges h.
     (let count = c.count.ensures.stands_for u (characters u) h.cut_stands in omega (arith, c.if-count-ge-MOST_BYTES.false)) c.in-Char.ensures.char_start
     (c.whole_characters_are_the_longest_text.ensures.text u) (c.whole_characters_are_the_longest_text.ensures.within u)
     (λ more now. c.any_bytes_may_follow.ensures.begins c.push.new.self (u ++ c.args.byte ∷ []) more (characters (u ++ c.args.byte ∷ [])) now) in
-    let at = character-at_fault u c.args.byte c.in-Char.c c.in-Char.offset c.push.new.self more c.in-Err.fault.kind known (λ rest. c.in-Err.ensures.fault (chars (whole u)) rest ranges h.found) in
+    let before = subst (λ (f : Finder). FinderStandsFor (g.W.Weights.table c.args.self.now.query.table.now) c.args.self.now.query.pattern.now f (chars (whole u)) ranges) (sym c.deref_mut.ensures.value) h.found in
+    let at = character-at_fault u c.args.byte c.in-Char.c c.in-Char.offset c.push.new.self more c.in-Err.fault.kind known (λ rest. c.in-Err.ensures.fault (chars (whole u)) rest ranges before) in
     not_open_by_code (u ++ c.args.byte ∷ more) (byte_len (chars (whole u)), c.in-Err.fault.kind) at
