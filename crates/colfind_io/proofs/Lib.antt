@@ -1,3 +1,4 @@
 pub mod Pieces
 pub mod Prints
 pub mod Gathered
+pub mod Texts
