@@ -123,7 +123,8 @@ fn char_of_two(first: u8, second: u8) -> char
     ensures { SpellsCharacter (first ∷ second ∷ []) result }
 {
     let code = (u32::from(first) - 0xC0) * 0x40 + (u32::from(second) - 0x80);
-    char::from_u32(code).unwrap()
+    // it is proved to be a character's, so that this is not looked at again
+    unsafe { char::from_u32_unchecked(code) }
 }
 
 /// Whether three bytes are a character, of which the first is not the least that begins one of three.
@@ -146,7 +147,7 @@ pub(crate) fn char_of_three(first: u8, second: u8, third: u8) -> char
 {
     let high = (u32::from(first) - 0xE0) * 0x40 + (u32::from(second) - 0x80);
     let code = high * 0x40 + (u32::from(third) - 0x80);
-    char::from_u32(code).unwrap()
+    unsafe { char::from_u32_unchecked(code) }
 }
 
 fn char_of_four(first: u8, second: u8, third: u8, fourth: u8) -> char
@@ -158,5 +159,5 @@ fn char_of_four(first: u8, second: u8, third: u8, fourth: u8) -> char
 {
     let high = (u32::from(first) - 0xF0) * 0x40 + (u32::from(second) - 0x80);
     let code = (high * 0x40 + (u32::from(third) - 0x80)) * 0x40 + (u32::from(fourth) - 0x80);
-    char::from_u32(code).unwrap()
+    unsafe { char::from_u32_unchecked(code) }
 }

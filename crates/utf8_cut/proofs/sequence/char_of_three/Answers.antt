@@ -8,6 +8,5 @@ returns c =
     let x = c.args.first in
     let y = c.args.second in
     let z = c.args.third in
-    let value = rw c.unwrap.ensures at c.from_u32.ensures.value in
-    let is : ((x - 0xE0) * 0x40 + (y - 0x80)) * 0x40 + (z - 0x80) ≡ c.unwrap.result = omega (arith, value.1) in
+    let is : ((x - 0xE0) * 0x40 + (y - 0x80)) * 0x40 + (z - 0x80) ≡ c.from_u32_unchecked.result = omega (arith, c.from_u32_unchecked.ensures) in
     subst (SpellsCharacter (x ∷ y ∷ z ∷ [])) is (spells_three x y z (omega arith) (omega arith) c.requires.second (omega arith) (omega arith))
