@@ -1,17 +1,13 @@
-//! How much of a text of ASCII `collation_skip` passes by in blocks, which no public clause says: beside a plain way, block by block, for
+//! How much of a text of ASCII `collation_skip` passes by in blocks, which no public clause says: beside a plain way, byte by byte, for
 //! patterns of one key and of two, in tables without strings of letters of ASCII and with one. The texts are made: dense in stops and
 //! calm, with one stop at each place, and passed up to each place, so that each loop goes many rounds.
 
-ghost use Rattle.std.specs.Prelude.{◌+◌, ◌≤◌, length, IfSome};
-ghost use Rattle.collation_letters.specs.Store.{AreLetters};
-ghost use Rattle.collation_skip.specs.Blocks.{AreBlocksRight};
-
-use crate::calls::{KEPT, ONE, TABLE, compile, table_of};
-use collation_letters::{FOREIGN, Letter, Letters, Role};
+use crate::calls::{KEPT, ONE, TABLE, compile, holds, repeated, same_at, table_of};
+use crate::ways::{Place, Ways, ways_of};
+use collation_letters::{FOREIGN, Letter, Role};
 use collation_pattern::Pattern;
-use collation_skip::{AsciiBlocks, Passed};
-use collation_table::{Table, Weights};
-use std::alloc::{AllocError, Global};
+use collation_table::Table;
+use std::alloc::Global;
 use std::process::Abort;
 
 /// A table without strings of letters of ASCII.
@@ -104,99 +100,47 @@ const ONE_BESIDE_STRING: Classes<'static> = Classes {
     inner: b"h",
 };
 
-/// How many bytes at the front of a piece pass, up to `limit`: the first one, blocks of sixteen behind it, and the last few one by one.
-fn passed_len(classes: &Classes<'_>, piece: &[u8], limit: usize) -> usize
-    requires { limit ≤ length piece.now }
-    ensures within { result ≤ limit }
-{
-    if limit == 0 || piece[0] >= 128 || classes.halt.contains(&piece[0]) {
-        return 0;
-    }
-    let mut len = 1;
-    while limit - len >= 16 && block_passes(classes, piece, len) {
-        len += 16;
-    }
-    if limit - len < 16 {
-        return pass_bytes(classes, piece, len, limit);
-    }
-    len + lanes_that_pass(classes, piece, len)
+/// The byte at a place, one that does not pass where there is none.
+fn byte_at(text: &[u8], at: usize) -> u8 {
+    text.get(at).copied().unwrap_or(0xFF)
 }
 
-/// How many bytes at the front of a piece passed, up to `limit`, of which the first `from` do.
-fn pass_bytes(classes: &Classes<'_>, piece: &[u8], from: usize, limit: usize) -> usize
-    requires limit { limit ≤ length piece.now }
-    requires from { (1 ≤ from) × (from ≤ limit) }
-    ensures within { result ≤ limit }
-{
-    let mut len = from;
-    while len < limit && byte_passes(classes, piece[len - 1], piece[len]) {
-        len += 1;
+/// Whether a byte passes at the front of a piece.
+fn front_passes(classes: &Classes<'_>, here: u8) -> bool {
+    here < 128 && !classes.halt.contains(&here)
+}
+
+/// Whether a byte passes behind another.
+fn byte_passes(classes: &Classes<'_>, before: u8, here: u8) -> bool {
+    let is_pair = classes.key.contains(&before) && classes.later.contains(&here);
+    let is_joined = classes.joins.contains(&before) && classes.inner.contains(&here);
+    front_passes(classes, here) && !is_pair && !is_joined
+}
+
+/// How many bytes at the front of a piece pass, up to `limit`.
+fn passed_len(classes: &Classes<'_>, piece: &[u8], limit: usize) -> usize {
+    let mut len = 0;
+    for at in 0..limit {
+        let here = byte_at(piece, at);
+        let passes = if at == 0 {
+            front_passes(classes, here)
+        } else {
+            byte_passes(classes, byte_at(piece, at - 1), here)
+        };
+        if !passes {
+            break;
+        }
+        len = at + 1;
     }
     len
 }
 
-/// Whether a byte passed behind another.
-fn byte_passes(classes: &Classes<'_>, before: u8, here: u8) -> bool {
-    here < 128
-        && !classes.halt.contains(&here)
-        && !(classes.key.contains(&before) && classes.later.contains(&here))
-        && !(classes.joins.contains(&before) && classes.inner.contains(&here))
-}
-
-/// Whether the sixteen bytes from `at` on passed, behind the byte before them.
-fn block_passes(classes: &Classes<'_>, bytes: &[u8], at: usize) -> bool
-    requires behind { 1 ≤ at }
-    requires within { at + 16 ≤ length bytes.now }
-{
-    lanes_that_pass(classes, bytes, at) == 16
-}
-
-/// How many of the sixteen bytes from `at` on passed, behind the byte before them, up to the first one that did not.
-fn lanes_that_pass(classes: &Classes<'_>, bytes: &[u8], at: usize) -> usize
-    requires behind { 1 ≤ at }
-    requires within { at + 16 ≤ length bytes.now }
-    ensures within { result ≤ 16 }
-{
-    let mut lanes = 0;
-    while lanes < 16 && byte_passes(classes, bytes[at + lanes - 1], bytes[at + lanes]) {
-        lanes += 1;
-    }
-    lanes
-}
-
 /// How many of the first `len` bytes of a piece, which passed, have a byte of ASCII behind them.
-fn followed_len(piece: &[u8], len: usize) -> usize
-    requires { len ≤ length piece.now }
-    ensures within { result ≤ len }
-{
-    if len < piece.len() && piece[len] < 128 {
+fn followed_len(piece: &[u8], len: usize) -> usize {
+    if byte_at(piece, len) < 128 {
         return len;
     }
     len.saturating_sub(1)
-}
-
-/// The last of the first `len` bytes of a piece whose character is a cluster with a key that the pattern does not have; and its letter.
-fn last_clean<W: Weights>(
-    table: &W,
-    pattern: &Pattern,
-    letters: &mut Letters,
-    piece: &[u8],
-    len: usize,
-) -> Option<(usize, Letter)>
-    requires right { AreLetters (W.table table.now) pattern.now letters.old }
-    requires len { len ≤ length piece.now }
-    ensures right { AreLetters (W.table table.now) pattern.now letters.new }
-    ensures within { IfSome result (λ r. r.0 ≤ len) }
-{
-    let mut end = len;
-    while end > 0 {
-        end -= 1;
-        let letter = letters.letter(table, pattern, piece[end] as char);
-        if is_clean(&letter) {
-            return Some((end, letter));
-        }
-    }
-    None
 }
 
 /// Whether a letter is a cluster out of which no unit reaches, with a last key that the pattern does not have.
@@ -207,36 +151,30 @@ fn is_clean(letter: &Letter) -> bool {
     }
 }
 
-/// Where a piece was left.
-fn left_at<W: Weights>(
-    table: &W,
-    pattern: &Pattern,
-    letters: &mut Letters,
-    piece: &[u8],
-    len: usize,
-) -> Option<(usize, usize)>
-    requires right { AreLetters (W.table table.now) pattern.now letters.old }
-    requires len { len ≤ length piece.now }
-    ensures right { AreLetters (W.table table.now) pattern.now letters.new }
-{
-    let len = followed_len(piece, len);
-    let (start, _letter) = last_clean(table, pattern, letters, piece, len)?;
+/// The last of the first `len` bytes of a piece whose character is a cluster with a key that the pattern does not have.
+fn last_clean(ways: &mut Ways<'_>, piece: &[u8], len: usize) -> Option<usize> {
+    for at in (0..len).rev() {
+        if is_clean(&ways.letter(byte_at(piece, at) as char)) {
+            return Some(at);
+        }
+    }
+    None
+}
+
+/// Where a piece was left of which so many bytes passed.
+fn left_at(ways: &mut Ways<'_>, piece: &[u8], len: usize) -> Option<(usize, usize)> {
+    let start = last_clean(ways, piece, followed_len(piece, len))?;
     Some((start, start.saturating_add(1)))
 }
 
-/// Where a piece is left.
-fn place_of(passed: Option<Passed>) -> Option<(usize, usize)> {
-    let it = passed?;
-    Some((it.start, it.end))
+/// Where the last character begins and ends that is passed by.
+fn span_of(place: Option<Place>) -> Option<(usize, usize)> {
+    let (start, end, _next) = place?;
+    Some((start, end))
 }
 
-/// A made text: as many of its bytes as it has, and up to which it may be passed by.
-#[derive(Drop)]
-struct Made {
-    text: [u8; LONG],
-    len: usize,
-    limit: usize,
-}
+/// How many bytes of a made text there are, and up to which it may be passed by.
+type Ends = (usize, usize);
 
 /// The next number.
 fn next(number: &mut u64) -> usize {
@@ -247,146 +185,125 @@ fn next(number: &mut u64) -> usize {
 }
 
 /// A text that is dense in stops: more bytes stop where `turn` is smaller.
-fn dense_text(number: &mut u64, round: usize) -> Made {
+fn dense_text(text: &mut [u8], number: &mut u64, round: usize) -> Ends {
     let (len, turn) = (round / 12, round % 12);
-    let mut text = [b'm'; LONG];
-    for byte in &mut text[..SHORT] {
+    for byte in text.iter_mut().take(SHORT) {
         let drawn = next(number);
         if (*number >> 60) as usize >= turn {
             *byte = BYTES[drawn % 16];
         }
     }
-    let limit = len.saturating_sub((*number >> 40) as usize % 4);
-    Made { text, len, limit }
+    (len, len.saturating_sub((*number >> 40) as usize % 4))
+}
+
+/// The next byte of a calm text, and the one behind it if it is the first of a stop, else 0.
+fn calm_bytes(drawn: usize, rate: usize, second: u8) -> [u8; 2] {
+    if second != 0 {
+        [second, 0]
+    } else if rate > 0 && drawn / 256 % rate == 0 {
+        STOPS[drawn % 8]
+    } else {
+        [CALM[drawn % 16], 0]
+    }
 }
 
 /// A calm text of each length in turn.
-fn calm_text(number: &mut u64, round: usize) -> Made {
+fn calm_text(text: &mut [u8], number: &mut u64, round: usize) -> Ends {
     let rate = RATES[round % 4];
-    let mut text = [b'm'; LONG];
     let mut second = 0;
-    for byte in &mut text {
-        let drawn = next(number);
-        if second != 0 {
-            *byte = second;
-            second = 0;
-        } else if rate > 0 && drawn / 256 % rate == 0 {
-            let [first, behind] = STOPS[drawn % 8];
-            *byte = first;
-            second = behind;
-        } else {
-            *byte = CALM[drawn % 16];
-        }
+    for byte in text.iter_mut() {
+        let [first, behind] = calm_bytes(next(number), rate, second);
+        *byte = first;
+        second = behind;
     }
     let len = LONG.saturating_sub(next(number) % 500);
-    let limit = len.saturating_sub(next(number) % 20);
-    Made { text, len, limit }
+    (len, len.saturating_sub(next(number) % 20))
+}
+
+/// Writes a byte at a place, if the text has it.
+fn put_byte(text: &mut [u8], place: usize, new: u8) {
+    if let Some(byte) = text.get_mut(place) {
+        *byte = new;
+    }
 }
 
 /// A calm text with one stop, at each place in turn.
-fn text_of_one_stop(round: usize) -> Made {
-    let mut text = [b'm'; LONG];
+fn text_of_one_stop(text: &mut [u8], round: usize) -> Ends {
     let [first, second] = STOPS[round / MIDDLE % 8];
-    text[round % MIDDLE] = first;
-    text[round % MIDDLE + 1] = second;
-    Made {
-        text,
-        len: MIDDLE,
-        limit: MIDDLE,
-    }
+    put_byte(text, round % MIDDLE, first);
+    put_byte(text, round % MIDDLE + 1, second);
+    (MIDDLE, MIDDLE)
 }
 
 /// A calm text that may be passed by up to each place in turn, where it ends or not.
-fn text_up_to(round: usize) -> Made {
+fn text_up_to(round: usize) -> Ends {
     let limit = round % MIDDLE;
-    Made {
-        text: [b'm'; LONG],
-        len: if round < MIDDLE { limit } else { MIDDLE },
-        limit,
-    }
+    (if round < MIDDLE { limit } else { MIDDLE }, limit)
 }
 
 /// Compares where a text is left: how many bytes of it pass.
-fn compare<W: Weights>(
+fn compare(
     rt: &impl Abort,
-    table: &W,
-    pattern: &Pattern,
-    letters: &mut Letters,
-    blocks: &mut AsciiBlocks,
+    ways: &mut Ways<'_>,
     classes: &Classes<'_>,
-    made: &Made,
-) -> usize
-    requires right { AreLetters (W.table table.now) pattern.now letters.old }
-    requires blocks { AreBlocksRight (W.table table.now) pattern.now blocks.old }
-    ensures right { AreLetters (W.table table.now) pattern.now letters.new }
-    ensures blocks { AreBlocksRight (W.table table.now) pattern.now blocks.new }
-{
-    let piece = made.text.get(..made.len).unwrap_or(b"");
-    let passed = blocks.pass(table, pattern, letters, piece, made.limit);
-    let len = passed_len(classes, piece, piece.len().min(made.limit));
-    let want = left_at(table, pattern, letters, piece, len);
-    assert_eq!(rt; place_of(passed), want, "{len} {piece:?}");
+    piece: &[u8],
+    limit: usize,
+) -> usize {
+    let passed = span_of(ways.pass_blocks(piece, limit));
+    let len = passed_len(classes, piece, limit);
+    same_at(rt, &passed, &left_at(ways, piece, len), &(len, piece));
     len
 }
 
-/// The text of a round.
-fn made_text(number: &mut u64, round: usize) -> Made {
+/// The text of a round, of letters that pass but for what it puts there.
+fn made_text(text: &mut [u8], number: &mut u64, round: usize) -> Ends {
+    text.fill(b'm');
     if round < DENSE {
-        return dense_text(number, round);
+        dense_text(text, number, round)
+    } else if round < DENSE + OF_ONE_STOP {
+        text_of_one_stop(text, round - DENSE)
+    } else if round < DENSE + OF_ONE_STOP + UP_TO {
+        text_up_to(round - DENSE - OF_ONE_STOP)
+    } else {
+        calm_text(text, number, round)
     }
-    if round < DENSE + OF_ONE_STOP {
-        return text_of_one_stop(round - DENSE);
-    }
-    if round < DENSE + OF_ONE_STOP + UP_TO {
-        return text_up_to(round - DENSE - OF_ONE_STOP);
-    }
-    calm_text(number, round)
 }
 
 /// Compares all texts: how many of them pass so far that two blocks at a time go five rounds.
-fn compare_all<W: Weights>(
-    rt: &impl Abort,
-    table: &W,
-    pattern: &Pattern,
-    letters: &mut Letters,
-    blocks: &mut AsciiBlocks,
-    classes: &Classes<'_>,
-) -> usize
-    requires right { AreLetters (W.table table.now) pattern.now letters.old }
-    requires blocks { AreBlocksRight (W.table table.now) pattern.now blocks.old }
-{
+fn compare_all(rt: &impl Abort, ways: &mut Ways<'_>, classes: &Classes<'_>) -> usize {
     let mut number = 7u64;
     let mut far = 0usize;
+    let mut text = [b'm'; LONG];
     for round in 0..DENSE + OF_ONE_STOP + UP_TO + OF_CALM {
-        let made = made_text(&mut number, round);
-        let len = compare(rt, table, pattern, letters, blocks, classes, &made);
-        if len > 5 * 32 {
+        let (len, limit) = made_text(&mut text, &mut number, round);
+        let piece = text.get(..len).unwrap_or(b"");
+        if compare(rt, ways, classes, piece, limit) > 5 * 32 {
             far = far.saturating_add(1);
         }
     }
     far
 }
 
-/// Compares texts after a long one by which the place is chosen, unless memory is refused.
-fn try_texts(
+/// The same after a long text by which the place is chosen.
+fn compare_after(
     rt: &impl Abort,
     alloc: Global,
     table: &Table,
     pattern: &Pattern,
     classes: &Classes<'_>,
-) -> Result<usize, AllocError> {
-    let mut letters = Letters::new(alloc, table)?;
-    let mut blocks = AsciiBlocks::new();
-    let _long = blocks.pass(table, pattern, &mut letters, &[b'm'; 1_024], 1_000);
-    Ok(compare_all(rt, table, pattern, &mut letters, &mut blocks, classes))
+) -> usize {
+    let mut ways = ways_of(rt, alloc, table, pattern);
+    let long = repeated(rt, alloc, "m", 1_024);
+    let _long = ways.pass_blocks(long.as_bytes(), 1_000);
+    compare_all(rt, &mut ways, classes)
 }
 
 /// Compares texts in the table of a file. Hundreds of them go many rounds.
 fn compare_in(rt: &impl Abort, alloc: Global, file: &str, text: &str, classes: &Classes<'_>) {
     let table = table_of(rt, alloc, file, None);
     let pattern = compile(rt, alloc, &table, (text, ONE, KEPT));
-    let far = try_texts(rt, alloc, &table, &pattern, classes).expect(rt, "memory");
-    assert!(rt; far > 800, "{far}");
+    let far = compare_after(rt, alloc, &table, &pattern, classes);
+    holds(rt, far > 800, &far);
 }
 
 #[test]

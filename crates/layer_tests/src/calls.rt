@@ -6,6 +6,7 @@ use collation_elements::{Strength, Variable};
 use collation_pattern::Pattern;
 use collation_table::{Table, TableFault};
 use std::alloc::Global;
+use std::fmt::Debug;
 use std::process::Abort;
 
 pub(crate) const TABLE: &str = "@version 0.0.0
@@ -80,12 +81,37 @@ pub(crate) fn repeated(rt: &impl Abort, alloc: Global, text: &str, count: usize)
     text.repeat(alloc, count).expect(rt, "memory")
 }
 
+/// These texts, one behind the other.
+pub(crate) fn joined(rt: &impl Abort, alloc: Global, texts: &[&str]) -> String {
+    let mut all = String::new(alloc);
+    for text in texts {
+        put(rt, &mut all, *text);
+    }
+    all
+}
+
 /// Puts a text behind another.
 pub(crate) fn put(rt: &impl Abort, text: &mut String, more: &str) {
     text.push_str(more).expect(rt, "memory");
 }
 
+/// Two values are the same. A comparison stands in a function for any type: a proof goes through what it prints once, and not at each
+/// use.
+pub(crate) fn same<T: PartialEq + Debug>(rt: &impl Abort, got: &T, want: &T) {
+    assert_eq!(rt; *got, *want);
+}
+
+/// The same of a row, which is told.
+pub(crate) fn same_at<T: PartialEq + Debug, A: Debug>(rt: &impl Abort, got: &T, want: &T, row: &A) {
+    assert_eq!(rt; *got, *want, "{row:?}");
+}
+
+/// This holds of a row, which is told.
+pub(crate) fn holds<A: Debug>(rt: &impl Abort, is_so: bool, row: &A) {
+    assert!(rt; is_so, "{row:?}");
+}
+
 /// A text is this.
 pub(crate) fn text_is(rt: &impl Abort, got: &str, want: &str) {
-    assert_eq!(rt; got, want);
+    same(rt, &got, &want);
 }

@@ -3,7 +3,7 @@
 ghost use Rattle.std.specs.Prelude.{◌≡◌, List, [], ◌∷◌, Some, None, IsTrue, true, false};
 ghost use Rattle.utf8_cut.specs.Characters.{characters, first_fault, ill_formed_at, is_utf8_prefix, is_incomplete_sequence};
 
-use crate::calls::{put, text_is};
+use crate::calls::{holds, put, same, same_at, text_is};
 use std::alloc::Global;
 use std::process::Abort;
 use utf8_cut::{
@@ -56,17 +56,32 @@ fn push(cut: &mut Cut, byte: u8) -> Cutting {
     cut.push(byte)
 }
 
+/// Takes so many characters at once, where no byte is held and a `Cut` takes as many: whether it did.
+fn take_characters(cut: &mut Cut, count: u64) -> bool {
+    if cut.held_start() != cut.count() || cut.count() > 1u64 << 61 || count > 1u64 << 61 {
+        return false;
+    }
+    cut.take_characters(count);
+    true
+}
+
+/// Writes a code point and its offset.
+fn put_character(rt: &impl Abort, text: &mut String, code: u32, at: u64) {
+    write!(text, "{code:X}@{at} ").expect(rt, "memory");
+}
+
+/// Writes the offset of a fault.
+fn put_fault(rt: &impl Abort, text: &mut String, at: u64) {
+    write!(text, "!{at} ").expect(rt, "memory");
+}
+
 /// Writes what a byte made: a dot where no character is whole, a code point and its offset, or `!` and the offset of a fault.
 fn put_cutting(rt: &impl Abort, text: &mut String, cutting: Cutting) {
-    let written = match cutting {
-        Cutting::More => write!(text, "."),
-        Cutting::Char(c, at) => {
-            let code = c as u32;
-            write!(text, "{code:X}@{at} ")
-        }
-        Cutting::Bad(at) => write!(text, "!{at} "),
-    };
-    written.expect(rt, "memory");
+    match cutting {
+        Cutting::More => put(rt, text, "."),
+        Cutting::Char(c, at) => put_character(rt, text, c as u32, at),
+        Cutting::Bad(at) => put_fault(rt, text, at),
+    }
 }
 
 /// What a new `Cut` answers to the bytes, and the `Cut`.
@@ -79,24 +94,24 @@ fn cut_of(rt: &impl Abort, alloc: Global, bytes: &[u8]) -> (String, Cut) {
     (text, cut)
 }
 
-/// Compares the answers to bytes, where what is held begins then, and the fault where the bytes end.
-fn cut_is(
-    rt: &impl Abort,
-    alloc: Global,
-    bytes: &[u8],
-    want: &str,
-    start: u64,
-    fault: Option<u64>,
-) {
+/// How many bytes were pushed, where what is held begins, and the fault where the bytes end.
+fn ends_of(cut: &Cut) -> (u64, u64, Option<u64>) {
+    (cut.count(), cut.held_start(), cut.finish())
+}
+
+/// Bytes, the answers to them, where what is held begins then, and the fault where the bytes end.
+type Row<'a> = (&'a [u8], &'a str, u64, Option<u64>);
+
+/// Compares them.
+fn cut_is(rt: &impl Abort, alloc: Global, row: Row<'_>) {
+    let (bytes, want, start, fault) = row;
     let (text, cut) = cut_of(rt, alloc, bytes);
     text_is(rt, &text, want);
-    assert_eq!(rt; cut.count(), bytes.len() as u64);
-    assert_eq!(rt; cut.held_start(), start);
-    assert_eq!(rt; cut.finish(), fault);
+    same(rt, &ends_of(&cut), &(bytes.len() as u64, start, fault));
 }
 
 /// The last row has the least and the greatest characters of each length.
-const ROWS: [(&[u8], &str, u64, Option<u64>); 7] = [
+const ROWS: [Row; 7] = [
     (b"\xc3\xa9", ".E9@0 ", 2, None),
     (b"\xe2\x28", ".!0 ", 0, Some(0)),
     (b"\xed\xa0", ".!0 ", 0, Some(0)),
@@ -113,8 +128,8 @@ const ROWS: [(&[u8], &str, u64, Option<u64>); 7] = [
 
 #[test]
 fn bytes_are_cut(rt: HostRuntime) {
-    for (bytes, want, start, fault) in &ROWS {
-        cut_is(&rt, rt.alloc(), *bytes, *want, *start, *fault);
+    for row in ROWS {
+        cut_is(&rt, rt.alloc(), row);
     }
 }
 
@@ -122,10 +137,10 @@ fn bytes_are_cut(rt: HostRuntime) {
 #[test]
 fn ill_formed_starts(rt: HostRuntime) {
     for starts in b"\xe0\x80\xe0\x9f\xf0\x80\xf0\x8f\xed\xa0\xed\xbf\xf4\x90\xf4\xbf".chunks(2) {
-        cut_is(&rt, rt.alloc(), starts, ".!0 ", 0, Some(0));
+        cut_is(&rt, rt.alloc(), (starts, ".!0 ", 0, Some(0)));
     }
     for start in b"\xc0\xc1\xf5\xf8\xfc\xfe\xff\x80\xbf".chunks(1) {
-        cut_is(&rt, rt.alloc(), start, "!0 ", 0, Some(0));
+        cut_is(&rt, rt.alloc(), (start, "!0 ", 0, Some(0)));
     }
 }
 
@@ -147,7 +162,7 @@ fn two_bytes_are_as_std_reads_them(rt: HostRuntime) {
         for second in 0x00..=0xFFu8 {
             let mut cut = Cut::new();
             let _ = push(&mut cut, first);
-            assert_eq!(rt; push(&mut cut, second), by_std(&[first, second]));
+            same(&rt, &push(&mut cut, second), &by_std(&[first, second]));
         }
     }
 }
@@ -164,9 +179,7 @@ const FRONTS: [(&[u8], &str, Option<u64>); 6] = [
 #[test]
 fn front_gives_text_and_fault(rt: HostRuntime) {
     for (bytes, want, want_fault) in &FRONTS {
-        let (text, fault) = front(*bytes);
-        text_is(&rt, text, *want);
-        assert_eq!(rt; fault, *want_fault);
+        same(&rt, &front(*bytes), &(*want, *want_fault));
     }
 }
 
@@ -224,10 +237,9 @@ fn front_agrees(rt: &impl Abort, alloc: Global, bytes: &[u8]) {
     let mut whole = String::new(alloc);
     put_whole(rt, &mut whole, text);
     let (pushed, cut) = cut_of(rt, alloc, bytes);
-    assert!(rt; pushed.starts_with(whole.as_str()), "{bytes:?}");
-    assert_eq!(rt; cut.count(), bytes.len() as u64);
-    assert_eq!(rt; cut.held_start(), text.len() as u64);
-    assert_eq!(rt; cut.finish(), fault);
+    holds(rt, pushed.starts_with(whole.as_str()), &bytes);
+    let ends = (bytes.len() as u64, text.len() as u64, fault);
+    same_at(rt, &ends_of(&cut), &ends, &bytes);
 }
 
 #[test]
@@ -242,12 +254,10 @@ fn front_agrees_with_single_pushes(rt: HostRuntime) {
 #[test]
 fn characters_are_taken_at_once(rt: HostRuntime) {
     let mut cut = Cut::new();
-    let _ = cut.push(b'a');
-    assert!(rt; cut.held_start() == cut.count());
-    cut.take_characters(5);
-    assert_eq!(rt; cut.count(), 6);
-    assert_eq!(rt; cut.held_start(), 6);
-    assert_eq!(rt; cut.push(b'b'), Cutting::Char('b', 6));
+    let _ = push(&mut cut, b'a');
+    same(&rt, &take_characters(&mut cut, 5), &true);
+    same(&rt, &ends_of(&cut), &(6, 6, None));
+    same(&rt, &push(&mut cut, b'b'), &Cutting::Char('b', 6));
 }
 
 const FIRSTS: [(&[u8], Option<char>); 10] = [
@@ -266,19 +276,18 @@ const FIRSTS: [(&[u8], Option<char>); 10] = [
 #[test]
 fn first_characters(rt: HostRuntime) {
     for (bytes, want) in &FIRSTS {
-        assert_eq!(rt; first_character(*bytes), *want);
+        same(&rt, &first_character(*bytes), want);
     }
 }
 
 #[test]
 fn what_was_held_is_restored(rt: HostRuntime) {
     let (_text, cut) = cut_of(&rt, rt.alloc(), b"a\xe2\x82");
-    assert_eq!(rt; cut.held(), b"\xe2\x82".as_slice());
+    same(&rt, &cut.held(), &b"\xe2\x82".as_slice());
     let mut again = Cut::restore(cut.count(), cut.held());
-    assert_eq!(rt; again.count(), 3);
-    assert_eq!(rt; again.held_start(), 1);
-    assert_eq!(rt; push(&mut again, 0xAC), Cutting::Char('\u{20AC}', 1));
-    assert!(rt; again.held().is_empty());
+    same(&rt, &ends_of(&again), &(3, 1, Some(1)));
+    same(&rt, &push(&mut again, 0xAC), &Cutting::Char('\u{20AC}', 1));
+    same(&rt, &again.held().is_empty(), &true);
 }
 
 const HELD: [&[u8]; 4] = [b"", b"\xc3", b"\xe2\x82", b"\xf0\x9f\x98"];
@@ -294,9 +303,9 @@ const NOT_HELD: [&[u8]; 5] = [
 #[test]
 fn what_may_be_held(rt: HostRuntime) {
     for bytes in &HELD {
-        assert!(rt; Cut::may_hold(*bytes));
+        holds(&rt, Cut::may_hold(*bytes), bytes);
     }
     for bytes in &NOT_HELD {
-        assert!(rt; !Cut::may_hold(*bytes));
+        holds(&rt, !Cut::may_hold(*bytes), bytes);
     }
 }

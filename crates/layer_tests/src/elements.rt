@@ -8,14 +8,14 @@ ghost use Rattle.collation_elements.specs.Clusters.{clusters};
 ghost use Rattle.collation_elements.specs.WorkedTable.{worked_table};
 ghost use Rattle.collation_elements.specs.WorkedClusters.{worked_cluster};
 
-use crate::calls::{KEPT, ONE, SHIFTED, TABLE, THREE, TWO, put, repeated, table_of, text_is};
+use crate::calls::{KEPT, ONE, SHIFTED, TABLE, THREE, TWO, put, repeated, same, table_of, text_is};
 use arrayvec::ArrayVec;
 use collation_elements::{
     CharacterItems, Item, ItemsFault, Key, MOST_ITEMS, Strength, Unit, Variable, Weigher, Window,
     closed_points_append, clusters_are_parts, clusters_begin_afresh, items_are_keys_and_starts,
     items_of_text, parts_join, units_stay_apart, worked,
 };
-use collation_table::{Table, Weights};
+use collation_table::{Element, Table, Weights};
 use nfd_points::Point;
 use std::alloc::{AllocError, Global};
 use std::process::Abort;
@@ -81,9 +81,13 @@ fn try_window(alloc: Global, table: &Table, text: &str) -> Result<Window, AllocE
     Ok(window)
 }
 
-/// The window.
-fn window_of(rt: &impl Abort, alloc: Global, table: &Table, text: &str) -> Window {
-    try_window(alloc, table, text).expect(rt, "a window")
+/// The window, which the text ends or not.
+fn window_of(rt: &impl Abort, alloc: Global, table: &Table, text: &str, has_ended: bool) -> Window {
+    let mut window = try_window(alloc, table, text).expect(rt, "a window");
+    if has_ended {
+        window.end();
+    }
+    window
 }
 
 /// The next unit, if it is decided.
@@ -100,19 +104,30 @@ fn points_in(rt: &impl Abort, alloc: Global, window: &Window) -> Vec<Point> {
     points
 }
 
+/// Writes the code point of a point.
+fn put_point(rt: &impl Abort, units: &mut String, point: &Point) {
+    write!(units, "{:X}", point.cp).expect(rt, "memory");
+}
+
 /// Writes the code points of the points that were held and are not left.
 fn put_points(rt: &impl Abort, units: &mut String, held: &[Point], left: &[Point]) {
     for point in held {
         if !left.contains(point) {
-            write!(units, "{:X} ", point.cp).expect(rt, "memory");
+            put_point(rt, units, point);
+            put(rt, units, " ");
         }
     }
 }
 
+/// Writes the weights of an element.
+fn put_element(rt: &impl Abort, units: &mut String, e: &Element) {
+    write!(units, "[{:04X}.{:04X}.{:04X}]", e.w1, e.w2, e.w3).expect(rt, "memory");
+}
+
 /// Writes the row of a unit.
 fn put_row(rt: &impl Abort, units: &mut String, unit: &Unit<'_>) {
-    for e in unit.elements() {
-        write!(units, "[{:04X}.{:04X}.{:04X}]", e.w1, e.w2, e.w3).expect(rt, "memory");
+    for element in unit.elements() {
+        put_element(rt, units, element);
     }
     put(rt, units, " ");
 }
@@ -125,7 +140,8 @@ fn units_of(rt: &impl Abort, alloc: Global, table: &Table, mut window: Window) -
         let Some(unit) = next_unit(&mut window, table) else {
             break;
         };
-        write!(units, "{:X}: ", unit.first_point().cp).expect(rt, "memory");
+        put_point(rt, &mut units, &unit.first_point());
+        put(rt, &mut units, ": ");
         put_points(rt, &mut units, &held, &points_in(rt, alloc, &window));
         put_row(rt, &mut units, &unit);
     }
@@ -133,7 +149,9 @@ fn units_of(rt: &impl Abort, alloc: Global, table: &Table, mut window: Window) -
 }
 
 /// A table, a text, whether it ends there, and its units.
-const UNITS: [(&str, &str, bool, &str); 9] = [
+type Units<'a> = (&'a str, &'a str, bool, &'a str);
+
+const UNITS: [Units; 9] = [
     (TABLE, "u\u{327}\u{301}", false, ""),
     (
         TABLE,
@@ -170,15 +188,18 @@ const UNITS: [(&str, &str, bool, &str); 9] = [
     ),
 ];
 
+/// Compares the units of a row.
+fn units_are(rt: &impl Abort, alloc: Global, row: Units<'_>) {
+    let (file, text, has_ended, want) = row;
+    let table = table_of(rt, alloc, file, None);
+    let window = window_of(rt, alloc, &table, text, has_ended);
+    text_is(rt, &units_of(rt, alloc, &table, window), want);
+}
+
 #[test]
 fn cuts_decided_units(rt: HostRuntime) {
-    for (file, text, has_ended, want) in &UNITS {
-        let table = table_of(&rt, rt.alloc(), *file, None);
-        let mut window = window_of(&rt, rt.alloc(), &table, *text);
-        if *has_ended {
-            window.end();
-        }
-        text_is(&rt, &units_of(&rt, rt.alloc(), &table, window), *want);
+    for row in UNITS {
+        units_are(&rt, rt.alloc(), row);
     }
 }
 
@@ -203,7 +224,9 @@ fn items_of(
 }
 
 /// A text, a strength, a weighting, and the items.
-const ITEMS: [(&str, Strength, Variable, &[Item]); 4] = [
+type Items<'a> = (&'a str, Strength, Variable, &'a [Item]);
+
+const ITEMS: [Items; 4] = [
     (
         "e\u{301}",
         TWO,
@@ -256,36 +279,52 @@ fn try_items(
     items_of_text(alloc, table, text, strength, variable)
 }
 
-/// By a window and a weigher, and by the call for a whole text.
+/// The items are these.
+fn items_are(rt: &impl Abort, got: &[Item], want: &[Item]) {
+    same(rt, &got, &want);
+}
+
+/// Compares the items of a row, by a window and a weigher, and by the call for a whole text.
+fn row_is(rt: &impl Abort, alloc: Global, table: &Table, row: Items<'_>) {
+    let (text, strength, variable, want) = row;
+    let window = window_of(rt, alloc, table, text, true);
+    let weigher = Weigher::new(strength, variable);
+    items_are(rt, &items_of(rt, alloc, table, window, weigher), want);
+    let whole = try_items(alloc, table, text, strength, variable);
+    items_are(rt, &whole.expect(rt, "items"), want);
+}
+
 #[test]
 fn gives_keys_up_to_the_strength(rt: HostRuntime) {
     let table = table_of(&rt, rt.alloc(), TABLE, None);
-    for (text, strength, variable, want) in &ITEMS {
-        let mut window = window_of(&rt, rt.alloc(), &table, *text);
-        window.end();
-        let weigher = Weigher::new(*strength, *variable);
-        let items = items_of(&rt, rt.alloc(), &table, window, weigher);
-        assert_eq!(rt; items.as_slice(), *want);
-        let whole = try_items(rt.alloc(), &table, *text, *strength, *variable);
-        assert_eq!(rt; whole.expect(&rt, "items").as_slice(), *want);
+    for row in ITEMS {
+        row_is(&rt, rt.alloc(), &table, row);
     }
+}
+
+/// The points of a window are these.
+fn points_are(rt: &impl Abort, got: &[Point], want: &[Point]) {
+    same(rt, &got, &want);
+}
+
+/// Compares what a window of two points answers.
+fn two_points(rt: &impl Abort, alloc: Global, table: &Table) {
+    let window = window_of(rt, alloc, table, "ab", false);
+    let want = [Point::new('a', 0, true), Point::new('b', 1, true)];
+    points_are(rt, &points_in(rt, alloc, &window), &want);
+    same(rt, &(window.len(), window.is_full()), &(2, false));
 }
 
 #[test]
 fn answers_each_call(rt: HostRuntime) {
     let table = table_of(&rt, rt.alloc(), TABLE, None);
-    let window = window_of(&rt, rt.alloc(), &table, "ab");
-    let points = points_in(&rt, rt.alloc(), &window);
-    let want = [Point::new('a', 0, true), Point::new('b', 1, true)];
-    assert_eq!(rt; points.as_slice(), want.as_slice());
-    assert_eq!(rt; window.len(), 2);
-    assert_eq!(rt; window.is_full(), false);
+    two_points(&rt, rt.alloc(), &table);
     let weigher = Weigher::restore(TWO, SHIFTED, true);
-    assert_eq!(rt; weigher.after_variable(), true);
+    same(&rt, &weigher.after_variable(), &true);
     let marks = repeated(&rt, rt.alloc(), "\u{301}", 31);
     let fault = try_items(rt.alloc(), &table, &marks, TWO, SHIFTED).err();
-    assert_eq!(rt; fault, Some(ItemsFault::Points));
-    assert_eq!(rt; worked::unused_item(), Item::ClusterStart(0));
+    same(&rt, &fault, &Some(ItemsFault::Points));
+    same(&rt, &worked::unused_item(), &Item::ClusterStart(0));
 }
 
 /// The items of a letter with one mark, and of one with three.
@@ -311,6 +350,5 @@ fn keeps_the_items_of_a_character(rt: HostRuntime) {
         third: None,
         after_variable: false,
     };
-    assert_eq!(rt; two, Some(expected));
-    assert_eq!(rt; none, None);
+    same(&rt, &(two, none), &(Some(expected), None));
 }

@@ -1,7 +1,8 @@
 //! What no clause says of `collation_letters`: that letters are found, and which, over a small table.
 
 use crate::calls::{
-    KEPT, ONE, SHIFTED, Settings, TABLE, TWO, compile, put, repeated, table_of, text_is,
+    KEPT, ONE, SHIFTED, Settings, TABLE, TWO, compile, holds, put, repeated, same, same_at,
+    table_of, text_is,
 };
 use collation_elements::{Key, Strength};
 use collation_letters::{Letter, Letters, symbol_in, symbol_of};
@@ -47,7 +48,7 @@ fn said(rt: &impl Abort, alloc: Global, letter: Letter) -> String {
 /// A letter as text begins with this.
 fn letter_is(rt: &impl Abort, alloc: Global, letter: Letter, want: &str) {
     let text = said(rt, alloc, letter);
-    assert!(rt; text.starts_with(want), "{text} is not {want}");
+    holds(rt, text.starts_with(want), &(text.as_str(), want));
 }
 
 /// The letter of a character to a pattern, and that of two characters together, unless memory is refused.
@@ -139,7 +140,9 @@ const B: Key = Key::Primary(0x1C10, 0, 0);
 
 /// So many letters `a`, the rest of a pattern, a key and its symbol. A key has the first place where it stands, if that is one of the
 /// first 254; a pattern of more than 1,024 keys has no symbols.
-const SYMBOLS: [(usize, &str, Key, Option<u8>); 9] = [
+type Symbol<'a> = (usize, &'a str, Key, Option<u8>);
+
+const SYMBOLS: [Symbol; 9] = [
     (2, "b", A, Some(1)),
     (2, "b", B, Some(3)),
     (1, "", B, Some(0)),
@@ -151,14 +154,25 @@ const SYMBOLS: [(usize, &str, Key, Option<u8>); 9] = [
     (1_025, "", A, None),
 ];
 
+/// The symbol of a key to a pattern.
+fn symbol_to(rt: &impl Abort, alloc: Global, table: &Table, text: &str, key: &Key) -> Option<u8> {
+    symbol_of(&compile(rt, alloc, table, (text, ONE, KEPT)), key)
+}
+
+/// Compares the symbol of a row.
+fn symbol_is(rt: &impl Abort, alloc: Global, table: &Table, row: Symbol<'_>) {
+    let (count, rest, key, want) = row;
+    let mut text = repeated(rt, alloc, "a", count);
+    put(rt, &mut text, rest);
+    let symbol = symbol_to(rt, alloc, table, &text, &key);
+    same_at(rt, &symbol, &want, &(key, count));
+}
+
 #[test]
 fn symbols_of_keys(rt: HostRuntime) {
     let table = table_with_more(&rt, rt.alloc());
-    for (count, rest, key, want) in &SYMBOLS {
-        let mut text = repeated(&rt, rt.alloc(), "a", *count);
-        put(&rt, &mut text, *rest);
-        let pattern = compile(&rt, rt.alloc(), &table, (text.as_str(), ONE, KEPT));
-        assert_eq!(rt; symbol_of(&pattern, key), *want, "{key:?} of {count}");
+    for row in SYMBOLS {
+        symbol_is(&rt, rt.alloc(), &table, row);
     }
     let more = repeated(&rt, rt.alloc(), "a", 1_025);
     let unknown = letter(&rt, rt.alloc(), (more.as_str(), ONE, KEPT), 'a');
@@ -171,7 +185,9 @@ fn symbols_of_keys(rt: HostRuntime) {
 const LIKE_A: Key = Key::Primary(0x2000, 0, 0);
 
 /// So many letters `a`, so many `b`, a key, whether the pattern may have it, and its symbol in a pattern of any length.
-const LONG: [(usize, usize, Key, bool, Option<u8>); 13] = [
+type Long = (usize, usize, Key, bool, Option<u8>);
+
+const LONG: [Long; 13] = [
     (253, 1, B, true, Some(254)),
     (254, 1, B, true, None),
     (253, 771, B, true, Some(254)),
@@ -196,43 +212,68 @@ fn try_long(alloc: Global, table: &Table, pattern: &Pattern) -> Result<[Letter; 
     Ok([first, foreign, together])
 }
 
+/// Whether a pattern may have a key, its symbol in a pattern of any length, and that in one that is not too long, else the same.
+fn long_symbols(
+    rt: &impl Abort,
+    alloc: Global,
+    table: &Table,
+    text: &str,
+    key: &Key,
+) -> (bool, Option<u8>, Option<u8>) {
+    let pattern = compile(rt, alloc, table, (text, ONE, KEPT));
+    let symbol = symbol_in(&pattern, key);
+    let short = if pattern.len() <= 1_024 {
+        symbol_of(&pattern, key)
+    } else {
+        symbol
+    };
+    (pattern.may_have(key), symbol, short)
+}
+
+/// Compares the symbols of a row.
+fn long_is(rt: &impl Abort, alloc: Global, table: &Table, row: Long) {
+    let (count, more, key, may_have, want) = row;
+    let mut text = repeated(rt, alloc, "a", count);
+    put(rt, &mut text, &repeated(rt, alloc, "b", more));
+    let symbols = long_symbols(rt, alloc, table, &text, &key);
+    same_at(rt, &symbols, &(may_have, want, want), &(key, count));
+}
+
 #[test]
 fn symbols_of_long_patterns(rt: HostRuntime) {
     let table = table_with_more(&rt, rt.alloc());
-    for (count, more, key, may_have, want) in &LONG {
-        let mut text = repeated(&rt, rt.alloc(), "a", *count);
-        put(&rt, &mut text, &repeated(&rt, rt.alloc(), "b", *more));
-        let pattern = compile(&rt, rt.alloc(), &table, (text.as_str(), ONE, KEPT));
-        assert_eq!(rt; pattern.may_have(key), *may_have, "{key:?} of {count}");
-        assert_eq!(rt; symbol_in(&pattern, key), *want, "{key:?} of {count}");
-        if pattern.len() <= 1_024 {
-            assert_eq!(rt; symbol_of(&pattern, key), *want, "{key:?} of {count}");
-        }
+    for row in LONG {
+        long_is(&rt, rt.alloc(), &table, row);
     }
+}
+
+/// The letters of three characters to a pattern of any length are these.
+fn long_are(rt: &impl Abort, alloc: Global, text: &str, want: [&str; 3]) {
+    let table = table_with_more(rt, alloc);
+    let pattern = compile(rt, alloc, &table, (text, ONE, KEPT));
+    let three = try_long(alloc, &table, &pattern).expect(rt, "the letters");
+    let ([first, foreign, together], [one, two, three]) = (three, want);
+    letter_is(rt, alloc, first, one);
+    letter_is(rt, alloc, foreign, two);
+    letter_is(rt, alloc, together, three);
+}
+
+#[test]
+fn letters_of_long_patterns(rt: HostRuntime) {
     let text = repeated(&rt, rt.alloc(), "a", 1_025);
-    let pattern = compile(&rt, rt.alloc(), &table, (text.as_str(), ONE, KEPT));
-    let [first, foreign, together] = try_long(rt.alloc(), &table, &pattern).expect(
-        &rt,
-        "the letters",
-    );
-    letter_is(&rt, rt.alloc(), first, "Plain 255 255 1; 1/0; closed apart");
-    letter_is(
-        &rt,
-        rt.alloc(),
-        foreign,
+    let want = [
+        "Plain 255 255 1; 1/0; closed apart",
         "Plain 255 255 0; 1/0; closed apart",
-    );
-    letter_is(
-        &rt,
-        rt.alloc(),
-        together,
         "Plain 255 255 0; 2/0; closed apart",
-    );
+    ];
+    long_are(&rt, rt.alloc(), &text, want);
 }
 
 /// The beginning of a pattern and so many letters `b`, before a `z`; a key; from which place on the pattern may have it; and its symbol
 /// where the pattern ends there, and where a thousand `b` follow. `A` and `LIKE_A` share a place in the set.
-const SHARED: [(&str, usize, Key, usize, Option<u8>, Option<u8>); 13] = [
+type Shared<'a> = (&'a str, usize, Key, usize, Option<u8>, Option<u8>);
+
+const SHARED: [Shared; 13] = [
     ("", 251, LIKE_A, 251, Some(252), Some(252)),
     ("", 252, LIKE_A, 252, Some(253), Some(253)),
     ("", 253, LIKE_A, 253, Some(254), Some(254)),
@@ -248,23 +289,43 @@ const SHARED: [(&str, usize, Key, usize, Option<u8>, Option<u8>); 13] = [
     ("a", 254, A, 0, Some(1), Some(1)),
 ];
 
+/// From which place on a pattern may have a key, and its symbol.
+fn shared_symbol(
+    rt: &impl Abort,
+    alloc: Global,
+    table: &Table,
+    text: &str,
+    key: &Key,
+) -> (usize, Option<u8>) {
+    let pattern = compile(rt, alloc, table, (text, ONE, KEPT));
+    (pattern.may_have_from(key), symbol_in(&pattern, key))
+}
+
+/// The pattern of a row: so many letters `b` follow.
+fn shared_text(rt: &impl Abort, alloc: Global, row: &Shared<'_>, more: usize) -> String {
+    let mut text = repeated(rt, alloc, row.0, 1);
+    put(rt, &mut text, &repeated(rt, alloc, "b", row.1));
+    put(rt, &mut text, "z");
+    put(rt, &mut text, &repeated(rt, alloc, "b", more));
+    text
+}
+
+/// Compares the symbols of a row.
+fn shared_are(rt: &impl Abort, alloc: Global, table: &Table, row: &Shared<'_>) {
+    let (_first, count, key, from, short, long) = *row;
+    let text = shared_text(rt, alloc, row, 0);
+    let got = shared_symbol(rt, alloc, table, &text, &key);
+    same_at(rt, &got, &(from, short), &(key, count));
+    let text = shared_text(rt, alloc, row, 1_000);
+    let got = shared_symbol(rt, alloc, table, &text, &key);
+    same_at(rt, &got, &(from, long), &(key, count));
+}
+
 #[test]
 fn symbols_of_keys_that_share_a_place(rt: HostRuntime) {
     let table = table_with_more(&rt, rt.alloc());
-    for (first, count, key, from, short, long) in &SHARED {
-        for (more, want) in [(0, *short), (1_000, *long)] {
-            let mut text = repeated(&rt, rt.alloc(), *first, 1);
-            put(&rt, &mut text, &repeated(&rt, rt.alloc(), "b", *count));
-            put(&rt, &mut text, "z");
-            put(&rt, &mut text, &repeated(&rt, rt.alloc(), "b", more));
-            let pattern = compile(&rt, rt.alloc(), &table, (text.as_str(), ONE, KEPT));
-            assert_eq!(rt; pattern.may_have_from(key), *from, "{key:?} of {count}");
-            assert_eq!(rt;
-                symbol_in(&pattern, key),
-                want,
-                "{key:?} of {count}, {more}"
-            );
-        }
+    for row in SHARED {
+        shared_are(&rt, rt.alloc(), &table, &row);
     }
 }
 
@@ -284,15 +345,20 @@ const MARKED: [(&str, &str); 11] = [
     ("ee", ""),
 ];
 
+/// The letter of a letter, if there is one, and a mark.
+fn with_mark(base: Option<Letter>, mark: Letter) -> Option<Letter> {
+    base?.with_mark(mark)
+}
+
 /// The letter of a character with marks behind it; `None` where one of them does not join.
 fn joined(rt: &impl Abort, alloc: Global, text: &str) -> Option<Letter> {
     let mut joined = None;
     for (offset, c) in text.char_indices() {
         let letter = letter(rt, alloc, ("e\u{301}", TWO, SHIFTED), c);
-        joined = match joined {
-            None if offset == 0 => Some(letter),
-            None => None,
-            Some(base) => base.with_mark(letter),
+        joined = if offset == 0 {
+            Some(letter)
+        } else {
+            with_mark(joined, letter)
         };
     }
     joined
@@ -304,7 +370,7 @@ fn marks_join(rt: HostRuntime) {
         match joined(&rt, rt.alloc(), *text) {
             None => text_is(&rt, "", *want),
             Some(letter) => {
-                assert!(rt; !want.is_empty());
+                holds(&rt, !want.is_empty(), text);
                 letter_is(&rt, rt.alloc(), letter, *want);
             }
         }
@@ -319,9 +385,9 @@ fn run_of_marks_is_cut(rt: HostRuntime) {
     let mut run = base;
     for points in 2..=30u8 {
         run = run.with_mark(mark).expect(&rt, "a letter");
-        assert_eq!(rt; run.points, points);
+        same(&rt, &run.points, &points);
     }
-    assert!(rt; run.with_mark(mark).is_none());
+    same(&rt, &run.with_mark(mark).is_none(), &true);
 }
 
 /// Letters that are asked for one after the other of the same `Letters`. U+2061 has the place of `a`.
@@ -425,6 +491,18 @@ fn try_kept(
     Ok(letters.known(first).is_some() && letters.known(second).is_some())
 }
 
+/// The same.
+fn are_kept(
+    rt: &impl Abort,
+    alloc: Global,
+    table: &Table,
+    pattern: &Pattern,
+    others: u32,
+    both: (char, char),
+) -> bool {
+    try_kept(alloc, table, pattern, others, both).expect(rt, "the letters")
+}
+
 /// Two characters, and how many others come before: from the first letter on those are kept together whose last eight bits differ, from the
 /// 192nd on the last twelve, and from the 4,096th on the last sixteen.
 const TOGETHER: [(u32, char, char, bool); 6] = [
@@ -442,8 +520,8 @@ fn more_letters_are_kept_where_more_are_found(rt: HostRuntime) {
     let pattern = compile(&rt, rt.alloc(), &table, ("a", TWO, KEPT));
     for (others, first, second, want) in &TOGETHER {
         let both = (*first, *second);
-        let kept = try_kept(rt.alloc(), &table, &pattern, *others, both).expect(&rt, "the letters");
-        assert_eq!(rt; kept, *want, "{first} and {second} behind {others}");
+        let kept = are_kept(&rt, rt.alloc(), &table, &pattern, *others, both);
+        same_at(&rt, &kept, want, &(*first, *second, *others));
     }
 }
 
@@ -452,6 +530,6 @@ fn more_letters_are_kept_where_more_are_found(rt: HostRuntime) {
 fn refused_places_are_asked_for_again(rt: HostRuntime) {
     let table = table_with_more(&rt, rt.alloc());
     let pattern = compile(&rt, rt.alloc(), &table, ("a", TWO, KEPT));
-    let kept = try_kept(rt.alloc(), &table, &pattern, 4_096, ('a', 'b'));
-    assert!(rt; kept.expect(&rt, "the letters"));
+    let kept = are_kept(&rt, rt.alloc(), &table, &pattern, 4_096, ('a', 'b'));
+    same(&rt, &kept, &true);
 }

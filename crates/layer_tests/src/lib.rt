@@ -31,4 +31,6 @@ mod table;
 #[cfg(test)]
 mod two_bytes;
 #[cfg(test)]
+mod ways;
+#[cfg(test)]
 mod windows;

@@ -1,7 +1,8 @@
 //! What no clause says of `collation_pattern`: the printed fault, and the keys and faults of worked patterns over a small table.
 
 use crate::calls::{
-    KEPT, ONE, SHIFTED, Settings, TABLE, THREE, TWO, compile, repeated, table_of, text_is,
+    KEPT, ONE, SHIFTED, Settings, TABLE, THREE, TWO, compile, holds, repeated, same, same_at,
+    table_of, text_is,
 };
 use collation_elements::{Key, Strength, Variable};
 use collation_pattern::{Pattern, PatternFault};
@@ -40,23 +41,28 @@ const KEYS: [(Settings, &[Key]); 3] = [
     (("\u{4E00}", ONE, KEPT), &[Key::Pair(0xFB40, 0xCE00, 0, 0)]),
 ];
 
-#[test]
-fn keys_of_worked_patterns(rt: HostRuntime) {
-    for (settings, keys) in &KEYS {
-        let pattern = pattern_of(&rt, rt.alloc(), *settings);
-        assert!(rt; pattern.keys() == *keys);
-        assert_eq!(rt; pattern.len(), keys.len());
-        assert_eq!(rt; pattern.strength(), settings.1);
-        assert_eq!(rt; pattern.variable(), settings.2);
-    }
+/// A pattern has these keys.
+fn has_these_keys(rt: &impl Abort, pattern: &Pattern, keys: &[Key]) {
+    same(rt, &pattern.keys(), &keys);
+}
+
+/// How many keys a pattern has, and what it is compared by.
+fn sizes_of(pattern: &Pattern) -> (usize, Strength, Variable) {
+    (pattern.len(), pattern.strength(), pattern.variable())
 }
 
 /// A pattern of these settings has so many keys.
 fn has_keys(rt: &impl Abort, alloc: Global, settings: Settings<'_>, len: usize) {
-    let pattern = pattern_of(rt, alloc, settings);
-    assert_eq!(rt; pattern.len(), len);
-    assert_eq!(rt; pattern.strength(), settings.1);
-    assert_eq!(rt; pattern.variable(), settings.2);
+    let sizes = sizes_of(&pattern_of(rt, alloc, settings));
+    same(rt, &sizes, &(len, settings.1, settings.2));
+}
+
+#[test]
+fn keys_of_worked_patterns(rt: HostRuntime) {
+    for (settings, keys) in &KEYS {
+        has_these_keys(&rt, &pattern_of(&rt, rt.alloc(), *settings), *keys);
+        has_keys(&rt, rt.alloc(), *settings, keys.len());
+    }
 }
 
 /// Spaces and the hyphen give keys only where they are not ignorable.
@@ -69,6 +75,14 @@ fn shifted_pattern_has_no_variable_keys(rt: HostRuntime) {
 const A: Key = Key::Primary(0x1C00, 0, 0);
 
 const B: Key = Key::Primary(0x1C10, 0, 0);
+
+/// The state behind a key, where there is that state.
+fn advanced(pattern: &Pattern, state: usize, key: Key) -> Option<usize> {
+    if state > pattern.len() {
+        return None;
+    }
+    Some(pattern.advance(state, &key))
+}
 
 /// `A` and `a` are one key at strength one.
 #[test]
@@ -83,8 +97,7 @@ fn states_of_a_worked_pattern(rt: HostRuntime) {
         (3, B, 0),
         (1, B, 0),
     ] {
-        assert!(rt; state <= pattern.len());
-        assert_eq!(rt; pattern.advance(state, &key), want, "{state}");
+        same_at(&rt, &advanced(&pattern, state, key), &Some(want), &state);
     }
 }
 
@@ -93,9 +106,20 @@ fn states_of_a_worked_pattern(rt: HostRuntime) {
 fn pair_has_the_sort_key_of_two_keys(rt: HostRuntime) {
     let ideograph = pattern_of(&rt, rt.alloc(), ("\u{4E00}", ONE, KEPT));
     let primaries = [Key::Primary(0xFB40, 0, 0), Key::Primary(0xCE00, 0, 0)];
-    assert!(rt; ideograph.same_key(&primaries));
-    assert!(rt; !ideograph.same_key(&primaries[..1]));
-    assert!(rt; !ideograph.same_key(&[]));
+    holds(&rt, ideograph.same_key(&primaries), &"both");
+    holds(&rt, !ideograph.same_key(&primaries[..1]), &"one");
+    holds(&rt, !ideograph.same_key(&[]), &"none");
+}
+
+/// Whether the keys of one pattern are those of another.
+fn have_same_key(
+    rt: &impl Abort,
+    alloc: Global,
+    settings: Settings<'_>,
+    other: Settings<'_>,
+) -> bool {
+    let other = pattern_of(rt, alloc, other);
+    pattern_of(rt, alloc, settings).same_key(other.keys())
 }
 
 /// U+4E00 and U+2F00 differ at the third level alone, `e` and U+00E9 from the second on.
@@ -111,9 +135,9 @@ fn levels_up_to_the_strength_are_compared(rt: HostRuntime) {
         ("\u{E9}", "e\u{301}", THREE, true),
         ("c", "ch", ONE, false),
     ] {
-        let pattern = pattern_of(&rt, rt.alloc(), (text, strength, KEPT));
-        let keys_of = pattern_of(&rt, rt.alloc(), (other, strength, KEPT));
-        assert_eq!(rt; pattern.same_key(keys_of.keys()), is_same, "{text}");
+        let (text, other) = ((text, strength, KEPT), (other, strength, KEPT));
+        let has_same = have_same_key(&rt, rt.alloc(), text, other);
+        same_at(&rt, &has_same, &is_same, &text);
     }
 }
 
@@ -144,10 +168,11 @@ fn first_fault_is_reported(rt: HostRuntime) {
     let table = table_of(&rt, rt.alloc(), TABLE, None);
     for (piece, count, want) in &FAULTS {
         let text = repeated(&rt, rt.alloc(), *piece, *count);
-        assert_eq!(rt;
-            try_pattern(rt.alloc(), &table, &text, ONE),
-            *want,
-            "{count}"
+        same_at(
+            &rt,
+            &try_pattern(rt.alloc(), &table, &text, ONE),
+            want,
+            count,
         );
     }
 }
@@ -192,6 +217,6 @@ fn refused_patterns_are_asked_for_again(rt: HostRuntime) {
         ("a", 65_537, Err(21)),
     ] {
         let text = repeated(&rt, rt.alloc(), piece, count);
-        assert_eq!(rt; pattern_again(rt.alloc(), &table, &text), want);
+        same(&rt, &pattern_again(rt.alloc(), &table, &text), &want);
     }
 }

@@ -6,7 +6,7 @@ ghost use Rattle.nfd_points.specs.Points.{points};
 ghost use Rattle.nfd_points.specs.PointFaults.{point_fault};
 ghost use Rattle.nfd_points.specs.WorkedPoints.{worked_point};
 
-use crate::calls::{put, text_is};
+use crate::calls::{holds, put, same, text_is};
 use arrayvec::ArrayVec;
 use nfd_points::laws::{
     laws_of_decompositions, laws_of_faults, laws_of_ordering, laws_of_points, laws_of_reordering,
@@ -57,11 +57,21 @@ fn push(reorder: &mut Reorder, c: char, offset: u64, out: &mut Given) -> Result<
     reorder.push(c, offset, out)
 }
 
+/// Takes a code point without a fault.
+fn push_well(rt: &impl Abort, reorder: &mut Reorder, c: char, offset: u64, out: &mut Given) {
+    push(reorder, c, offset, out).expect(rt, "no fault");
+}
+
+/// Writes a code point, its class and its offset.
+fn put_point(rt: &impl Abort, text: &mut String, point: &Point) {
+    write!(text, "{:X}/{}@{}", point.cp, point.ccc, point.offset).expect(rt, "memory");
+}
+
 /// Writes points: the code point, its class and its offset, a `+` before one that is not the first of its decomposition.
 fn put_points(rt: &impl Abort, text: &mut String, points: &[Point]) {
     for point in points {
         put(rt, text, if point.first { " " } else { " +" });
-        write!(text, "{:X}/{}@{}", point.cp, point.ccc, point.offset).expect(rt, "memory");
+        put_point(rt, text, point);
     }
 }
 
@@ -91,10 +101,10 @@ fn points_of_characters(rt: HostRuntime) {
 #[test]
 fn decomposed_code_points(rt: HostRuntime) {
     for c in "a\u{301}\u{1100}\u{4E00}\u{FB01}".chars() {
-        assert!(rt; Point::is_decomposed(c));
+        holds(&rt, Point::is_decomposed(c), &c);
     }
     for c in "\u{E9}\u{F73}\u{AC01}\u{2126}\u{F900}".chars() {
-        assert!(rt; !Point::is_decomposed(c));
+        holds(&rt, !Point::is_decomposed(c), &c);
     }
 }
 
@@ -104,7 +114,7 @@ fn pushed(rt: &impl Abort, alloc: Global, text: &str) -> String {
     let mut out = Given::new();
     let mut all = String::new(alloc);
     for (offset, c) in text.char_indices() {
-        push(&mut reorder, c, offset as u64, &mut out).expect(rt, "no fault");
+        push_well(rt, &mut reorder, c, offset as u64, &mut out);
         put_points(rt, &mut all, out.as_slice());
         put(rt, &mut all, " |");
     }
@@ -112,7 +122,7 @@ fn pushed(rt: &impl Abort, alloc: Global, text: &str) -> String {
     put_points(rt, &mut waiting, reorder.waiting());
     reorder.finish(&mut out);
     points_are(rt, alloc, out.as_slice(), &waiting);
-    assert!(rt; reorder.waiting().is_empty());
+    same(rt, &reorder.waiting().len(), &0);
     put(rt, &mut all, &waiting);
     all
 }
@@ -155,41 +165,53 @@ fn worked_texts(rt: HostRuntime) {
     }
 }
 
+/// Compares what the push of a code point that comes from an offset answers, and how many points it gives.
+fn push_is(
+    rt: &impl Abort,
+    reorder: &mut Reorder,
+    from: (char, u64),
+    out: &mut Given,
+    want: Result<(), PointFault>,
+    count: usize,
+) {
+    let pushed = push(reorder, from.0, from.1, out);
+    same(rt, &(pushed, out.len()), &(want, count));
+}
+
 /// Pushes a code point so many times, and once too often; then a letter, which takes what waits with it.
 fn run_is_cut(rt: &impl Abort, alloc: Global, c: char, times: u64) {
     let mut reorder = Reorder::new(alloc);
     let mut out = Given::new();
     for offset in 0..times {
-        assert_eq!(rt; push(&mut reorder, c, offset, &mut out), Ok(()));
-        assert!(rt; out.is_empty());
+        push_is(rt, &mut reorder, (c, offset), &mut out, Ok(()), 0);
     }
-    let long = PointFault {
+    let long = Err(PointFault {
         kind: PointFault::LONG_RUN,
-    };
-    assert_eq!(rt; push(&mut reorder, c, times, &mut out), Err(long));
-    assert_eq!(rt; reorder.waiting().len(), 30);
-    assert_eq!(rt; push(&mut reorder, 'a', times, &mut out), Ok(()));
-    assert_eq!(rt; out.len(), 31);
+    });
+    push_is(rt, &mut reorder, (c, times), &mut out, long, 0);
+    same(rt, &reorder.waiting().len(), &30);
+    push_is(rt, &mut reorder, ('a', times), &mut out, Ok(()), 31);
 }
 
 #[test]
 fn runs_of_non_starters(rt: HostRuntime) {
     run_is_cut(&rt, rt.alloc(), '\u{F73}', 15);
     run_is_cut(&rt, rt.alloc(), '\u{301}', 30);
-    assert_eq!(rt; PointFault::LONG_RUN, 32);
-    assert_eq!(rt; PointFault::LONG_DECOMPOSITION, 33);
+    let kinds = (PointFault::LONG_RUN, PointFault::LONG_DECOMPOSITION);
+    same(&rt, &kinds, &(32, 33));
 }
 
 #[test]
 fn restored(rt: HostRuntime) {
     let mut out = Given::new();
     let mut reorder = Reorder::new(rt.alloc());
-    push(&mut reorder, '\u{327}', 0, &mut out).expect(&rt, "no fault");
-    push(&mut reorder, '\u{301}', 2, &mut out).expect(&rt, "no fault");
-    assert!(rt; Reorder::may_wait(reorder.waiting()));
-    assert!(rt; !Reorder::may_wait(&[Point::new('a', 4, true)]));
+    push_well(&rt, &mut reorder, '\u{327}', 0, &mut out);
+    push_well(&rt, &mut reorder, '\u{301}', 2, &mut out);
+    same(&rt, &Reorder::may_wait(reorder.waiting()), &true);
+    let letter = [Point::new('a', 4, true)];
+    same(&rt, &Reorder::may_wait(&letter), &false);
     let mut again = Reorder::restore(rt.alloc(), reorder.waiting());
-    push(&mut again, 'a', 4, &mut out).expect(&rt, "no fault");
+    push_well(&rt, &mut again, 'a', 4, &mut out);
     let want = " 327/202@0 301/230@2 61/0@4";
     points_are(&rt, rt.alloc(), out.as_slice(), want);
 }
@@ -201,6 +223,11 @@ fn is_changing(c: char) -> bool {
     parts.len() > 1 || canonical_combining_class(c) > 0 || !parts.contains(&c)
 }
 
+/// Puts a value behind the others.
+fn put_value<T: Copy>(rt: &impl Abort, all: &mut Vec<T>, value: T) {
+    all.push(value).expect(rt, "memory");
+}
+
 /// Each code point that decomposes or has a class, after a letter.
 fn changing_code_points(rt: &impl Abort, alloc: Global) -> Vec<char> {
     let mut chars = Vec::new(alloc);
@@ -209,8 +236,8 @@ fn changing_code_points(rt: &impl Abort, alloc: Global) -> Vec<char> {
             continue;
         };
         if is_changing(c) {
-            chars.push('x').expect(rt, "memory");
-            chars.push(c).expect(rt, "memory");
+            put_value(rt, &mut chars, 'x');
+            put_value(rt, &mut chars, c);
         }
     }
     chars
@@ -228,8 +255,8 @@ impl Text {
     fn put(&mut self, rt: &impl Abort, points: &[Point]) {
         for point in points {
             let c = char::from_u32(point.cp).expect(rt, "a scalar value");
-            self.code_points.push(c).expect(rt, "memory");
-            self.offsets.push(point.offset).expect(rt, "memory");
+            put_value(rt, &mut self.code_points, c);
+            put_value(rt, &mut self.offsets, point.offset);
         }
     }
 }
@@ -241,7 +268,7 @@ fn offsets_of(rt: &impl Abort, alloc: Global, chars: &[char]) -> Vec<u64> {
     for c in chars {
         let mut room = [*c; 3];
         for _part in decomposition(*c, Form::Nfd, &mut room) {
-            offsets.push(offset).expect(rt, "memory");
+            put_value(rt, &mut offsets, offset);
         }
         offset = offset.wrapping_add(c.len_utf8() as u64);
     }
@@ -258,7 +285,7 @@ fn text_of(rt: &impl Abort, alloc: Global, chars: &[char]) -> Text {
     let mut out = Given::new();
     let mut offset = 0u64;
     for c in chars {
-        push(&mut reorder, *c, offset, &mut out).expect(rt, "no fault");
+        push_well(rt, &mut reorder, *c, offset, &mut out);
         text.put(rt, out.as_slice());
         offset = offset.wrapping_add(c.len_utf8() as u64);
     }
@@ -273,7 +300,8 @@ fn whole_data(rt: HostRuntime) {
     let mut expected = Vec::new(rt.alloc());
     extend_nfd(&mut expected, chars.as_slice()).expect(&rt, "memory");
     let text = text_of(&rt, rt.alloc(), &chars);
-    assert!(rt; text.code_points.len() > chars.len());
-    assert!(rt; text.code_points == expected);
-    assert!(rt; text.offsets == offsets_of(&rt, rt.alloc(), &chars));
+    holds(&rt, text.code_points.len() > chars.len(), &"more");
+    holds(&rt, text.code_points == expected, &"code points");
+    let offsets = offsets_of(&rt, rt.alloc(), &chars);
+    holds(&rt, text.offsets == offsets, &"offsets");
 }

@@ -1,5 +1,6 @@
 //! How many bytes pass by `byte_blocks`, by sets that are made here: the clauses say which, these rows say so of worked pieces.
 
+use crate::calls::same_at;
 use byte_blocks::{AsciiSets, NO_BYTES, TwoByteSets, going_len, passed_len, put};
 
 /// Sets in which `x` halts, and `b` does not pass behind `a`.
@@ -54,6 +55,6 @@ fn bytes_pass_up_to_one_that_does_not(rt: HostRuntime) {
         ("the door of the ж of the house", (16, 31)),
         ("the door of the жb", (16, 18)),
     ] {
-        assert_eq!(rt; lengths(piece), lengths_of_piece);
+        same_at(&rt, &lengths(piece), &lengths_of_piece, &piece);
     }
 }

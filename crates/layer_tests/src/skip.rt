@@ -1,41 +1,33 @@
 //! What no clause says of `collation_skip`: that text is passed by, and how much, over a small table, also where memory was refused
 //! before. Each way is tried by itself.
 
-use crate::calls::{KEPT, ONE, SHIFTED, Settings, TABLE, THREE, TWO, compile, repeated, table_of};
-use collation_letters::Letters;
+use crate::calls::{
+    KEPT, ONE, SHIFTED, Settings, TABLE, THREE, TWO, compile, holds, joined, repeated, same_at,
+    table_of,
+};
+use crate::ways::{Place, ways_of};
 use collation_pattern::Pattern;
-use collation_skip::{AsciiBlocks, Automaton, Passed, Skip};
 use collation_table::Table;
-use std::alloc::{AllocError, Global};
+use std::alloc::Global;
 use std::process::Abort;
 
-/// Where the last character that is passed by begins and ends, and the one that follows.
-type Place = (usize, usize, char);
-
-/// The place where a way stops.
-fn place_of(passed: Option<Passed>) -> Option<Place> {
-    let it = passed?;
-    Some((it.start, it.end, it.next))
+/// The places where two ways stop, or one way twice, are these.
+fn places_are(rt: &impl Abort, got: [Option<Place>; 2], want: [Option<Place>; 2], text: &str) {
+    same_at(rt, &got, &want, &text);
 }
 
-/// A place is this.
-fn place_is(rt: &impl Abort, got: Option<Place>, want: Option<Place>, text: &str) {
-    assert_eq!(rt; got, want, "{text}");
-}
-
-/// What an automaton passes by of a piece, up to `reach`, where no move is known yet and where all are, unless memory is refused.
-fn try_passed(
+/// What an automaton passes by of a piece, up to `reach`, where no move is known yet and where all are.
+fn passed(
+    rt: &impl Abort,
     alloc: Global,
     table: &Table,
     pattern: &Pattern,
     piece: &[u8],
     reach: usize,
-) -> Result<[Option<Place>; 2], AllocError> {
-    let mut letters = Letters::new(alloc, table)?;
-    let mut automaton = Automaton::new(alloc);
-    let first = automaton.pass(table, pattern, &mut letters, piece, reach, false);
-    let second = automaton.pass(table, pattern, &mut letters, piece, reach, true);
-    Ok([place_of(first), place_of(second)])
+) -> [Option<Place>; 2] {
+    let mut ways = ways_of(rt, alloc, table, pattern);
+    let first = ways.run(piece, reach, false);
+    [first, ways.run(piece, reach, true)]
 }
 
 /// Compares what an automaton passes by.
@@ -49,10 +41,8 @@ fn passed_is(
 ) {
     let table = table_of(rt, alloc, TABLE, None);
     let pattern = compile(rt, alloc, &table, settings);
-    let places = try_passed(alloc, &table, &pattern, piece, reach).expect(rt, "memory");
-    for place in places {
-        place_is(rt, place, want, settings.0);
-    }
+    let places = passed(rt, alloc, &table, &pattern, piece, reach);
+    places_are(rt, places, [want, want], settings.0);
 }
 
 /// A pattern of one key, or of two, a text, and where it is left.
@@ -80,16 +70,9 @@ const TEXTS: [(&str, &str, Option<Place>); 16] = [
 
 #[test]
 fn text_is_passed_by(rt: HostRuntime) {
-    for (pattern, text, want) in &TEXTS {
-        let settings = (*pattern, ONE, KEPT);
-        passed_is(
-            &rt,
-            rt.alloc(),
-            settings,
-            text.as_bytes(),
-            text.len(),
-            *want,
-        );
+    for (pattern, text, want) in TEXTS {
+        let (settings, text) = ((pattern, ONE, KEPT), text.as_bytes());
+        passed_is(&rt, rt.alloc(), settings, text, text.len(), want);
     }
 }
 
@@ -105,78 +88,74 @@ const PIECES: [(&[u8], usize, Option<Place>); 6] = [
 
 #[test]
 fn less_is_passed_by(rt: HostRuntime) {
-    for (piece, reach, want) in &PIECES {
-        passed_is(&rt, rt.alloc(), ("b", ONE, KEPT), *piece, *reach, *want);
+    for (piece, reach, want) in PIECES {
+        passed_is(&rt, rt.alloc(), ("b", ONE, KEPT), piece, reach, want);
     }
 }
+
+/// Compares what is passed by of a text of so many `m`, with a `b` at a place if it has that.
+fn stop_is(rt: &impl Abort, alloc: Global, len: usize, stop: usize, want: Place) {
+    let before = repeated(rt, alloc, "m", stop);
+    let behind = repeated(rt, alloc, "m", len);
+    let text = joined(rt, alloc, &[before.as_str(), "b", behind.as_str()]);
+    let piece = text.as_bytes().get(..len).unwrap_or(b"");
+    passed_is(rt, alloc, ("b", ONE, KEPT), piece, len, Some(want));
+}
+
+/// Where the `b` stands in a text of 2,000 bytes, and where that is left.
+const FOUR_RUNS: [(usize, Place); 6] = [
+    (300, (299, 300, 'b')),
+    (700, (699, 700, 'b')),
+    (1_100, (1_099, 1_100, 'b')),
+    (1_700, (1_699, 1_700, 'b')),
+    (1_990, (1_989, 1_990, 'b')),
+    (2_000, (1_998, 1_999, 'm')),
+];
 
 /// A long text, of which four runs pass as much by as one does: they stop in the first, second, third or fourth of them, or not.
 #[test]
 fn long_text_is_passed_by(rt: HostRuntime) {
-    for (stop, want) in [
-        (300, (299, 300, 'b')),
-        (700, (699, 700, 'b')),
-        (1_100, (1_099, 1_100, 'b')),
-        (1_700, (1_699, 1_700, 'b')),
-        (1_990, (1_989, 1_990, 'b')),
-        (2_000, (1_998, 1_999, 'm')),
-    ] {
-        let mut piece = [b'm'; 2_000];
-        if let Some(byte) = piece.get_mut(stop) {
-            *byte = b'b';
-        }
-        passed_is(&rt, rt.alloc(), ("b", ONE, KEPT), &piece, 2_000, Some(want));
+    for (stop, want) in FOUR_RUNS {
+        stop_is(&rt, rt.alloc(), 2_000, stop, want);
     }
 }
+
+/// The same in a text of 3,000 bytes.
+const WINDOWS: [(usize, Place); 5] = [
+    (3, (2, 3, 'b')),
+    (13, (12, 13, 'b')),
+    (1_300, (1_299, 1_300, 'b')),
+    (2_995, (2_994, 2_995, 'b')),
+    (3_000, (2_998, 2_999, 'm')),
+];
 
 /// A text so long that windows are begun in guesses. They pass as much by as single moves do, where the first guess is wrong as well,
 /// where the text stops in a window or in the last bytes, and where it may be passed by up to no place in the last windows.
 #[test]
 fn windows_pass_by_as_much(rt: HostRuntime) {
-    for (stop, want) in [
-        (3, (2, 3, 'b')),
-        (13, (12, 13, 'b')),
-        (1_300, (1_299, 1_300, 'b')),
-        (2_995, (2_994, 2_995, 'b')),
-        (3_000, (2_998, 2_999, 'm')),
-    ] {
-        let mut piece = [b'm'; 3_000];
-        if let Some(byte) = piece.get_mut(stop) {
-            *byte = b'b';
-        }
-        passed_is(&rt, rt.alloc(), ("b", ONE, KEPT), &piece, 3_000, Some(want));
+    for (stop, want) in WINDOWS {
+        stop_is(&rt, rt.alloc(), 3_000, stop, want);
     }
-    let mut piece = [b'a'; 3_000];
-    for byte in &mut piece[..1_000] {
-        *byte = b'm';
-    }
-    passed_is(
-        &rt,
-        rt.alloc(),
-        ("aab", ONE, KEPT),
-        &piece,
-        3_000,
-        Some((999, 1_000, 'a')),
-    );
+    let text = repeated(&rt, rt.alloc(), "m", 1_000);
+    let rest = repeated(&rt, rt.alloc(), "a", 2_000);
+    let text = joined(&rt, rt.alloc(), &[text.as_str(), rest.as_str()]);
+    let want = Some((999, 1_000, 'a'));
+    let settings = ("aab", ONE, KEPT);
+    passed_is(&rt, rt.alloc(), settings, text.as_bytes(), 3_000, want);
 }
+
+const VARIABLE: [(&str, Place); 3] = [
+    ("mm mm", (3, 4, 'm')),
+    ("mm  ", (1, 2, ' ')),
+    ("m \u{301}mm", (4, 5, 'm')),
+];
 
 /// A space begins a cluster and has no key in shifted weighting, and so no key that the pattern does not have.
 #[test]
 fn variable_characters_are_passed_by(rt: HostRuntime) {
-    for (text, want) in [
-        ("mm mm", (3, 4, 'm')),
-        ("mm  ", (1, 2, ' ')),
-        ("m \u{301}mm", (4, 5, 'm')),
-    ] {
-        let piece = text.as_bytes();
-        passed_is(
-            &rt,
-            rt.alloc(),
-            ("b", TWO, SHIFTED),
-            piece,
-            piece.len(),
-            Some(want),
-        );
+    for (text, want) in VARIABLE {
+        let (settings, text) = (("b", TWO, SHIFTED), text.as_bytes());
+        passed_is(&rt, rt.alloc(), settings, text, text.len(), Some(want));
     }
 }
 
@@ -187,33 +166,30 @@ fn refused_moves_are_stops(rt: HostRuntime) {
     let table = table_of(&rt, rt.alloc(), TABLE, None);
     let pattern = compile(&rt, rt.alloc(), &table, ("b", ONE, KEPT));
     let text = b"mememememe";
-    let places = try_passed(rt.alloc(), &table, &pattern, text, text.len());
-    let [first, _] = places.expect(&rt, "memory");
-    let places = try_passed(rt.alloc(), &table, &pattern, text, text.len());
-    let [again, _] = places.expect(&rt, "memory");
+    let [first, _] = passed(&rt, rt.alloc(), &table, &pattern, text, text.len());
+    let [again, _] = passed(&rt, rt.alloc(), &table, &pattern, text, text.len());
     let all = Some((8, 9, 'e'));
-    assert!(rt; first == all || again == all);
+    holds(&rt, first == all || again == all, &(first, again));
 }
 
-/// What passes by of a text where the automaton rests, as it does once nothing has paid: character by character. The letters of `m`,
-/// `b`, U+0301, U+4E00 and U+D55C are known.
-fn try_one_by_one(
+/// The characters whose letters are known.
+const KNOWN: [char; 5] = ['m', 'b', '\u{301}', '\u{4E00}', '\u{D55C}'];
+
+/// What passes by of a text where the automaton rests, as it does once nothing has paid: character by character.
+fn one_by_one(
+    rt: &impl Abort,
     alloc: Global,
     table: &Table,
     pattern: &Pattern,
     text: &str,
     reach: usize,
-) -> Result<[Option<Place>; 2], AllocError> {
-    let mut letters = Letters::new(alloc, table)?;
-    letters.letter(table, pattern, 'm');
-    letters.letter(table, pattern, 'b');
-    letters.letter(table, pattern, '\u{301}');
-    letters.letter(table, pattern, '\u{4E00}');
-    letters.letter(table, pattern, '\u{D55C}');
-    let mut skip = Skip::new(alloc);
-    let nothing = skip.pass(table, pattern, &mut letters, b"", 0);
-    let passed = skip.pass(table, pattern, &mut letters, text.as_bytes(), reach);
-    Ok([place_of(nothing), place_of(passed)])
+) -> [Option<Place>; 2] {
+    let mut ways = ways_of(rt, alloc, table, pattern);
+    for c in KNOWN {
+        ways.letter(c);
+    }
+    let nothing = ways.pass(b"", 0);
+    [nothing, ways.pass(text.as_bytes(), reach)]
 }
 
 /// Characters with other keys go one by one, before a character whose letter is known and is no mark, and that begins not after `reach`.
@@ -233,11 +209,9 @@ const CHARACTERS: [(&str, usize, Option<Place>); 8] = [
 fn characters_are_passed_by(rt: HostRuntime) {
     let table = table_of(&rt, rt.alloc(), TABLE, None);
     let pattern = compile(&rt, rt.alloc(), &table, ("b", ONE, KEPT));
-    for (text, reach, want) in &CHARACTERS {
-        let places = try_one_by_one(rt.alloc(), &table, &pattern, *text, *reach);
-        let [nothing, place] = places.expect(&rt, "memory");
-        place_is(&rt, nothing, None, *text);
-        place_is(&rt, place, *want, *text);
+    for (text, reach, want) in CHARACTERS {
+        let places = one_by_one(&rt, rt.alloc(), &table, &pattern, text, reach);
+        places_are(&rt, places, [None, want], text);
     }
 }
 
@@ -252,37 +226,20 @@ const MORE: &str = "0001 ; [.0000.0000.0000]
 ";
 
 /// What passes by of a text in blocks of ASCII, before and after a long one by which their place is chosen.
-fn try_blocks(
-    alloc: Global,
-    table: &Table,
-    pattern: &Pattern,
-    long: &[u8],
-    text: &str,
-    reach: usize,
-) -> Result<[Option<Place>; 2], AllocError> {
-    let mut letters = Letters::new(alloc, table)?;
-    let mut blocks = AsciiBlocks::new();
-    let before = blocks.pass(table, pattern, &mut letters, text.as_bytes(), reach);
-    let _long = blocks.pass(table, pattern, &mut letters, long, 1_000);
-    let after = blocks.pass(table, pattern, &mut letters, text.as_bytes(), reach);
-    Ok([place_of(before), place_of(after)])
-}
-
-/// Compares that nothing passes by in blocks before a long text came: what does then.
-fn place_in_blocks(
+fn in_blocks(
     rt: &impl Abort,
     alloc: Global,
     settings: Settings<'_>,
     long: &[u8],
     text: &str,
     reach: usize,
-) -> Option<Place> {
+) -> [Option<Place>; 2] {
     let table = table_of(rt, alloc, TABLE, Some(MORE.as_bytes()));
     let pattern = compile(rt, alloc, &table, settings);
-    let places = try_blocks(alloc, &table, &pattern, long, text, reach);
-    let [before, after] = places.expect(rt, "memory");
-    place_is(rt, before, None, text);
-    after
+    let mut ways = ways_of(rt, alloc, &table, &pattern);
+    let before = ways.pass_blocks(text.as_bytes(), reach);
+    let _long = ways.pass_blocks(long, 1_000);
+    [before, ways.pass_blocks(text.as_bytes(), reach)]
 }
 
 const TELL: &str = "a toll at bottle to tell all a total at a tab. ";
@@ -320,17 +277,17 @@ const BLOCKS: [Block; 12] = [
 ];
 
 /// Compares what passes by in blocks: nothing before a long text came, then this much.
-fn block_is(rt: &impl Abort, alloc: Global, row: &Block<'_>) {
-    let (sought, text, reach, want) = *row;
+fn block_is(rt: &impl Abort, alloc: Global, row: Block<'_>) {
+    let (sought, text, reach, want) = row;
     let long = repeated(rt, alloc, if text.is_empty() { TELL } else { text }, 32);
     let settings = (sought, ONE, KEPT);
-    let after = place_in_blocks(rt, alloc, settings, long.as_bytes(), text, reach);
-    place_is(rt, after, want, text);
+    let places = in_blocks(rt, alloc, settings, long.as_bytes(), text, reach);
+    places_are(rt, places, [None, want], text);
 }
 
 #[test]
 fn text_is_passed_by_in_blocks(rt: HostRuntime) {
-    for row in &BLOCKS {
+    for row in BLOCKS {
         block_is(&rt, rt.alloc(), row);
     }
 }
@@ -339,6 +296,6 @@ fn text_is_passed_by_in_blocks(rt: HostRuntime) {
 #[test]
 fn waits_for_a_long_text(rt: HostRuntime) {
     let settings = ("ax", THREE, KEPT);
-    let after = place_in_blocks(&rt, rt.alloc(), settings, &[b't'; 1_024], TELL, 47);
-    assert!(rt; after.is_some());
+    let [before, after] = in_blocks(&rt, rt.alloc(), settings, &[b't'; 1_024], TELL, 47);
+    holds(&rt, before.is_none() && after.is_some(), &TELL);
 }

@@ -1,6 +1,6 @@
 //! Table files with their answers, those of a `Table` and of a `PlainTable`. Where memory is refused once, a file is read again.
 
-use crate::calls::{TABLE, put, repeated, table_of, text_is, try_table};
+use crate::calls::{TABLE, holds, put, repeated, same_at, table_of, text_is, try_table};
 use collation_table::{Element, PlainTable, TableFault, Weights};
 use std::alloc::Global;
 use std::process::Abort;
@@ -62,7 +62,7 @@ fn plain_of(rt: &impl Abort, alloc: Global, file: &str) -> PlainTable {
 
 /// An answer is this.
 fn answer_is(rt: &impl Abort, got: Answer, want: Answer, row: &[u8]) {
-    assert_eq!(rt; got, want, "{row:?}");
+    same_at(rt, &got, &want, &row);
 }
 
 /// The answer to a file is this, by either table.
@@ -283,13 +283,17 @@ fn bounds_a_line(rt: HostRuntime) {
     line_is(&rt, rt.alloc(), 1, 129, Err((4, 1)), Err((64, 1)));
 }
 
+/// Writes a range of one code point.
+fn put_range(rt: &impl Abort, file: &mut String, point: u32) {
+    writeln!(file, "@implicitweights {point:X}..{point:X}; FB00").expect(rt, "memory");
+}
+
 /// A row, and as many ranges of one code point from `first` on.
 fn ranges_of(rt: &impl Abort, alloc: Global, first: u32, ranges: u32) -> String {
     let mut file = String::new(alloc);
     put(rt, &mut file, "0061 ; [.1C00.0020.0002]\n");
     for range in 0..ranges {
-        let point = first.wrapping_add(range);
-        writeln!(file, "@implicitweights {point:X}..{point:X}; FB00").expect(rt, "memory");
+        put_range(rt, &mut file, first.wrapping_add(range));
     }
     file
 }
@@ -306,10 +310,20 @@ fn bounds_the_ranges(rt: HostRuntime) {
     both_are(&rt, rt.alloc(), &most, &more_after, Err((73, 258)));
 }
 
+/// Writes an element with this first weight.
+fn put_element(rt: &impl Abort, file: &mut String, weight: u32) {
+    write!(file, "[.{weight:04X}.0020.0002]").expect(rt, "memory");
+}
+
+/// Writes a code point.
+fn put_point(rt: &impl Abort, file: &mut String, point: u32) {
+    write!(file, "{point:04X} ").expect(rt, "memory");
+}
+
 /// Writes elements with this first weight, and ends the line.
 fn put_elements(rt: &impl Abort, file: &mut String, weight: u32, elements: usize) {
     for _ in 0..elements {
-        write!(file, "[.{weight:04X}.0020.0002]").expect(rt, "memory");
+        put_element(rt, file, weight);
     }
     put(rt, file, "\n");
 }
@@ -317,7 +331,7 @@ fn put_elements(rt: &impl Abort, file: &mut String, weight: u32, elements: usize
 /// Writes an entry line: the code points of a mapped string, and elements with this first weight.
 fn put_row(rt: &impl Abort, file: &mut String, string: &[u32], weight: u32, elements: usize) {
     for point in string {
-        write!(file, "{point:04X} ").expect(rt, "memory");
+        put_point(rt, file, *point);
     }
     put(rt, file, "; ");
     put_elements(rt, file, weight, elements);
@@ -347,12 +361,16 @@ type Row = (usize, u16, bool);
 
 const NO_ROW: Row = (0, 0, false);
 
-/// Compares the longest prefix of a string that is mapped, and the row of the string.
+/// The longest prefix of a string that is mapped, and the row of the string.
+fn string_in<'a, W: Weights>(table: &'a W, string: &[u32]) -> (usize, &'a [Element]) {
+    (table.longest(string), table.row(string).unwrap_or(&[]))
+}
+
+/// Compares them.
 fn string_is<W: Weights>(rt: &impl Abort, table: &W, string: &[u32], longest: usize, want: Row) {
+    let (len, row) = string_in(table, string);
     let (elements, w1, is_variable) = want;
-    assert_eq!(rt; table.longest(string), longest, "{string:?}");
-    let row = table.row(string).unwrap_or(&[]);
-    assert_eq!(rt; row.len(), elements, "{string:?}");
+    same_at(rt, &(len, row.len()), &(longest, elements), &string);
     let element = Element {
         is_variable,
         w1,
@@ -360,7 +378,7 @@ fn string_is<W: Weights>(rt: &impl Abort, table: &W, string: &[u32], longest: us
         w3: 2,
     };
     for it in row {
-        assert_eq!(rt; *it, element, "{string:?}");
+        same_at(rt, it, &element, &string);
     }
 }
 
@@ -412,16 +430,22 @@ const GOES_ON: [(&[u32], bool); 8] = [
     (&[], true),
 ];
 
+/// Whether a string goes on in a table.
+fn goes_on_in<W: Weights>(table: &W, string: &[u32]) -> bool {
+    table.goes_on(string)
+}
+
 /// `abc` is mapped, and `ab` is not. A plain table does not know.
 #[test]
 fn says_what_goes_on(rt: HostRuntime) {
     let tailor = "0061 0062 0063 ; [.1C05.0020.0002]";
     let table = table_of(&rt, rt.alloc(), TABLE, Some(tailor.as_bytes()));
     for (string, goes_on) in &GOES_ON {
-        assert_eq!(rt; table.goes_on(*string), *goes_on, "{string:?}");
+        same_at(&rt, &goes_on_in(&table, *string), goes_on, string);
     }
     let plain = plain_of(&rt, rt.alloc(), TABLE);
-    assert!(rt; plain.goes_on(&[0x63, 0x68]));
+    let string = [0x63, 0x68];
+    holds(&rt, goes_on_in(&plain, &string), &string);
 }
 
 const PLAIN: &str = "0061 ; [.1C00.0020.0002]";
@@ -458,9 +482,9 @@ fn implicit_in<W: Weights>(table: &W, point: u32) -> [u16; 2] {
 fn weighs_what_has_no_row(rt: HostRuntime) {
     for (file, point, want) in &IMPLICIT {
         let table = table_of(&rt, rt.alloc(), *file, None);
-        assert_eq!(rt; implicit_in(&table, *point), *want, "{point:X}");
+        same_at(&rt, &implicit_in(&table, *point), want, point);
         let plain = plain_of(&rt, rt.alloc(), *file);
-        assert_eq!(rt; implicit_in(&plain, *point), *want, "{point:X}");
+        same_at(&rt, &implicit_in(&plain, *point), want, point);
     }
 }
 

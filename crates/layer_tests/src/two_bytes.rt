@@ -2,15 +2,11 @@
 //! by which sets are chosen, kept and asked, and on made texts, beside a plain test of each byte. Blocks stop where two keys of the
 //! pattern follow one another, and the automaton goes on there: so they are told apart.
 
-ghost use Rattle.collation_letters.specs.Store.{AreLetters};
-ghost use Rattle.collation_skip.specs.Skips.{IsSkipRight};
-
-use crate::calls::{KEPT, ONE, TABLE, compile, put, repeated, table_of};
-use collation_letters::Letters;
+use crate::calls::{KEPT, ONE, TABLE, compile, holds, put, repeated, same_at, table_of};
+use crate::ways::{Place, Ways, ways_of};
 use collation_pattern::Pattern;
-use collation_skip::{Passed, Skip};
-use collation_table::{Table, Weights};
-use std::alloc::{AllocError, Global};
+use collation_table::Table;
+use std::alloc::Global;
 use std::process::Abort;
 
 /// Ten letters of which patterns are made, and other ones.
@@ -47,50 +43,26 @@ const WORTH: usize = 32;
 type Row<'a> = (&'a [u8], usize, usize);
 
 /// How much is passed by of a text.
-fn len_of(passed: Option<Passed>) -> usize {
-    match passed {
-        Some(it) => it.end,
+fn len_of(place: Option<Place>) -> usize {
+    match place {
+        Some((_start, end, _next)) => end,
         None => 0,
     }
 }
 
 /// Compares how much is passed by of a text, each time that it comes.
-fn compare_row<W: Weights>(
-    rt: &impl Abort,
-    table: &W,
-    pattern: &Pattern,
-    letters: &mut Letters,
-    skip: &mut Skip,
-    row: &Row<'_>,
-)
-    requires right { IsSkipRight (W.table table.now) pattern.now skip.old }
-    requires letters { AreLetters (W.table table.now) pattern.now letters.old }
-    ensures right { IsSkipRight (W.table table.now) pattern.now skip.new }
-    ensures letters { AreLetters (W.table table.now) pattern.now letters.new }
-{
+fn compare_row(rt: &impl Abort, ways: &mut Ways<'_>, row: &Row<'_>) {
     let (text, times, want) = *row;
     for time in 0..times {
-        let passed = skip.pass(table, pattern, letters, text, text.len());
-        assert_eq!(rt; len_of(passed), want, "{time} of {}", text.len());
+        let len = len_of(ways.pass(text, text.len()));
+        same_at(rt, &len, &want, &(time, text.len()));
     }
 }
 
 /// Compares each row in turn.
-fn compare_rows<W: Weights>(
-    rt: &impl Abort,
-    table: &W,
-    pattern: &Pattern,
-    letters: &mut Letters,
-    skip: &mut Skip,
-    rows: &[Row<'_>],
-)
-    requires right { IsSkipRight (W.table table.now) pattern.now skip.old }
-    requires letters { AreLetters (W.table table.now) pattern.now letters.old }
-    ensures right { IsSkipRight (W.table table.now) pattern.now skip.new }
-    ensures letters { AreLetters (W.table table.now) pattern.now letters.new }
-{
+fn compare_rows(rt: &impl Abort, ways: &mut Ways<'_>, rows: &[Row<'_>]) {
     for row in rows {
-        compare_row(rt, table, pattern, letters, skip, row);
+        compare_row(rt, ways, row);
     }
 }
 
@@ -205,40 +177,37 @@ fn passed_len(text: &[u8], limit: usize) -> usize {
     passed
 }
 
+/// Compares how much is passed by in blocks of a text behind a calm one, up to a place before its end: whether it is so much that blocks do.
+fn compare_piece(rt: &impl Abort, ways: &mut Ways<'_>, piece: &[u8], less: usize) -> bool {
+    let limit = piece.len().saturating_sub(less);
+    let len = len_of(ways.pass(piece, limit));
+    let want = passed_len(piece, limit);
+    if want < WORTH {
+        return false;
+    }
+    same_at(rt, &len, &want, &(limit, piece));
+    true
+}
+
 /// Compares made texts of each length, up to their ends and to places before them, each behind a calm one: how many of them are passed by
 /// in blocks.
-fn compare_made<W: Weights>(
-    rt: &impl Abort,
-    alloc: Global,
-    table: &W,
-    pattern: &Pattern,
-    letters: &mut Letters,
-    skip: &mut Skip,
-    made: usize,
-) -> usize
-    requires right { IsSkipRight (W.table table.now) pattern.now skip.old }
-    requires letters { AreLetters (W.table table.now) pattern.now letters.old }
-{
+fn compare_made(rt: &impl Abort, alloc: Global, ways: &mut Ways<'_>, made: usize) -> usize {
     let mut number = 7u64;
     let mut count = 0usize;
     let calm = repeated(rt, alloc, "л", 250);
     for round in 0..made {
         let text = made_text(rt, alloc, &mut number, RATES[round % 4]);
         let piece = text.as_bytes().get(..round / 4).unwrap_or(b"");
-        let limit = piece.len().saturating_sub((number >> 40) as usize % 4);
-        compare_row(rt, table, pattern, letters, skip, &all(&calm, 1));
-        let passed = skip.pass(table, pattern, letters, piece, limit);
-        let want = passed_len(piece, limit);
-        if want >= WORTH {
-            assert_eq!(rt; len_of(passed), want, "{limit} of {text}");
+        compare_row(rt, ways, &all(&calm, 1));
+        if compare_piece(rt, ways, piece, (number >> 40) as usize % 4) {
             count = count.saturating_add(1);
         }
     }
     count
 }
 
-/// Compares rows where nothing was passed by before, and made texts behind them, unless memory is refused.
-fn try_rows(
+/// Compares rows where nothing was passed by before, and made texts behind them.
+fn rows_are(
     rt: &impl Abort,
     alloc: Global,
     table: &Table,
@@ -246,12 +215,11 @@ fn try_rows(
     before: &[Row<'_>],
     rows: &[Row<'_>],
     made: usize,
-) -> Result<usize, AllocError> {
-    let mut letters = Letters::new(alloc, table)?;
-    let mut skip = Skip::new(alloc);
-    compare_rows(rt, table, pattern, &mut letters, &mut skip, before);
-    compare_rows(rt, table, pattern, &mut letters, &mut skip, rows);
-    Ok(compare_made(rt, alloc, table, pattern, &mut letters, &mut skip, made))
+) -> usize {
+    let mut ways = ways_of(rt, alloc, table, pattern);
+    compare_rows(rt, &mut ways, before);
+    compare_rows(rt, &mut ways, rows);
+    compare_made(rt, alloc, &mut ways, made)
 }
 
 /// Compares rows behind a sample, before which the automaton passed by so many bytes: how many made texts behind them were passed by in
@@ -270,8 +238,7 @@ fn rows_after(
     let much = calm(rt, alloc, MUCH + 2);
     let rest = calm(rt, alloc, bytes % MUCH + 2);
     let before = [all(&much, bytes / MUCH), all(&rest, 1), all(sample, 1)];
-    let compared = try_rows(rt, alloc, &table, &pattern, &before, rows, made);
-    compared.expect(rt, "memory")
+    rows_are(rt, alloc, &table, &pattern, &before, rows, made)
 }
 
 /// Compares rows where sets were chosen before, and made texts behind them.
@@ -313,9 +280,11 @@ const LEADS: [&str; 9] = [
 /// The first of them, so many, each behind so many bytes.
 fn leads(rt: &impl Abort, alloc: Global, from: usize, count: usize, before: usize) -> String {
     let mut text = String::new(alloc);
-    for lead in LEADS.iter().skip(from).take(count) {
-        put(rt, &mut text, &calm(rt, alloc, before));
-        put(rt, &mut text, *lead);
+    for at in 0..count {
+        if let Some(lead) = LEADS.get(at.saturating_add(from)) {
+            put(rt, &mut text, &calm(rt, alloc, before));
+            put(rt, &mut text, *lead);
+        }
     }
     text
 }
@@ -361,8 +330,10 @@ const KEYS: [&str; 10] = ["а", "б", "в", "г", "д", "е", "ж", "з", "и", 
 /// So many of them, from a place on.
 fn keys(rt: &impl Abort, alloc: Global, place: usize, count: usize) -> String {
     let mut text = String::new(alloc);
-    for key in KEYS.iter().skip(place).take(count) {
-        put(rt, &mut text, *key);
+    for at in 0..count {
+        if let Some(key) = KEYS.get(at.saturating_add(place)) {
+            put(rt, &mut text, *key);
+        }
     }
     text
 }
@@ -470,7 +441,7 @@ fn short_texts_end_sets(rt: HostRuntime) {
 #[test]
 fn blocks_of_two_bytes_pass_all(rt: HostRuntime) {
     let count = rows_with_sets(&rt, rt.alloc(), &[], 1_200);
-    assert!(rt; count > 600, "{count}");
+    holds(&rt, count > 600, &count);
 }
 
 /// By moves of the automaton two keys of three are passed by, which stop the blocks. Once the automaton has passed by much, characters of
@@ -485,6 +456,5 @@ fn characters_of_two_bytes_pass_in_blocks(rt: HostRuntime) {
     let text = repeated(&rt, alloc, &text, 10);
     let before = [(text.as_bytes(), 107, text.len().saturating_sub(5))];
     let rows = [(text.as_bytes(), 24, 480)];
-    let compared = try_rows(&rt, alloc, &table, &pattern, &before, &rows, 0);
-    compared.expect(&rt, "memory");
+    rows_are(&rt, alloc, &table, &pattern, &before, &rows, 0);
 }
