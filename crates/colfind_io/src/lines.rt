@@ -45,7 +45,8 @@ impl Lines {
         self.failed
     }
 
-    /// Writes the lines that wait. After a failed write they are dropped.
+    /// Writes the lines that wait. After a failed write they are dropped. It is kept apart, so that a range does not pay for its loop.
+    #[inline(never)]
     pub fn send<O: Target>(&mut self, out: &mut O)
         requires { self.old.failed ≡ false → O.failures out.old < 2 ^ 63 }
         ensures prints { (form : Output) (ranges : List (ℕ × ℕ)) (before : Option (List ℕ))
