@@ -32,7 +32,7 @@ pub struct Finder {
     pub pattern_len: usize,
     /// What the reorderer gave last, and the items of the last unit. Their room is used again and again.
     pub given: ArrayVec<Point, MOST_GIVEN>,
-    /// It stands on the heap, so that a search that is moved, as one that is put away, does not carry it.
+    /// It stands on the heap, so that a finder that is moved, as into the box of a search, does not carry it.
     pub items: Box<ArrayVec<Item, MOST_ITEMS>>,
     ghost capacity: { window.capacity ≡ longest_key + MOST_GIVEN },
     ghost short: { longest_key ≤ MOST_STRING_POINTS },
