@@ -19,6 +19,7 @@ use collation_pattern::Pattern;
 use collation_search::{Select, TextFault};
 use collation_table::{PlainTable, Table, Weights};
 use std::alloc::Global;
+use std::fmt::Debug;
 use std::process::{Abort, ExitCode, Termination};
 use std::{env, fs, process};
 
@@ -58,6 +59,26 @@ const TABLE: &str = "@version 0.0.0
 ";
 
 const MAX: u64 = u64::MAX;
+
+/// Two values are the same. A proof goes through what a comparison prints once, for any type, and not at each use.
+fn same<T: PartialEq + Debug>(rt: &impl Abort, got: &T, want: &T) {
+    assert_eq!(rt; *got, *want);
+}
+
+/// The same of a row, which is told.
+fn same_at<T: PartialEq + Debug, A: Debug>(rt: &impl Abort, got: &T, want: &T, row: &A) {
+    assert_eq!(rt; *got, *want, "{row:?}");
+}
+
+/// The bytes are these.
+fn bytes_are(rt: &impl Abort, got: &[u8], want: &[u8]) {
+    same(rt, &got, &want);
+}
+
+/// What a run reports and prints is this.
+fn run_is(rt: &impl Abort, got: Outcome, printed: &[u8], want: Outcome, wanted: &[u8]) {
+    same(rt, &(got, printed), &(want, wanted));
+}
 
 /// The table of these lines.
 fn table_of(rt: &impl Abort, alloc: Global, lines: &str) -> Table {
@@ -163,8 +184,7 @@ fn compare_run<W: Weights>(
     let mut reader = FailingSource::new(text, gives.max(1), reads);
     let mut out = FailingTarget::new(alloc, takes.max(1), writes);
     let reported = reported_of(alloc, table, &pattern, form, select, &mut reader, &mut out);
-    assert_eq!(rt; reported, outcome);
-    assert_eq!(rt; out.bytes(), printed.as_bytes());
+    run_is(rt, reported, out.bytes(), outcome, printed.as_bytes());
 }
 
 /// Ill-formed sequences at these offsets.
@@ -221,16 +241,19 @@ fn a_text_longer_than_one_read(rt: HostRuntime) {
     let mut reader = MemorySource::new(text.as_bytes(), usize::MAX);
     let mut out = MemoryTarget::new(alloc);
     let outcome = outcome_of(&rt, alloc, "aa", Count, &mut reader, &mut out);
-    assert_eq!(rt; outcome, Done(99_999));
-    assert_eq!(rt; out.bytes(), b"99999\n".as_slice());
+    run_is(&rt, outcome, out.bytes(), Done(99_999), b"99999\n");
+}
+
+/// Writes the marks of a range.
+fn put_marks(rt: &impl Abort, printed: &mut String, start: u64, end: u64) {
+    write!(printed, "[{start}\n]{end}\n").expect(rt, "memory");
 }
 
 /// The marks of 5,000 letters, each by itself.
 fn marks_of_letters(rt: &impl Abort, alloc: Global) -> String {
     let mut printed = String::new(alloc);
     for start in 0..5_000u64 {
-        let lines = format!(in alloc; "[{}\n]{}\n", start, start + 1).expect(rt, "memory");
-        printed.push_str(lines.as_str()).expect(rt, "memory");
+        put_marks(rt, &mut printed, start, start + 1);
     }
     printed
 }
@@ -243,9 +266,8 @@ fn many_lines(rt: HostRuntime) {
     let mut reader = MemorySource::new(text.as_bytes(), usize::MAX);
     let mut out = MemoryTarget::new(alloc);
     let outcome = outcome_of(&rt, alloc, "a", Marks, &mut reader, &mut out);
-    assert_eq!(rt; outcome, Done(5_000));
     let printed = marks_of_letters(&rt, alloc);
-    assert_eq!(rt; out.bytes(), printed.as_bytes());
+    run_is(&rt, outcome, out.bytes(), Done(5_000), printed.as_bytes());
 }
 
 /// The first range is known with the fourth byte: the cluster after it then has its first unit.
@@ -255,9 +277,8 @@ fn nothing_is_read_after_a_failed_write(rt: HostRuntime) {
     let mut reader = FailingSource::new(b"aaaaaaaa", 1, MAX);
     let mut out = FailingTarget::new(alloc, 5, 0);
     let outcome = outcome_of(&rt, alloc, "aa", Ranges, &mut reader, &mut out);
-    assert_eq!(rt; outcome, Outcome::Write);
-    assert_eq!(rt; reader.asked(), 4);
-    assert_eq!(rt; out.bytes(), b"".as_slice());
+    run_is(&rt, outcome, out.bytes(), Outcome::Write, b"");
+    same(&rt, &reader.asked(), &4);
 }
 
 /// Compares what is printed where a write fails after so many, by an error or by taking nothing.
@@ -265,10 +286,9 @@ fn compare_failed_write(rt: &impl Abort, alloc: Global, writes: u64, takes_nothi
     let mut reader = MemorySource::new(b"aaa", 4);
     let mut out = FailingTarget::new(alloc, 1, writes).taking_nothing(takes_nothing);
     let outcome = outcome_of(rt, alloc, "aa", Ranges, &mut reader, &mut out);
-    assert_eq!(rt; outcome, Outcome::Write);
-    let all = b"0:2\n1:3\n".as_slice();
-    assert_eq!(rt; Some(out.bytes()), all.get(..writes as usize));
-    assert_eq!(rt; out.failures(), 1);
+    let lines = b"0:2\n1:3\n".get(..writes as usize).expect(rt, "lines");
+    run_is(rt, outcome, out.bytes(), Outcome::Write, lines);
+    same(rt, &out.failures(), &1);
 }
 
 #[test]
@@ -279,18 +299,22 @@ fn each_write_fails_in_turn(rt: HostRuntime) {
     }
 }
 
+/// Compares what is printed where a read fails after so many: so many bytes of these lines.
+fn compare_failed_read(rt: &impl Abort, alloc: Global, reads: u64, len: usize) {
+    let mut reader = FailingSource::new(b"aaaaaaaa", 1, reads);
+    let mut out = FailingTarget::new(alloc, 5, MAX);
+    let outcome = outcome_of(rt, alloc, "aa", Ranges, &mut reader, &mut out);
+    let all = b"0:2\n1:3\n2:4\n3:5\n4:6\n";
+    let lines = all.get(..len).expect(rt, "lines");
+    run_is(rt, outcome, out.bytes(), Read(reads), lines);
+}
+
 /// Of the letters that were read the matches that end before the last one are settled.
 #[test]
 fn each_read_fails_in_turn(rt: HostRuntime) {
-    let alloc = rt.alloc();
-    let all = b"0:2\n1:3\n2:4\n3:5\n4:6\n".as_slice();
     let lines = [0usize, 0, 0, 4, 8, 12, 16, 20];
-    for reads in 0..8usize {
-        let mut reader = FailingSource::new(b"aaaaaaaa", 1, reads as u64);
-        let mut out = FailingTarget::new(alloc, 5, MAX);
-        let outcome = outcome_of(&rt, alloc, "aa", Ranges, &mut reader, &mut out);
-        assert_eq!(rt; outcome, Read(reads as u64));
-        assert_eq!(rt; Some(out.bytes()), all.get(..lines[reads]));
+    for (reads, line) in lines.iter().enumerate() {
+        compare_failed_read(&rt, rt.alloc(), reads as u64, *line);
     }
 }
 
@@ -300,8 +324,7 @@ fn a_flush_fails(rt: HostRuntime) {
     let mut reader = MemorySource::new(b"aaa", 4);
     let mut out = FailingTarget::new(alloc, 3, MAX).failing_to_flush();
     let outcome = outcome_of(&rt, alloc, "aa", Ranges, &mut reader, &mut out);
-    assert_eq!(rt; outcome, Outcome::Write);
-    assert_eq!(rt; out.bytes(), b"0:2\n1:3\n".as_slice());
+    run_is(&rt, outcome, out.bytes(), Outcome::Write, b"0:2\n1:3\n");
 }
 
 #[test]
@@ -310,27 +333,25 @@ fn nothing_is_read_after_a_fault_of_the_text(rt: HostRuntime) {
     let mut reader = FailingSource::new(b"ab \xffab", 1, 4);
     let mut out = FailingTarget::new(alloc, 5, MAX);
     let outcome = outcome_of(&rt, alloc, "a", Ranges, &mut reader, &mut out);
-    assert_eq!(rt; outcome, AT_THREE);
-    assert_eq!(rt; out.bytes(), b"0:1\n".as_slice());
+    run_is(&rt, outcome, out.bytes(), AT_THREE, b"0:1\n");
 }
 
 #[test]
 fn reads_whole_lists(rt: HostRuntime) {
     let bytes = read_all(rt.alloc(), &mut MemorySource::new(b"abcdefg", 2)).ok();
-    let bytes = bytes.expect(&rt, "the bytes");
-    assert_eq!(rt; bytes.as_slice(), b"abcdefg".as_slice());
+    bytes_are(&rt, &bytes.expect(&rt, "the bytes"), b"abcdefg");
     let failed = read_all(rt.alloc(), &mut FailingSource::new(b"abcdefg", 2, 2));
-    assert!(rt; failed.err() == Some(FileFault::Device));
+    same(&rt, &failed.err(), &Some(FileFault::Device));
 }
 
 #[test]
 fn writes_whole_lists(rt: HostRuntime) {
     let mut out = MemoryTarget::new(rt.alloc());
-    assert!(rt; write_all(&mut out, b"ab").is_ok());
+    same(&rt, &write_all(&mut out, b"ab").is_ok(), &true);
     let mut lines = Lines::new(Ranges);
     lines.put_all(&mut out, &[(0, MAX)]);
-    assert!(rt; lines.finish(&mut out).is_ok());
-    assert_eq!(rt; out.bytes(), b"ab0:18446744073709551615\n".as_slice());
+    same(&rt, &lines.finish(&mut out).is_ok(), &true);
+    bytes_are(&rt, out.bytes(), b"ab0:18446744073709551615\n");
 }
 
 /// The status of the program.
@@ -351,6 +372,11 @@ fn status_of<R: Source>(
 /// A status, and what goes to the two outputs.
 type Answer<'a> = (u8, &'a str, &'a str);
 
+/// The answer to these words is this.
+fn answered_is(rt: &impl Abort, got: (u8, &[u8], &[u8]), want: (u8, &[u8], &[u8]), words: &[&str]) {
+    same_at(rt, &got, &want, &words);
+}
+
 /// Compares what the program answers of these words over an input.
 fn compare_answer<R: Source>(
     rt: &impl Abort,
@@ -364,16 +390,20 @@ fn compare_answer<R: Source>(
     let mut out = FailingTarget::new(host.alloc(), 7, MAX);
     let mut err = FailingTarget::new(host.alloc(), 7, MAX);
     let status = status_of(host, words, input, &mut out, &mut err);
-    assert_eq!(rt; status, answer.0, "{words:?}");
-    assert_eq!(rt; out.bytes(), answer.1.as_bytes(), "{words:?}");
-    assert_eq!(rt; err.bytes(), answer.2.as_bytes(), "{words:?}");
+    let (wanted, printed, reported) = answer;
+    answered_is(
+        rt,
+        (status, out.bytes(), err.bytes()),
+        (wanted, printed.as_bytes(), reported.as_bytes()),
+        words,
+    );
 }
 
 /// The same, and that the program asks its input for nothing.
 fn compare_unasked(rt: &impl Abort, host: &HostRuntime, words: &[&str], answer: Answer) {
     let mut input = FailingSource::new(b"ab", 2, MAX);
     compare_answer(rt, host, words, &mut input, answer);
-    assert_eq!(rt; input.asked(), 0);
+    same(rt, &input.asked(), &0);
 }
 
 /// The path of a file with this name and contents, in the folder for files of tests. No other
@@ -405,22 +435,28 @@ fn other_words_end_with_status_two(rt: HostRuntime) {
     let mut out = MemoryTarget::new(alloc);
     let mut err = MemoryTarget::new(alloc);
     let status = ended(&rt, &mut input, &mut out, &mut err);
-    assert_eq!(rt; err.bytes(), b"colfind: usage\n".as_slice());
-    assert_eq!(rt; out.bytes(), b"".as_slice());
-    assert!(rt; status.report(&rt) == ExitCode::from(2));
+    bytes_are(&rt, err.bytes(), b"colfind: usage\n");
+    bytes_are(&rt, out.bytes(), b"");
+    same(&rt, &(status.report(&rt) == ExitCode::from(2)), &true);
 }
 
 /// Words between the table file and the pattern, the pattern, a text, the status, and what goes to the two outputs.
 type Row<'a> = (&'a [&'a str], &'a str, &'a [u8], u8, &'a str, &'a str);
 
+/// Puts a word behind the others.
+fn put_word<'a>(rt: &impl Abort, words: &mut Vec<&'a str>, word: &'a str) {
+    words.push(word).expect(rt, "memory");
+}
+
 /// The words of a row, with a table in the file at `path`.
 fn words_of<'a>(rt: &impl Abort, alloc: Global, path: &'a str, row: &Row<'a>) -> Vec<&'a str> {
     let mut words = Vec::new(alloc);
-    words
-        .extend_from_slice(&["--table", path])
-        .expect(rt, "memory");
-    words.extend_from_slice(row.0).expect(rt, "memory");
-    words.push(row.1).expect(rt, "memory");
+    put_word(rt, &mut words, "--table");
+    put_word(rt, &mut words, path);
+    for word in row.0 {
+        put_word(rt, &mut words, *word);
+    }
+    put_word(rt, &mut words, row.1);
     words
 }
 
@@ -487,6 +523,26 @@ fn the_first_fault_in_the_order_of_work_is_reported(rt: HostRuntime) {
     remove_file(&rt, &rt, bad.as_str());
 }
 
+/// Compares what is reported where nothing can be printed, and only so many bytes be reported.
+fn compare_unwritten(
+    rt: &impl Abort,
+    host: &HostRuntime,
+    words: &[&str],
+    reports: u64,
+    reported: &str,
+) {
+    let mut input = MemorySource::new(b"ab", 2);
+    let mut out = FailingTarget::new(host.alloc(), 7, 0);
+    let mut err = FailingTarget::new(host.alloc(), 1, reports);
+    let status = status_of(host, words, &mut input, &mut out, &mut err);
+    answered_is(
+        rt,
+        (status, b"", err.bytes()),
+        (2, b"", reported.as_bytes()),
+        words,
+    );
+}
+
 #[test]
 fn reports_devices_that_fail(rt: HostRuntime) {
     let path = file_with(&rt, &rt, "devices", TABLE);
@@ -495,12 +551,7 @@ fn reports_devices_that_fail(rt: HostRuntime) {
     let unread = (2, "0:1\n", "colfind: fault 41 at 2\n");
     compare_answer(&rt, &rt, &words, &mut input, unread);
     for (reports, reported) in [(MAX, "colfind: fault 42 at 0\n"), (9, "colfind: ")] {
-        let mut input = MemorySource::new(b"ab", 2);
-        let mut out = FailingTarget::new(rt.alloc(), 7, 0);
-        let mut err = FailingTarget::new(rt.alloc(), 1, reports);
-        let status = status_of(&rt, &words, &mut input, &mut out, &mut err);
-        assert_eq!(rt; status, 2);
-        assert_eq!(rt; err.bytes(), reported.as_bytes());
+        compare_unwritten(&rt, &rt, &words, reports, reported);
     }
     remove_file(&rt, &rt, path.as_str());
 }

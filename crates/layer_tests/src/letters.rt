@@ -83,6 +83,11 @@ fn letter(rt: &impl Abort, alloc: Global, settings: Settings<'_>, c: char) -> Le
     letters(rt, alloc, settings, c, ('c', 'h')).0
 }
 
+/// The letter of a character to a pattern begins with this.
+fn letter_to_is(rt: &impl Abort, alloc: Global, pattern: &str, c: char, want: &str) {
+    letter_is(rt, alloc, letter(rt, alloc, (pattern, ONE, KEPT), c), want);
+}
+
 /// Letters to a pattern of one key, with variable elements kept.
 const OF_CHARACTERS: [(char, &str); 14] = [
     ('a', "Plain 255 255 1; 1/0; closed apart"),
@@ -174,11 +179,13 @@ fn symbols_of_keys(rt: HostRuntime) {
     for row in SYMBOLS {
         symbol_is(&rt, rt.alloc(), &table, row);
     }
+}
+
+#[test]
+fn letters_of_many_keys(rt: HostRuntime) {
     let more = repeated(&rt, rt.alloc(), "a", 1_025);
-    let unknown = letter(&rt, rt.alloc(), (more.as_str(), ONE, KEPT), 'a');
-    letter_is(&rt, rt.alloc(), unknown, "Steps");
-    let three = letter(&rt, rt.alloc(), ("ab", ONE, KEPT), 'x');
-    letter_is(&rt, rt.alloc(), three, "Base 0 1 2;");
+    letter_to_is(&rt, rt.alloc(), more.as_str(), 'a', "Steps");
+    letter_to_is(&rt, rt.alloc(), "ab", 'x', "Base 0 1 2;");
 }
 
 /// A key that has the place of `A` in the set of a pattern's keys.

@@ -1,5 +1,6 @@
 //! What the words of the command ask for, and which words are refused.
 
+use super::same_at;
 use colfind_io::Output::{self, Count, Marks, Ranges};
 use colfind_run::settings::settings;
 use colfind_run::words::{Settings, SettingsFault};
@@ -68,6 +69,16 @@ const TAKEN: [(&[&str], Asked); 14] = [
     ),
 ];
 
+/// The words ask for this, or are refused so.
+fn settings_are<'a>(
+    rt: &impl Abort,
+    alloc: Global,
+    words: &'a [&'a str],
+    want: Result<Settings<'a>, SettingsFault>,
+) {
+    same_at(rt, &settings(alloc, words), &want, &words);
+}
+
 /// Compares what the words of a row ask for.
 fn compare<'a>(rt: &impl Abort, alloc: Global, words: &'a [&'a str], asked: Asked<'a>) {
     let (tailor, pattern, strength, variable, output, select, text) = asked;
@@ -81,7 +92,7 @@ fn compare<'a>(rt: &impl Abort, alloc: Global, words: &'a [&'a str], asked: Aske
         select,
         text,
     };
-    assert!(rt; settings(alloc, words) == Ok(wanted), "{words:?}");
+    settings_are(rt, alloc, words, Ok(wanted));
 }
 
 #[test]
@@ -89,6 +100,11 @@ fn reads_the_words(rt: HostRuntime) {
     for (words, asked) in &TAKEN {
         compare(&rt, rt.alloc(), *words, *asked);
     }
+}
+
+/// The words are refused.
+fn is_refused<'a>(rt: &impl Abort, alloc: Global, words: &'a [&'a str]) {
+    settings_are(rt, alloc, words, Err(SettingsFault::Usage));
 }
 
 const REFUSED: [&[&str]; 17] = [
@@ -114,9 +130,6 @@ const REFUSED: [&[&str]; 17] = [
 #[test]
 fn refuses_other_words(rt: HostRuntime) {
     for words in REFUSED {
-        assert!(rt;
-            settings(rt.alloc(), words) == Err(SettingsFault::Usage),
-            "{words:?}"
-        );
+        is_refused(&rt, rt.alloc(), words);
     }
 }

@@ -2,7 +2,7 @@
 ghost use Rattle.std.specs.Prelude.{Some, None, not, codes, ◌||◌, if◌then◌else◌};
 ghost use Rattle.std.specs.Str.{bytes_eq};
 
-use super::TABLE;
+use super::{TABLE, bytes_are, same};
 use colfind_io::{DeviceFault, FileFault, Folder, MemorySource, MemoryTarget};
 use colfind_run::faults::Stop;
 use colfind_run::program::count_matches;
@@ -55,8 +55,8 @@ fn compare<'a>(
     let mut input = MemorySource::new(b"a", 1);
     let mut out = MemoryTarget::new(alloc);
     let answer = count_matches(&folder, alloc, words, &mut input, &mut out);
-    assert!(rt; answer == wanted);
-    assert_eq!(rt; out.bytes(), printed.as_bytes());
+    same(rt, &answer, &wanted);
+    bytes_are(rt, out.bytes(), printed.as_bytes());
 }
 
 #[test]

@@ -1,6 +1,7 @@
 //! How many bytes one call moves: no clause says that a device gives or takes as many as it can.
 ghost use Rattle.std.specs.Prelude.{◌+◌, ◌^◌, ◌<◌, ◌≤◌};
 
+use super::{bytes_are, same};
 use crate::tests::devices::{FailingSource, FailingTarget};
 use colfind_io::{DeviceFault, MemorySource, MemoryTarget, Source, Target};
 use std::process::Abort;
@@ -12,8 +13,8 @@ fn compare_read<R: Source>(rt: &impl Abort, reader: &mut R, bytes: &[u8])
 {
     let mut buffer = [0u8; 8];
     let count = reader.read(&mut buffer);
-    assert!(rt; count == Ok(bytes.len()));
-    assert!(rt; buffer.get(..bytes.len()) == Some(bytes));
+    same(rt, &count, &Ok(bytes.len()));
+    bytes_are(rt, buffer.get(..bytes.len()).unwrap_or(b""), bytes);
 }
 
 #[test]
@@ -30,17 +31,17 @@ fn a_read_gives_as_many_bytes_as_it_may(rt: HostRuntime) {
     compare_read(&rt, &mut reader, b"abc");
     compare_read(&rt, &mut reader, b"def");
     let mut buffer = [0u8; 8];
-    assert!(rt; reader.read(&mut buffer) == Err(DeviceFault));
-    assert!(rt; reader.read(&mut buffer) == Err(DeviceFault));
+    same(&rt, &reader.read(&mut buffer), &Err(DeviceFault));
+    same(&rt, &reader.read(&mut buffer), &Err(DeviceFault));
 }
 
 #[test]
 fn a_write_takes_as_many_bytes_as_it_may(rt: HostRuntime) {
     let mut out = MemoryTarget::new(rt.alloc());
-    assert!(rt; out.write(b"abcdefg") == Ok(7));
+    same(&rt, &out.write(b"abcdefg"), &Ok(7));
     let mut out = FailingTarget::new(rt.alloc(), 3, 2);
-    assert!(rt; out.write(b"abcdefg") == Ok(3));
-    assert!(rt; out.write(b"de") == Ok(2));
-    assert!(rt; out.write(b"fg") == Err(DeviceFault));
-    assert_eq!(rt; out.bytes(), b"abcde".as_slice());
+    same(&rt, &out.write(b"abcdefg"), &Ok(3));
+    same(&rt, &out.write(b"de"), &Ok(2));
+    same(&rt, &out.write(b"fg"), &Err(DeviceFault));
+    bytes_are(&rt, out.bytes(), b"abcde");
 }

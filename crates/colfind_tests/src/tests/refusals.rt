@@ -1,7 +1,7 @@
 //! Memory that is refused: with any one allocation refused, the program answers as with ample memory or reports the refusal.
 //! To be run with each allocation refused in turn. A refusal that meets the test itself stops it.
 
-use super::{Row, TABLE, file_with, joined, remove_file, status_of, words_of, write_file};
+use super::{Row, TABLE, file_with, joined, remove_file, same_at, status_of, words_of, write_file};
 use crate::tests::devices::FailingTarget;
 use colfind_io::MemorySource;
 use std::process::Abort;
@@ -30,7 +30,7 @@ fn compare(rt: &impl Abort, answer: (u8, &[u8], &[u8]), row: &Row) {
     let is_refusal = status == 2
         && printed.is_empty()
         && REFUSALS.iter().any(|line| reported == line.as_bytes());
-    assert!(rt; is_ample || is_refusal);
+    same_at(rt, &(is_ample || is_refusal), &true, &row.1);
 }
 
 /// Asks for each row.

@@ -5,7 +5,7 @@ ghost use Rattle.std.specs.Prelude.{◌<◌, ◌^◌};
 
 use super::{
     MAX, Row as ProgramRow, TABLE, compare_row, file_with, joined, plain_table_of, remove_file,
-    repeated, reported_of, write_file,
+    repeated, reported_of, same_at, write_file,
 };
 use crate::tests::devices::FailingTarget;
 use colfind_io::{MemorySource, Output, Target};
@@ -89,20 +89,22 @@ fn run_plainly(
     }
 }
 
+/// The status of a row, and what goes to the two outputs, is this.
+fn row_is(rt: &impl Abort, row: &Row, status: u8, printed: &[u8], reported: &[u8]) {
+    let (_strength, _variable, letters, _text, wanted, to_print, to_report) = *row;
+    let want = (wanted, to_print.as_bytes(), to_report.as_bytes());
+    same_at(rt, &(status, printed, reported), &want, &letters);
+}
+
 /// Compares what a run over a plain table answers of a row.
 fn compare_plainly(rt: &impl Abort, alloc: Global, table: &PlainTable, row: &Row) {
     let mut out = FailingTarget::new(alloc, 7, MAX);
     let answer = run_plainly(alloc, table, row, &mut out);
-    assert_eq!(rt; out.bytes(), row.5.as_bytes());
     match answer {
-        Ok(count) => {
-            assert_eq!(rt; u8::from(count == 0), row.4);
-            assert_eq!(rt; row.6, "");
-        }
+        Ok(count) => row_is(rt, row, u8::from(count == 0), out.bytes(), b""),
         Err((kind, place)) => {
-            assert_eq!(rt; row.4, 2);
             let line = Fault::At(kind, place).line();
-            assert_eq!(rt; line.as_bytes(), row.6.as_bytes());
+            row_is(rt, row, 2, out.bytes(), line.as_bytes());
         }
     }
 }

@@ -1,6 +1,6 @@
 //! Tables, texts and lists of matches of some size.
 
-use super::{MAX, TABLE, joined, outcome_of, outcome_with, repeated};
+use super::{MAX, TABLE, joined, outcome_of, outcome_with, repeated, run_is, same};
 use crate::tests::devices::FailingSource;
 use colfind_io::Output::{Count, Ranges};
 use colfind_io::{MemorySource, MemoryTarget};
@@ -15,19 +15,23 @@ const FIRST: u32 = 0xE000;
 /// How many rows it has.
 const ROWS: u32 = 5_000;
 
+/// Writes the row of a code point.
+fn put_row(rt: &impl Abort, rows: &mut String, point: u32, weight: u32) {
+    writeln!(rows, "{point:04X} ; [.{weight:04X}.0020.0002]").expect(rt, "memory");
+}
+
 /// A table of a row for each of `ROWS` code points, with rising primary weights.
 fn many_rows(rt: &impl Abort, alloc: Global) -> String {
     let mut rows = String::new(alloc);
     for number in 0..ROWS {
-        let row = format!(in alloc;
-            "{:04X} ; [.{:04X}.0020.0002]\n",
-            FIRST + number,
-            0x1000 + number
-        )
-        .expect(rt, "memory");
-        rows.push_str(row.as_str()).expect(rt, "memory");
+        put_row(rt, &mut rows, FIRST + number, 0x1000 + number);
     }
     rows
+}
+
+/// Writes a letter.
+fn put_letter(rt: &impl Abort, text: &mut String, letter: char) {
+    text.push(letter).expect(rt, "memory");
 }
 
 /// So many code points of that table, from the one with this number on.
@@ -35,10 +39,14 @@ fn letters(rt: &impl Abort, alloc: Global, first: u32, count: u32) -> String {
     let mut text = String::new(alloc);
     for number in 0..count {
         let point = FIRST.saturating_add(first).saturating_add(number);
-        let letter = char::from_u32(point).expect(rt, "a letter");
-        text.push(letter).expect(rt, "memory");
+        put_letter(rt, &mut text, char::from_u32(point).expect(rt, "a letter"));
     }
     text
+}
+
+/// Writes the line of a range.
+fn put_line(rt: &impl Abort, lines: &mut String, start: u64, end: u64) {
+    writeln!(lines, "{start}:{end}").expect(rt, "memory");
 }
 
 /// The lines for `ab` in a text of `ab` alone, for the first `count` matches.
@@ -46,8 +54,7 @@ fn lines(rt: &impl Abort, alloc: Global, count: u32) -> String {
     let mut lines = String::new(alloc);
     for number in 0..count {
         let start = 2 * u64::from(number);
-        let line = format!(in alloc; "{start}:{}\n", start + 2).expect(rt, "memory");
-        lines.push_str(line.as_str()).expect(rt, "memory");
+        put_line(rt, &mut lines, start, start + 2);
     }
     lines
 }
@@ -58,8 +65,7 @@ fn compare_two(rt: &impl Abort, alloc: Global, rows: &str, text: &str, number: u
     let mut reader = MemorySource::new(text.as_bytes(), 1_000);
     let mut out = MemoryTarget::new(alloc);
     let outcome = outcome_with(rt, alloc, rows, &two, Ranges, &mut reader, &mut out);
-    assert_eq!(rt; outcome, Done(1));
-    assert_eq!(rt; out.bytes(), line.as_bytes());
+    run_is(rt, outcome, out.bytes(), Done(1), line.as_bytes());
 }
 
 #[test]
@@ -83,8 +89,7 @@ fn a_text_of_some_megabytes(rt: HostRuntime) {
     let mut reader = MemorySource::new(text.as_bytes(), usize::MAX);
     let mut out = MemoryTarget::new(alloc);
     let outcome = outcome_of(&rt, alloc, "ab", Count, &mut reader, &mut out);
-    assert_eq!(rt; outcome, Done(1_000_000));
-    assert_eq!(rt; out.bytes(), b"1000000\n".as_slice());
+    run_is(&rt, outcome, out.bytes(), Done(1_000_000), b"1000000\n");
 }
 
 /// Compares the lines of `ab` in a text that comes 11 bytes a read and whose reads fail after so many.
@@ -99,9 +104,8 @@ fn compare_many(
     let mut reader = FailingSource::new(text, 11, reads);
     let mut out = MemoryTarget::new(alloc);
     let reported = outcome_of(rt, alloc, "ab", Ranges, &mut reader, &mut out);
-    assert_eq!(rt; reported, outcome);
     let printed = lines(rt, alloc, count);
-    assert_eq!(rt; out.bytes(), printed.as_bytes());
+    run_is(rt, reported, out.bytes(), outcome, printed.as_bytes());
 }
 
 /// The last match ends where the fault stands.
@@ -152,7 +156,7 @@ fn compare_with_row(
     let mut reader = MemorySource::new(text.as_bytes(), 1_000);
     let mut out = MemoryTarget::new(alloc);
     let outcome = outcome_with(rt, alloc, &rows, letters, Count, &mut reader, &mut out);
-    assert_eq!(rt; outcome, Done(matches));
+    same(rt, &outcome, &Done(matches));
 }
 
 /// Alone no letter of the text is a unit.

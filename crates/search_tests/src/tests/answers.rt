@@ -40,6 +40,24 @@ pub(super) fn answered_is(
     fault_is(rt, got.1, fault, row);
 }
 
+/// Feeds pieces of this many bytes, up to a fault: the ranges that are handed out are put behind the others. A loop stands in a function
+/// that only borrows: a proof goes through all that it owns at each turn.
+fn feed_on<W: Weights>(
+    rt: &impl Abort,
+    search: &mut Search<'_, W>,
+    text: &[u8],
+    size: usize,
+    ranges: &mut Vec<Range>,
+)
+    requires { 0 < size }
+{
+    for piece in text.chunks(size) {
+        if feed(rt, search, piece, ranges).is_err() {
+            break;
+        }
+    }
+}
+
 /// What a search answers of a text that is fed in pieces of this many bytes.
 pub(super) fn fed<W: Weights>(
     rt: &impl Abort,
@@ -52,11 +70,7 @@ pub(super) fn fed<W: Weights>(
 {
     let mut search = begin(rt, alloc, query);
     let mut ranges = Vec::new(alloc);
-    for piece in text.chunks(size) {
-        if feed(rt, &mut search, piece, &mut ranges).is_err() {
-            break;
-        }
-    }
+    feed_on(rt, &mut search, text, size, &mut ranges);
     end(rt, search, ranges)
 }
 
@@ -103,15 +117,29 @@ pub(super) fn resumed<W: Weights>(
 {
     let mut words = saved(rt, alloc, &begin(rt, alloc, query));
     let mut ranges = Vec::new(alloc);
+    let most_words = resume_on(rt, alloc, query, text, size, &mut words, &mut ranges);
+    let search = resume(rt, alloc, query, &words);
+    (end(rt, search, ranges), most_words)
+}
+
+/// Goes on from these words by pieces of this size, saved, dropped and resumed after each: how many words the greatest state had.
+fn resume_on<W: Weights>(
+    rt: &impl Abort,
+    alloc: Global,
+    query: &Query<'_, W>,
+    text: &[u8],
+    size: usize,
+    words: &mut Vec<u64>,
+    ranges: &mut Vec<Range>,
+) -> usize
+    requires { 0 < size }
+{
     let mut most_words = 0;
     for piece in text.chunks(size) {
-        words = words_after(rt, alloc, query, &words, piece, &mut ranges);
+        *words = words_after(rt, alloc, query, words.as_slice(), piece, ranges);
         most_words = most_words.max(words.len());
     }
-    (
-        end(rt, resume(rt, alloc, query, &words), ranges),
-        most_words,
-    )
+    most_words
 }
 
 /// The words after a piece more, of a search that is resumed from those before it and dropped after it. Its fault is passed over, for
@@ -150,11 +178,16 @@ fn state_stepped<W: Weights>(
     bytes: &[u8],
 ) -> Vec<u64> {
     let mut search = begin(rt, alloc, query);
+    step_over(&mut search, bytes);
+    saved(rt, alloc, &search)
+}
+
+/// Takes bytes one by one, whose faults are passed over.
+fn step_over<W: Weights>(search: &mut Search<'_, W>, bytes: &[u8]) {
     let mut found = Found::new();
     for byte in bytes {
-        let _fault = step(&mut search, *byte, &mut found);
+        let _fault = step(search, *byte, &mut found);
     }
-    saved(rt, alloc, &search)
 }
 
 /// The words of the state of a search after some bytes, whose faults are passed over: those that steps leave, and so does a feed.
@@ -183,6 +216,16 @@ fn step_well_on<W: Weights>(
     }
 }
 
+/// Compares the words of two searches.
+fn states_are<W: Weights>(
+    rt: &impl Abort,
+    alloc: Global,
+    search: &Search<'_, W>,
+    other: &Search<'_, W>,
+) {
+    words_are(rt, &saved(rt, alloc, search), &saved(rt, alloc, other));
+}
+
 /// Feeds a piece to one search, hands its bytes to the other one by one, and compares the ranges so far and the words of the states.
 fn compare_piece<W: Weights>(
     rt: &impl Abort,
@@ -196,7 +239,7 @@ fn compare_piece<W: Weights>(
     feed_well(rt, fed, piece, ranges);
     step_well_on(rt, stepped, piece, want);
     ranges_are(rt, ranges.as_slice(), want.as_slice(), "steps");
-    words_are(rt, &saved(rt, alloc, fed), &saved(rt, alloc, stepped));
+    states_are(rt, alloc, fed, stepped);
 }
 
 /// Compares what a search leaves that is fed pieces of this many bytes with what one leaves that takes a byte at a time: after each
@@ -212,18 +255,24 @@ pub(super) fn compare_with_steps<W: Weights>(
 {
     let mut fed = begin(rt, alloc, query);
     let mut stepped = begin(rt, alloc, query);
+    compare_pieces(rt, alloc, &mut fed, &mut stepped, text, size)
+}
+
+/// The same of two searches.
+fn compare_pieces<W: Weights>(
+    rt: &impl Abort,
+    alloc: Global,
+    fed: &mut Search<'_, W>,
+    stepped: &mut Search<'_, W>,
+    text: &[u8],
+    size: usize,
+) -> usize
+    requires { 0 < size }
+{
     let mut ranges = Vec::new(alloc);
     let mut want = Vec::new(alloc);
     for piece in text.chunks(size) {
-        compare_piece(
-            rt,
-            alloc,
-            &mut fed,
-            &mut stepped,
-            piece,
-            &mut ranges,
-            &mut want,
-        );
+        compare_piece(rt, alloc, fed, stepped, piece, &mut ranges, &mut want);
     }
     want.len()
 }

@@ -1,13 +1,16 @@
 //! Text that goes by steps alone, and text that goes by letters: on both sides of what decides between them the answers are those of
 //! steps.
 
+ghost use Rattle.std.specs.Prelude.{◌<◌};
+
 use super::answers::{answered_is, fed, resumed, stepped};
 use super::calls::{
     Query, begin, compile, first_in, first_range, first_range_from, for_all, joined, put_bytes,
     read, repeated,
 };
-use super::checks::{count_is, first_is};
+use super::checks::{count_is, first_is, holds};
 use super::{KEPT, ONE, Range, TABLE};
+use collation_search::TextFault;
 use collation_table::Table;
 use std::alloc::Global;
 use std::process::Abort;
@@ -42,11 +45,40 @@ fn compare_sizes(
     let (ranges, fault) = stepped(rt, alloc, query, text);
     count_is(rt, ranges.len(), want);
     for size in SIZES {
-        let whole = fed(rt, alloc, query, text, size);
-        answered_is(rt, &whole, &ranges, fault, "fed");
+        compare_fed(rt, alloc, query, text, size.max(1), &ranges, fault);
     }
     let (again, _most) = resumed(rt, alloc, query, text, 32_769);
     answered_is(rt, &again, &ranges, fault, "resumed");
+}
+
+/// Compares the ranges of a text that is fed in pieces of this size.
+fn compare_fed(
+    rt: &impl Abort,
+    alloc: Global,
+    query: &Query<'_, Table>,
+    text: &[u8],
+    size: usize,
+    ranges: &[Range],
+    fault: Option<TextFault>,
+)
+    requires { 0 < size }
+{
+    let whole = fed(rt, alloc, query, text, size);
+    answered_is(rt, &whole, ranges, fault, "fed");
+}
+
+/// Compares the ranges of so many letters.
+fn compare_length(
+    rt: &impl Abort,
+    alloc: Global,
+    table: &Table,
+    text: &[u8],
+    len: usize,
+    want: usize,
+) {
+    let letters = repeated(rt, alloc, "a", len);
+    let pattern = compile(rt, alloc, table, &letters, ONE, KEPT);
+    compare_sizes(rt, alloc, &for_all(table, &pattern), text, want);
 }
 
 /// Patterns and pieces of each length.
@@ -56,15 +88,16 @@ fn long_patterns_answer_as_steps(rt: HostRuntime) {
     let table = read(&rt, alloc, TABLE);
     let text = runs(&rt, alloc);
     for (len, want) in LENGTHS {
-        let letters = repeated(&rt, alloc, "a", len);
-        let pattern = compile(&rt, alloc, &table, &letters, ONE, KEPT);
-        compare_sizes(
-            &rt,
-            alloc,
-            &for_all(&table, &pattern),
-            text.as_bytes(),
-            want,
-        );
+        compare_length(&rt, alloc, &table, text.as_bytes(), len, want);
+    }
+}
+
+/// Compares the first range of a text, again and again, by one search.
+fn first_of_many(rt: &impl Abort, alloc: Global, query: &Query<'_, Table>, text: &[u8]) {
+    let mut search = begin(rt, alloc, query);
+    for _ in 0..40 {
+        let first = first_in(&mut search, text);
+        first_is(rt, first, Ok(Some((1, 1_026))), "one search");
     }
 }
 
@@ -78,11 +111,7 @@ fn first_range_of_many_texts(rt: HostRuntime) {
     let query = for_all(&table, &pattern);
     let many = repeated(&rt, alloc, "a", 1_100);
     let text = joined(&rt, alloc, &["b", many.as_str(), "b"]);
-    let mut search = begin(&rt, alloc, &query);
-    for _ in 0..40 {
-        let first = first_in(&mut search, text.as_bytes());
-        first_is(&rt, first, Ok(Some((1, 1_026))), "one search");
-    }
+    first_of_many(&rt, alloc, &query, text.as_bytes());
     let first = first_range(alloc, &query, text.as_bytes());
     first_is(&rt, first, Ok(Some((1, 1_026))), "a search for it");
 }
@@ -147,5 +176,5 @@ fn first_range_of_short_texts(rt: HostRuntime) {
             }
         }
     }
-    assert!(rt; 100 < found && found < 1_220);
+    holds(&rt, 100 < found && found < 1_220, &found);
 }

@@ -5,7 +5,7 @@ use super::calls::{
     Query, begin, compile, feed, feed_well, finish, for_all, joined, query_for, read, read_plain,
     repeated, reported, step, step_well, stop,
 };
-use super::checks::{answer_is, count_is, fault_is, ranges_are, ranges_follow};
+use super::checks::{answer_is, count_is, fault_is, ranges_are, ranges_follow, same};
 use super::{KEPT, ONE, Range, TABLE, THREE};
 use collation_search::{Found, Search, Select, TextFault};
 use collation_table::{Table, Weights};
@@ -25,11 +25,21 @@ const STEPS: [Steps; 3] = [
     ("aa", b"aaa", &[], &[(0, 2), (1, 3)]),
 ];
 
+/// Puts a range behind the others.
+fn put_one(rt: &impl Abort, handed: &mut Vec<Handed>, one: Handed) {
+    handed.push(one).expect(rt, "memory");
+}
+
 /// Puts the ranges behind the others, each with how many bytes came before the one with which it is handed out.
 fn put_handed(rt: &impl Abort, handed: &mut Vec<Handed>, before: usize, ranges: &[Range]) {
     for (start, end) in ranges {
-        handed.push((before, *start, *end)).expect(rt, "memory");
+        put_one(rt, handed, (before, *start, *end));
     }
+}
+
+/// The ranges that are handed out are these.
+fn handed_are(rt: &impl Abort, got: &[Handed], want: &[Handed]) {
+    same(rt, &got, &want);
 }
 
 /// Compares which ranges are handed out with each byte of a text, and at its end.
@@ -47,7 +57,7 @@ fn compare_each_byte<W: Weights>(
         step_well(rt, &mut search, *byte, &mut found);
         put_handed(rt, &mut got, before, found.as_slice());
     }
-    assert_eq!(rt; got.as_slice(), steps);
+    handed_are(rt, &got, steps);
     answer_is(rt, finish(search, &mut found), Ok(()));
     ranges_are(rt, found.as_slice(), last, letters);
 }

@@ -2,7 +2,7 @@
 
 use super::answers::{answered_is, compare_with_steps, fed, stepped};
 use super::calls::{Query, compile, for_all, joined, put_bytes, query_for, read, repeated};
-use super::checks::{count_is, fault_is};
+use super::checks::{count_is, fault_is, holds};
 use super::{KEPT, ONE, SHIFTED, TABLE, THREE};
 use collation_elements::{Strength, Variable};
 use collation_search::Select;
@@ -29,7 +29,7 @@ fn runs_of_each_length(rt: &impl Abort, alloc: Global) -> Vec<u8> {
 fn compare_whole(rt: &impl Abort, alloc: Global, query: &Query<'_, Table>, text: &[u8]) {
     let whole = fed(rt, alloc, query, text, usize::MAX);
     let steps = stepped(rt, alloc, query, text);
-    assert!(rt; whole.0.len() > 1_600);
+    holds(rt, whole.0.len() > 1_600, &whole.0.len());
     answered_is(rt, &whole, &steps.0, None, "whole");
     fault_is(rt, steps.1, None, "steps");
 }

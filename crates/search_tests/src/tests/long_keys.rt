@@ -59,16 +59,18 @@ const EACH: [Range; 16] = [
     (15, 16),
 ];
 
+/// How many letters a pattern has, how many a text, and the ranges.
+const CASES: [(usize, usize, &[Range]); 4] = [
+    (17, 17, &[(0, 17)]),
+    (1, 17, &[]),
+    (1, 18, &[(17, 18)]),
+    (1, 16, &EACH),
+];
+
 #[test]
 fn string_of_seventeen(rt: HostRuntime) {
     let table = table_with(&rt, rt.alloc(), 17);
-    let cases: [(usize, usize, &[Range]); 4] = [
-        (17, 17, &[(0, 17)]),
-        (1, 17, &[]),
-        (1, 18, &[(17, 18)]),
-        (1, 16, &EACH),
-    ];
-    for row in &cases {
+    for row in &CASES {
         compare(&rt, rt.alloc(), &table, ONE, row);
         compare(&rt, rt.alloc(), &table, THREE, row);
     }

@@ -6,7 +6,7 @@ ghost use Rattle.std.specs.Prelude.{◌<◌};
 
 use super::answers::{answered_is, fed, resumed, stepped};
 use super::calls::{compile, for_all, joined, read, repeated};
-use super::checks::{count_is, fault_is, ranges_follow};
+use super::checks::{count_is, fault_is, holds, ranges_follow};
 use super::{KEPT, ONE, Range, SHIFTED, TABLE, THREE};
 use collation_elements::Variable;
 use std::alloc::Global;
@@ -49,7 +49,7 @@ fn million_letters_resumed_after_each(rt: HostRuntime) {
     count_is(&rt, ranges.len(), 999_999);
     ranges_follow(&rt, &ranges, 2, 1);
     fault_is(&rt, fault, None, "a million letters");
-    assert!(rt; most_words / 4 <= 39);
+    holds(&rt, most_words / 4 <= 39, &most_words);
     count_is(&rt, most_words, 8 * 4);
 }
 
@@ -58,7 +58,7 @@ fn million_soft_hyphens(rt: HostRuntime) {
     let hyphens = repeated(&rt, rt.alloc(), "\u{ad}", 1_000_000);
     let text = joined(&rt, rt.alloc(), &["a", hyphens.as_str()]);
     let records = compare(&rt, rt.alloc(), "a", KEPT, &text, 101, &[(0, 2_000_001)]);
-    assert!(rt; records <= 38);
+    holds(&rt, records <= 38, &records);
     count_is(&rt, records, 7);
 }
 
@@ -68,7 +68,7 @@ fn million_spaces(rt: HostRuntime) {
     let text = joined(&rt, rt.alloc(), &["a", spaces.as_str(), "b"]);
     let want = [(0, 1_000_002)];
     let records = compare(&rt, rt.alloc(), "ab", SHIFTED, &text, 101, &want);
-    assert!(rt; records <= 39);
+    holds(&rt, records <= 39, &records);
     count_is(&rt, records, 7);
 }
 
@@ -78,7 +78,7 @@ fn pattern_of_the_most_bytes(rt: HostRuntime) {
     let text = repeated(&rt, rt.alloc(), "a", 65_537);
     let want = [(0, 65_536), (1, 65_537)];
     let records = compare(&rt, rt.alloc(), &letters, KEPT, &text, 4096, &want);
-    assert!(rt; records <= 65_573);
+    holds(&rt, records <= 65_573, &records);
     count_is(&rt, records, 65_542);
 }
 

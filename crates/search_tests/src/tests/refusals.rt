@@ -5,7 +5,9 @@ use super::calls::{
     Query, compile, feed, finish, first_range, first_range_from, for_all, put_all, query_for, read,
     repeated, try_begin, try_resume, try_save,
 };
-use super::checks::{answer_is, count_is, first_is, kind_is, ranges_are, ranges_follow, words_are};
+use super::checks::{
+    answer_is, count_is, first_is, holds, kind_is, ranges_are, ranges_follow, same, words_are,
+};
 use super::{KEPT, ONE, Range, TABLE, THREE, TWO};
 use collation_elements::Strength;
 use collation_search::{Found, Search, Select, TextFault};
@@ -117,7 +119,7 @@ fn feed_and_finish(
     answer_is(rt, fed, ended);
     let mut found = Found::new();
     answer_is(rt, finish(search, &mut found), ended);
-    assert!(rt; fed.is_ok() || found.is_empty());
+    holds(rt, fed.is_ok() || found.is_empty(), &fed);
     put_all(rt, ranges, found.as_slice());
 }
 
@@ -244,6 +246,16 @@ const CUTS: [Cut; 3] = [
     (THREE, "\u{ac01}", JAMO, 6, 5 + 1 + 1, &[(0, 9)]),
 ];
 
+/// Puts a word behind the others.
+fn put_word(rt: &impl Abort, words: &mut Vec<u64>, word: u64) {
+    words.push(word).expect(rt, "memory");
+}
+
+/// The same words.
+fn copy_of(rt: &impl Abort, alloc: Global, words: &[u64]) -> Vec<u64> {
+    words.to_owned(alloc).expect(rt, "memory")
+}
+
 /// Compares the words behind another word, which is kept, and how many records they have: a copy of them.
 fn state_behind(
     rt: &impl Abort,
@@ -252,12 +264,11 @@ fn state_behind(
     records: usize,
 ) -> Vec<u64> {
     let mut words = Vec::new(alloc);
-    words.push(7).expect(rt, "memory");
+    put_word(rt, &mut words, 7);
     save_again(rt, search, &mut words, &[7]);
-    assert_eq!(rt; words.get(0).copied(), Some(7));
-    let state = words.get(1..).expect(rt, "words");
-    count_is(rt, state.len() / 4, records);
-    state.to_owned(alloc).expect(rt, "memory")
+    let (first, state) = words.split_first().expect(rt, "words");
+    same(rt, &(*first, state.len() / 4), &(7, records));
+    copy_of(rt, alloc, state)
 }
 
 /// A refused save leaves the words, a refused resume answers 53, and what is asked again is answered as with ample memory. The words

@@ -3,10 +3,10 @@
 
 use super::answers::state_after;
 use super::calls::{Query, compile, feed, finish, in_pieces, query_for, read, try_resume};
-use super::checks::{count_is, fault_is, kind_is, ranges_are};
+use super::checks::{count_is, fault_is, holds, kind_is, ranges_are};
 use super::{KEPT, Range, TABLE, THREE};
 use collation_pattern::Pattern;
-use collation_search::{Found, Select, TextFault};
+use collation_search::{Found, Search, Select, TextFault};
 use collation_table::Table;
 use std::alloc::Global;
 use std::process::Abort;
@@ -121,21 +121,27 @@ fn shortened_states_are_refused(rt: HostRuntime) {
     compare_shortened(&rt, rt.alloc(), &chain, b"", 24, 20);
 }
 
-/// Resumes words that may be no state: a fault, or a search that takes more bytes and ends. Whether they are taken.
-fn is_taken(rt: &impl Abort, alloc: Global, query: &Query<'_, Table>, words: &[u64]) -> bool {
-    let mut search = match try_resume(alloc, query, words) {
-        Ok(search) => search,
-        Err(fault) => {
-            assert!(rt; fault.kind == 51 || fault.kind == 52);
-            return false;
-        }
-    };
+/// Takes more bytes and ends: a fault of the bytes is answered again at the end.
+fn go_on(rt: &impl Abort, alloc: Global, mut search: Search<'_, Table>) {
     let mut ranges = Vec::new(alloc);
     let mut found = Found::new();
     let fed = feed(rt, &mut search, b"aaa", &mut ranges);
     let ended = finish(search, &mut found);
-    assert!(rt; fed.is_ok() || ended == fed);
-    true
+    holds(rt, fed.is_ok() || ended == fed, &fed);
+}
+
+/// Resumes words that may be no state: a fault, or a search that takes more bytes and ends. Whether they are taken.
+fn is_taken(rt: &impl Abort, alloc: Global, query: &Query<'_, Table>, words: &[u64]) -> bool {
+    match try_resume(alloc, query, words) {
+        Ok(search) => {
+            go_on(rt, alloc, search);
+            true
+        }
+        Err(fault) => {
+            holds(rt, fault.kind == 51 || fault.kind == 52, &fault.kind);
+            false
+        }
+    }
 }
 
 /// Whether a state is taken where one of its words is changed to this one.
@@ -202,8 +208,8 @@ fn compare_counts(
     for text in texts {
         change_words(rt, alloc, query, *text, &mut counts);
     }
-    assert!(rt; counts.refused > least.refused);
-    assert!(rt; counts.taken > least.taken);
+    let are_more = counts.refused > least.refused && counts.taken > least.taken;
+    holds(rt, are_more, &(counts.refused, counts.taken));
 }
 
 #[test]

@@ -2,7 +2,7 @@
 
 use super::answers::{Answered, answered_is, end, state_after};
 use super::calls::{Query, compile, feed, for_all, query_for, read, reported, resume, step, stop};
-use super::checks::{answer_is, fault_is, ranges_are, words_are};
+use super::checks::{answer_is, fault_is, ranges_are, same, words_are};
 use super::{KEPT, Range, SHIFTED, TABLE, THREE};
 use collation_search::{Found, Search, Select, TextFault};
 use collation_table::Table;
@@ -114,8 +114,8 @@ fn compare_shifted(
     after_variable: u64,
 ) {
     let words = state_after(rt, alloc, query, bytes);
-    assert_eq!(rt; words.get(5).copied(), Some(1));
-    assert_eq!(rt; words.get(11).copied(), Some(after_variable));
+    let two = (words.get(5).copied(), words.get(11).copied());
+    same(rt, &two, &(Some(1), Some(after_variable)));
 }
 
 /// The sixth word says that the weighting is shifted, the twelfth that a variable element was cut and no letter after it.
