@@ -1,6 +1,6 @@
 use Rattle.std.specs.Char.{len_utf8}
 use Rattle.std.specs.Str.{chars}
-use Rattle.std.proofs.Common.{◌≡◌, ◌∙◌, ℕ, ◌+◌, ◌-◌, true, List, [], ◌∷◌, ◌++◌, length, take, drop, refl, sym, ap, subst, arith}
+use Rattle.std.proofs.Common.{◌≡◌, ◌∙◌, ℕ, ◌+◌, ◌-◌, true, List, [], ◌∷◌, ◌++◌, length, take, drop, refl, sym, ap, subst, arith, rules}
 use Rattle.std.proofs.lemmas.List.{take_rest, length-drop}
 use Rattle.utf8_cut.specs.Sequences.{SpellsCharacter}
 use Rattle.nfd_points.specs.Points.{points_of, begins_with_starter}
@@ -77,7 +77,7 @@ following g c =
     let some = c.in-Some.ensures.some in
     record {
       forth = i.forth;
-      near = omega (arith, c.if-end-reach.false);
+      near = c.if-end-reach.false;
       within = omega (arith, some.0, long, i.ends);
       spelled = subst (λ (bs : List ℕ). SpellsCharacter (take (len_utf8 next) bs) next) rest some.1;
       part = i.part;
@@ -121,6 +121,12 @@ characters-preserved-then-at-due g c =
         come g here,
       );
     }
+
+pub pass_by-behind-requires-clause-near : goal.pass_by-behind-requires-clause-near
+pass_by-behind-requires-clause-near g c = c.if-end-reach.false
+
+pub pass_by-behind-requires-clause-state : goal.pass_by-behind-requires-clause-state
+pass_by-behind-requires-clause-state g c = search rules depth 4
 
 pub pass_by-behind-requires-clause-begins : goal.pass_by-behind-requires-clause-begins
 pass_by-behind-requires-clause-begins g c =

@@ -108,3 +108,6 @@ returns-clause-left g c = λ place taken ranges h offset before.
     subst (λ (cs : List ℕ). IsCutUpTo table place (taken ++ cs) c.cut_units.new.window.points) (sym (chars-IsAscii bs a.ascii))
     (cut-pushed c.decided_units_stay.ensures.stay table place taken bs out old.window.points c.cut_units.new.window.points final
     (c.cut_units.ensures.left open_window ∙ ap (left_points table) pushed) before)
+
+pub returns-clause-open : goal.returns-clause-open
+returns-clause-open g c = c.cut_units.ensures.ended ∙ ap (λ w. w.has_ended) c.push_points.ensures.points ∙ c.requires.open
