@@ -1,0 +1,17 @@
+use Rattle.std.proofs.Common.{◌≤◌, length, arith, rules}
+use Rattle.collation_pattern.proofs.compile.keys_of_pattern.Goals as goal
+
+pub returns-in-Err-Points-clause-refused : goal.returns-in-Err-Points-clause-refused
+returns-in-Err-Points-clause-refused g c =
+    let short : length c.args.text.now ≤ 65_536 = omega arith in
+    search rules depth 4
+
+pub returns-then-is_empty-clause-refused : goal.returns-then-is_empty-clause-refused
+returns-then-is_empty-clause-refused g c =
+    let short : length c.args.text.now ≤ 65_536 = omega arith in
+    search rules depth 4
+
+pub returns-clause-accepted : goal.returns-clause-accepted
+returns-clause-accepted g c =
+    let short : length c.args.text.now ≤ 65_536 = omega arith in
+    search rules depth 4
