@@ -1,5 +1,8 @@
-use Rattle.std.proofs.Common.{arith}
+use Rattle.std.proofs.Common.{◌≤◌, length, take, arith, inl, inr}
+use Rattle.std.proofs.lemmas.Bool.{cases_lt}
 use Rattle.std.proofs.lemmas.List.{length-take}
+use Rattle.collation_letters.proofs.SymbolLemmas.{some-map}
+use Rattle.collation_skip.specs.Passed.{PassesTo}
 use Rattle.collation_skip.proofs.RunLemmas.{stands-whole}
 use Rattle.collation_skip.proofs.automaton.Automaton.pass.Goals as goal
 
@@ -10,3 +13,22 @@ answer-requires-clause-passed g c = λ some.
     let piece = c.args.piece.now in
     let passed = c.in_ok-cursor.ensures.passed some in
     (omega (arith, passed.0, length-take c.min.result piece), stands-whole table c.args.pattern.now c.go.new.self piece c.min.result at.accepted_at at.accepted_row passed.0 passed.1)
+
+pub returns-clause-passes : goal.returns-clause-passes
+returns-clause-passes g c =
+    let table = g.W.Weights.table c.args.table.now in
+    let pattern = c.args.pattern.now in
+    let at = c.in_ok-cursor.cursor.accepted_at in
+    let piece = c.args.piece.now in
+    some-map {P = PassesTo table pattern piece at} {Q = PassesTo table pattern piece c.args.reach} c.answer.result c.answer.ensures.passes (λ to p. record {
+      within = p.within;
+      order = p.order;
+      reach = elim (cases_lt 0 at) [
+        | inl some ↦ (let near : at ≤ length (take c.min.result piece) = (c.in_ok-cursor.ensures.passed some).0 in omega (arith, p.reach, near, length-take c.min.result piece, c.min.ensures))
+        | inr none ↦ omega (arith, p.reach, none)
+      ];
+      next = p.next;
+      letter = p.letter;
+      text = p.text;
+      passed = p.passed;
+    })
