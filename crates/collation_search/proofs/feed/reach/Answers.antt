@@ -12,6 +12,13 @@ use Rattle.collation_search.proofs.feed.reach.Goals as goal
 back : (u bytes : List ℕ) (at : ℕ) → 0 < at → starters_from (length u + (at - 1) + 1) (chars (whole bytes)) ≡ starters_from (length u + at) (chars (whole bytes))
 back u bytes at some = let same : length u + (at - 1) + 1 ≡ length u + at = omega (arith, some) in ap (λ n. starters_from n (chars (whole bytes))) same
 
+pub loop-at-init : goal.loop-at-init
+loop-at-init g c = record {
+  within = omega arith;
+  right = c.requires;
+  enough = λ u good. omega arith;
+}
+
 pub loop-at-preserved-then-starter_comes_first : goal.loop-at-preserved-then-starter_comes_first
 loop-at-preserved-then-starter_comes_first g c =
     let piece = c.args.piece.now in

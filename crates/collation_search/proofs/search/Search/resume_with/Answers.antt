@@ -1,5 +1,5 @@
 -- What a search saved is no words with a fault, and a state that was read is gone on from.
-use Rattle.std.proofs.Common.{◌∙◌, sym, ap, subst}
+use Rattle.std.proofs.Common.{◌∙◌, sym, ap, subst, rules}
 use Rattle.collation_matches.specs.declared.select.Select.{Select}
 use Rattle.collation_matches.specs.Sought.{Sought}
 use Rattle.collation_states.specs.declared.states.Sizes.{Sizes}
@@ -33,3 +33,6 @@ returns-clause-goes_on g c =
     let select = ap (λ (r : Sizes). r.select) c.sizes.ensures ∙ sym (ap (λ (t : Sought). t.select) same) in
     let says = subst (λ (x : Select). Says c.in_ok-state.state (state_in x words)) select c.in_ok-state.ensures.says in
     subst (λ (t : Sought). GoesOn c.go_on_from.new.self t words) same (c.go_on_from.ensures.goes_on words says)
+
+pub returns-in_err-state-clause-refused : goal.returns-in_err-state-clause-refused
+returns-in_err-state-clause-refused g c = search rules depth 4

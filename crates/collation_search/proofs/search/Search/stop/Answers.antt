@@ -1,5 +1,5 @@
 use Rattle.std.specs.Str.{chars}
-use Rattle.std.proofs.Common.{◌∙◌, ◌++◌, sym, ap, subst}
+use Rattle.std.proofs.Common.{◌∙◌, ◌++◌, sym, ap, subst, rules}
 use Rattle.collation_finder.specs.declared.finder.Finder.{Finder}
 use Rattle.collation_finder.specs.Finding.{FinderStandsFor}
 use Rattle.collation_matches.specs.GoodPrefix.{whole}
@@ -14,3 +14,9 @@ returns-then-is_none-clause-settled g c = λ text u handed compiled h.
     walked-settled (sought c.args.self) c.matches_by_clusters.ensures.settled c.matches_by_clusters.ensures.items text (whole u) (handed ++ c.end.new.found.items) c.end.new.self.matcher.walk
     (c.end.ensures.setup.select ∙ ap (λ (f : Finder). f.matcher.walk.select) there) compiled h.some_key (c.whole_characters_are_the_longest_text.ensures.text u)
     (c.end.ensures.ended (chars (whole u)) handed (subst (λ (f : Finder). FinderStandsFor s.table s.pattern f (chars (whole u)) handed) (sym there) h.found))
+
+pub end-requires-clause-open : goal.end-requires-clause-open
+end-requires-clause-open g c = search rules depth 4
+
+pub returns-clause-settled : goal.returns-clause-settled
+returns-clause-settled g c = search rules depth 6
