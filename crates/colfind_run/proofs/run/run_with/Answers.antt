@@ -178,3 +178,6 @@ returns-in-Unread-clause-failures g c =
     let wrote = c.finish.ensures.count c.args.form ranges held failures prints in
     let none = no_failure c.finish.result c.if-is_err.ensures.value in
     (omega (arith, count, ends), omega (arith, wrote, none))
+
+pub returns-in-Fault-clause-done : goal.returns-in-Fault-clause-done
+returns-in-Fault-clause-done g c = tt
