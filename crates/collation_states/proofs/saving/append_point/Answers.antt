@@ -1,0 +1,5 @@
+use Rattle.std.proofs.Common.{rules}
+use Rattle.collation_states.proofs.saving.append_point.Goals as goal
+
+pub returns-clause-saved : goal.returns-clause-saved
+returns-clause-saved c = search rules depth 6
