@@ -1,0 +1,5 @@
+use Rattle.std.proofs.Common.{rules}
+use Rattle.colfind_io.proofs.streams.ToWriteTarget.write.Goals as goal
+
+pub returns-else-count-eq0-clause-writer : goal.returns-else-count-eq0-clause-writer
+returns-else-count-eq0-clause-writer g c = search rules depth 5
