@@ -1,4 +1,4 @@
-use Rattle.std.proofs.Common.{◌≡◌, ◌∙◌, sym, ap, subst, Some, None}
+use Rattle.std.proofs.Common.{◌≡◌, ◌∙◌, sym, ap, subst, Some, None, rules}
 use Rattle.std.specs.Option.{IfSome, option_map}
 use Rattle.collation_table.specs.declared.lines.Line.TheVariants.{Entry}
 use Rattle.collation_table.specs.Faults.{entry_kind, line_kind}
@@ -12,3 +12,6 @@ insert-requires-clause-sound g c =
     let right : entry_kind (g.S.RowStore.table c.args.rows.now) c.in-Some-Entry.string.now c.in-Some-Entry.row.now ≡ None = ap (λ l. line_kind c.earlier_ranges.result (g.S.RowStore.table c.args.rows.now) (option_map form l)) (sym line) ∙ sym c.line_fault.ensures.kind ∙ c.in-None.is in
     let parts = subst (λ l. IfSome l HasParts) line c.requires.parts in
     IsRowSound-from_kind (g.S.RowStore.table c.args.rows.now) c.in-Some-Entry.string.now c.in-Some-Entry.row.now parts.0 parts.1 right
+
+pub returns-in-Some-clause-fault : goal.returns-in-Some-clause-fault
+returns-in-Some-clause-fault g c = search rules depth 6

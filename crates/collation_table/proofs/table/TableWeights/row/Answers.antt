@@ -1,0 +1,5 @@
+use Rattle.std.proofs.Common.{rules}
+use Rattle.collation_table.proofs.table.TableWeights.row.Goals as goal
+
+pub returns : goal.returns
+returns c = search rules depth 3
