@@ -1,4 +1,4 @@
-use Rattle.std.proofs.Common.{◌≡◌, ℕ, ◌+◌, ◌<◌, ◌≤◌, false, true, List, [], ◌∷◌, ◌++◌, length, remove, sym, ◌∙◌, ap, subst, arith}
+use Rattle.std.proofs.Common.{◌≡◌, ℕ, ◌+◌, ◌<◌, ◌≤◌, false, true, List, [], ◌∷◌, ◌++◌, length, remove, sym, ◌∙◌, ap, subst, arith, rules}
 use Rattle.std.proofs.lemmas.Bool.{ne_eqb, eq-eqb}
 use Rattle.std.proofs.lemmas.List.Edits.{length-remove}
 use Rattle.arrayvec.specs.ArrayVec.{ArrayVec}
@@ -80,3 +80,6 @@ pub returns-then-c-eq0-clause-rest : goal.returns-then-c-eq0-clause-rest
 returns-then-c-eq0-clause-rest g c unit is =
     let rest = (IsDone-starter (g.W.Weights.table c.args.table.now) c.args.string.now.items c.args.points.now.items c.loop-left.string.items c.loop-left.points.items c.loop-left.left c.point-c.result c.loop-left.invariant.so_far c.point-c.ensures.point (eq-eqb c.point-c.result.ccc 0 c.if-c-eq0.true) unit is).1 in
     ap (λ (n : ℕ). buffer c.loop-left.points.items n) c.loop-left.invariant.capacity ∙ ap (λ (ps : List Point). buffer ps c.args.points.now.capacity) rest
+
+pub loop-left-init : goal.loop-left-init
+loop-left-init g c = search rules depth 4

@@ -1,4 +1,5 @@
-use Rattle.std.proofs.Common.{◌<◌, length, drop, rules}
+use Rattle.std.proofs.Common.{◌<◌, length, drop, rules, rules, arith}
+use Rattle.std.proofs.lemmas.Grind.{common_steps}
 use Rattle.collation_elements.proofs.CharacterLaws.{keys_after_start, more_keys}
 use Rattle.collation_elements.proofs.character.CharacterItems.of_items.Goals as goal
 
@@ -9,3 +10,6 @@ returns-then-not-is_empty-clause-none c begins keys is =
     let left = c.split_key-third.ensures.keys (drop 1 (drop 1 keys)) (c.split_key-second.ensures.keys (drop 1 keys) (c.split_key-first.ensures.keys keys all)) in
     let some : 0 < length c.split_key-third.result.1.now = search rules in
     more_keys keys c.split_key-third.result.1.now left some
+
+pub returns-clause-items : goal.returns-clause-items
+returns-clause-items c = grind (arith, common_steps)

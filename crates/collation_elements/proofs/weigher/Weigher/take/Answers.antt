@@ -1,4 +1,4 @@
-use Rattle.std.proofs.Common.{◌≤◌, length, ◌∙◌, ap, arith}
+use Rattle.std.proofs.Common.{◌≤◌, length, ◌∙◌, ap, arith, rules}
 use Rattle.collation_elements.specs.declared.weigher.Weigher.{Weigher}
 use Rattle.collation_elements.specs.Weighing.{value_items}
 use Rattle.collation_elements.specs.Elements.{after_row, ignorable}
@@ -41,3 +41,6 @@ returns-in_default-clause-stands c =
     stands_after w0 w1 c.args.unit.now c.loop-e.items.items
     (weigher_end w0 w1 row c.args.unit.now c.loop-e.e-index past inv.strength inv.variable inv.after)
     (items_end-none w1 row c.loop-e.e-index c.loop-e.items.items (value_items w0 c.args.unit.now) c.loop-e.lead past c.in_default.is inv.items)
+
+pub loop-e-init : goal.loop-e-init
+loop-e-init c = search rules depth 5
