@@ -1,4 +1,4 @@
-use Rattle.std.proofs.Common.{◌≡◌, ℕ, List, [], ◌∷◌, ◌++◌, length, sym, ap, ap₂, ◌∙◌, subst}
+use Rattle.std.proofs.Common.{◌≡◌, ℕ, List, [], ◌∷◌, ◌++◌, length, sym, ap, ap₂, ◌∙◌, subst, rules}
 use Rattle.unicode_normalization.specs.Decompose.{decompose}
 use Rattle.ucd_normal.specs.declared.forms.Form.TheVariants.{Nfd}
 use Rattle.unicode_normalization.specs.StreamSafe.{has_short_runs}
@@ -117,3 +117,18 @@ returns-clause-afresh c =
     afresh c.args.self.now c.take_all.new.self c.take_all.new.out.items c.args.offset c.args.c
     (IsPushed-parts c.args.self.now.held c.take_all.new.self.held c.empty.new.out.items c.take_all.new.out.items c.decomposition-parts.result.now c.args.offset c.args.c
     c.empty.ensures (c.decomposition-parts.ensures.value ∙ sym (decomposition-decompose c.args.c)) c.take_all.ensures.held c.take_all.ensures.moved c.take_all.ensures.closed c.take_all.ensures.run)
+
+pub take_all-requires-clause-room : goal.take_all-requires-clause-room
+take_all-requires-clause-room c = search rules depth 4
+
+pub take_all-requires-clause-short : goal.take_all-requires-clause-short
+take_all-requires-clause-short c = search rules depth 4
+
+pub returns-clause-few : goal.returns-clause-few
+returns-clause-few c = search rules depth 4
+
+pub returns-then-is_plain-clause-held : goal.returns-then-is_plain-clause-held
+returns-then-is_plain-clause-held c = search rules depth 4
+
+pub returns-clause-held : goal.returns-clause-held
+returns-clause-held c = search rules depth 4
