@@ -33,7 +33,7 @@ pub struct Cache {
     pub letters: Letters,
     pub skip: Skip,
     /// How many bytes are walked over before text is passed by: few where that was worth it, more where it was not.
-    pub(crate) hold: usize,
+    pub hold: usize,
     /// How many bytes more go by steps alone, as long as no piece has more: for one short text letters cost more than the steps that they
     /// save.
     pub by_steps: usize,

@@ -21,11 +21,14 @@ const FIRST_PIECE: usize = 64;
 const LONGEST_PIECE: usize = 4_096;
 
 /// The most bytes of a text that goes by steps alone where the search is made for it, and no letter serves another text.
-const SHORT_TEXT: usize = 64;
+const SHORT_TEXT: usize = 128;
 
-/// How many bytes and characters together such a text has at most for each different byte: where it has more, letters serve each often
-/// enough. A character of three bytes takes less than twice the steps of one byte.
-const FOR_EACH: usize = 7;
+/// How many characters such a text has at most for each different byte: where it has more, letters serve each often enough.
+const FOR_EACH: usize = 2;
+
+/// The most bytes of a text in which nothing is passed by where the search is made for it: what passes text by is found anew then, and
+/// costs more than it saves.
+const LONGEST_WALKED: usize = 2_048;
 
 /// The first range of the answer to a text, if there is one, though a fault may stand after it: its start and its end, in
 /// bytes from the beginning of the text, the end not included. The pattern was compiled with this table.
@@ -52,7 +55,7 @@ pub fn index<W: Weights>(
             offset: 0,
         });
     };
-    search.go_by_steps(bytes_by_steps(text));
+    search.is_for_one_text(text);
     search.first_in(text)
 }
 
@@ -88,7 +91,7 @@ pub fn index_from<W: Weights>(
         });
     };
     let rest = &text[from.min(text.len())..];
-    search.go_by_steps(bytes_by_steps(rest));
+    search.is_for_one_text(rest);
     search.first_from(text, from)
 }
 
@@ -101,11 +104,14 @@ impl<'a, W: Weights> Search<'a, W> {
     ghost use Rattle.collation_search.specs.Indexing.{first_range};
     ghost use Rattle.collation_search.specs.Search.{HasSearched, sought};
 
-    /// Lets at least so many bytes go by steps alone.
-    fn go_by_steps(&mut self, bytes: usize)
+    /// Prepares for one text alone: of a short one little is found out that serves no other text.
+    fn is_for_one_text(&mut self, text: &[u8])
         ensures sought { sought self.new ≡ sought self.old }
     {
-        self.cache.by_steps = self.cache.by_steps.max(bytes);
+        self.cache.by_steps = self.cache.by_steps.max(bytes_by_steps(text));
+        if text.len() <= LONGEST_WALKED {
+            self.cache.hold = LONGEST_WALKED;
+        }
     }
 
     /// The first range of the answer to a text, if there is one, though a fault may stand after it: its start and its end, in
@@ -231,7 +237,7 @@ fn bytes_by_steps(text: &[u8]) -> usize {
     for bits in &there {
         different = different.wrapping_add(bits.count_ones() as usize);
     }
-    if characters.saturating_add(text.len()) > different.saturating_mul(FOR_EACH) {
+    if characters > different.saturating_mul(FOR_EACH) {
         return 0;
     }
     text.len()
