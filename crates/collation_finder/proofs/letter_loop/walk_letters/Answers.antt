@@ -1,6 +1,6 @@
 use Rattle.std.specs.Char.{len_utf8}
 use Rattle.std.specs.Str.{chars}
-use Rattle.std.proofs.Common.{◌≡◌, ◌∙◌, ℕ, ◌+◌, ◌-◌, true, List, [], ◌∷◌, ◌++◌, length, take, drop, refl, sym, ap, subst, arith, rules}
+use Rattle.std.proofs.Common.{◌≡◌, ◌∙◌, ℕ, ◌+◌, ◌-◌, true, List, [], ◌∷◌, ◌++◌, length, take, drop, refl, sym, ap, subst, arith}
 use Rattle.std.proofs.lemmas.List.{take_rest, length-drop}
 use Rattle.utf8_cut.specs.Sequences.{SpellsCharacter}
 use Rattle.nfd_points.specs.Points.{points_of, begins_with_starter}
@@ -126,7 +126,7 @@ pub pass_by-behind-requires-clause-near : goal.pass_by-behind-requires-clause-ne
 pass_by-behind-requires-clause-near g c = c.if-end-reach.false
 
 pub pass_by-behind-requires-clause-state : goal.pass_by-behind-requires-clause-state
-pass_by-behind-requires-clause-state g c = search rules depth 4
+pass_by-behind-requires-clause-state g c = omega arith
 
 pub pass_by-behind-requires-clause-begins : goal.pass_by-behind-requires-clause-begins
 pass_by-behind-requires-clause-begins g c =
