@@ -14,4 +14,4 @@ insert-requires-clause-sound g c =
     IsRowSound-from_kind (g.S.RowStore.table c.args.rows.now) c.in-Some-Entry.string.now c.in-Some-Entry.row.now parts.0 parts.1 right
 
 pub returns-in-Some-clause-fault : goal.returns-in-Some-clause-fault
-returns-in-Some-clause-fault g c = search rules depth 6
+returns-in-Some-clause-fault g c = search rules depth 3
