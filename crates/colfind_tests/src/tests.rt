@@ -537,7 +537,7 @@ fn compare_unwritten(
     let status = status_of(host, words, &mut input, &mut out, &mut err);
     answered_is(
         rt,
-        (status, b"", err.bytes()),
+        (status, out.bytes(), err.bytes()),
         (2, b"", reported.as_bytes()),
         words,
     );

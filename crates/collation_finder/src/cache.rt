@@ -9,10 +9,7 @@ use collation_walk::Query;
 use std::alloc::{AllocError, Global};
 
 /// The most bytes that are walked over before text is passed by again.
-const MOST_HELD: usize = 2_048;
-
-/// How many bytes are worth the passing by.
-const WORTH: usize = 2;
+const MOST_HELD: usize = 256;
 
 /// The fewest bytes that are walked over before text is passed by again.
 const FEWEST_HELD: usize = 1;
@@ -126,19 +123,21 @@ impl Cache {
             reach,
         )
         else {
-            self.hold = held_after(self.hold, 0);
+            self.hold = held_after(self.hold, false);
             return None;
         };
-        self.hold = held_after(self.hold, passed.end);
+        // more than one letter is worth it, and so is one where the automaton may be asked soon
+        let was_worth_it = passed.start > 0 || !self.skip.has_long_rest();
+        self.hold = held_after(self.hold, was_worth_it);
         Some(passed)
     }
 }
 
-/// How many bytes are walked over before text is passed by again, where so many were before, and so many were passed by then: a quarter
-/// where that was worth it, else twice as many.
-fn held_after(hold: usize, passed: usize) -> usize {
-    if passed >= WORTH {
-        (hold / 4).max(FEWEST_HELD)
+/// How many bytes are walked over before text is passed by again, where so many were before: half as many where that was worth it,
+/// else twice as many.
+fn held_after(hold: usize, was_worth_it: bool) -> usize {
+    if was_worth_it {
+        (hold / 2).max(FEWEST_HELD)
     } else {
         hold.saturating_mul(2).min(MOST_HELD)
     }

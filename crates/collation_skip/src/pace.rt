@@ -96,6 +96,11 @@ impl Pace {
         true
     }
 
+    /// Whether the automaton did not pay for as long as it may not be asked: its last rest was the longest.
+    pub(crate) fn has_long_rest(&self) -> bool {
+        self.last_rest == LONGEST_REST
+    }
+
     /// The most bytes over which the automaton goes this time.
     pub(crate) fn most_moves(&mut self) -> usize {
         let most = if self.blocks_pay { SHORT } else { usize::MAX };

@@ -83,6 +83,11 @@ impl Skip {
         by_blocks
     }
 
+    /// Whether the automaton has not paid for long, so that few characters at a time are passed by.
+    pub fn has_long_rest(&self) -> bool {
+        self.pace.has_long_rest()
+    }
+
     /// Passes by text of characters of one and of two bytes in blocks, asked before blocks of ASCII (`first`) or after them. `None` where
     /// no sets are chosen, where it is not their turn, or where that is not worth while. Where such texts are short, there are no sets
     /// from then on, until some are chosen again.
