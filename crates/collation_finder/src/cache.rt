@@ -8,11 +8,14 @@ use collation_table::Weights;
 use collation_walk::Query;
 use std::alloc::{AllocError, Global};
 
-/// The most bytes that are walked over before text is passed by again.
+/// The most bytes that are walked over before text is passed by again, once some were not worth it.
 const MOST_HELD: usize = 256;
 
 /// The fewest bytes that are walked over before text is passed by again.
 const FEWEST_HELD: usize = 1;
+
+/// How many bytes that were passed by are so much that only the fewest are walked over next.
+const MUCH: usize = 24;
 
 /// The fewest bytes that may be passed by: fewer are walked over sooner.
 const SHORTEST: usize = 8;
@@ -123,20 +126,22 @@ impl Cache {
             reach,
         )
         else {
-            self.hold = held_after(self.hold, false);
+            self.hold = held_after(self.hold, 0, false);
             return None;
         };
         // more than one letter is worth it, and so is one where the automaton may be asked soon
         let was_worth_it = passed.start > 0 || !self.skip.has_long_rest();
-        self.hold = held_after(self.hold, was_worth_it);
+        self.hold = held_after(self.hold, passed.end, was_worth_it);
         Some(passed)
     }
 }
 
-/// How many bytes are walked over before text is passed by again, where so many were before: half as many where that was worth it,
-/// else twice as many.
-fn held_after(hold: usize, was_worth_it: bool) -> usize {
-    if was_worth_it {
+/// How many bytes are walked over before text is passed by again, where so many were before, and so many were passed by then: the fewest
+/// where these are much, half as many where they were worth it, else twice as many.
+fn held_after(hold: usize, passed: usize, was_worth_it: bool) -> usize {
+    if passed >= MUCH {
+        FEWEST_HELD
+    } else if was_worth_it {
         (hold / 2).max(FEWEST_HELD)
     } else {
         hold.saturating_mul(2).min(MOST_HELD)

@@ -23,12 +23,13 @@ const LONGEST_PIECE: usize = 4_096;
 /// The most bytes of a text that goes by steps alone where the search is made for it, and no letter serves another text.
 const SHORT_TEXT: usize = 128;
 
-/// How many characters such a text has at most for each different byte: where it has more, letters serve each often enough.
-const FOR_EACH: usize = 2;
+/// How many bytes and characters together such a text has at most for each different byte: where it has more, letters serve each often
+/// enough. A character of three bytes takes less than twice the steps of one byte.
+const FOR_EACH: usize = 7;
 
 /// The most bytes of a text in which nothing is passed by where the search is made for it: what passes text by is found anew then, and
 /// costs more than it saves.
-const LONGEST_WALKED: usize = 2_048;
+const LONGEST_WALKED: usize = 256;
 
 /// The first range of the answer to a text, if there is one, though a fault may stand after it: its start and its end, in
 /// bytes from the beginning of the text, the end not included. The pattern was compiled with this table.
@@ -237,7 +238,7 @@ fn bytes_by_steps(text: &[u8]) -> usize {
     for bits in &there {
         different = different.wrapping_add(bits.count_ones() as usize);
     }
-    if characters > different.saturating_mul(FOR_EACH) {
+    if characters.saturating_add(text.len()) > different.saturating_mul(FOR_EACH) {
         return 0;
     }
     text.len()
