@@ -1,7 +1,7 @@
 -- The whole characters of a list, and what follows them.
 use Rattle.std.proofs.Common.{◌≡◌, ℕ, zero, suc, ◌+◌, ◌<◌, ◌≤◌, Bool, true, false, List, [], ◌∷◌, ◌++◌, length, take, drop, refl, sym, ap, ◌∙◌, subst, inl, inr, ◌&&◌, arith, add-zero, append_assoc, append-nil, length-append, take-append-drop, length-drop, eq-eqb, ne_eqb}
 use Rattle.std.specs.Option.{option_map}
-use Rattle.std.specs.Prelude.{None, cond}
+use Rattle.std.specs.Prelude.{None, Some, cond}
 use Rattle.std.proofs.lemmas.Bool.{false≢true, cases_lt, cases_eq}
 use Rattle.std.proofs.lemmas.List.{take_at, drop_at}
 use Rattle.std.proofs.Math.Seq.{take-add}
@@ -116,6 +116,9 @@ text_prefix bytes u = Split-prefix _ _ _ (split_whole bytes u)
 
 pub text_fault : (bytes : List ℕ) → IsUtf8 bytes → first_fault bytes ≡ None
 text_fault bytes u = rw (eq-eqb _ _ (Split-end _ _ _ (split_whole bytes u)))
+
+pub fault_within : (bytes : List ℕ) (n : ℕ) → n ≡ characters_end bytes → n < length bytes → first_fault bytes ≡ Some (characters_end bytes)
+fault_within bytes n is within = rw (ne_eqb (characters_end bytes) (length bytes) (λ whole. absurd (omega (arith, is, within, whole))))
 
 -- ---- a text before bytes
 

@@ -7,6 +7,15 @@ use Rattle.utf8_cut.specs.Value.{CutState, between_characters}
 use Rattle.utf8_cut.proofs.PushLemmas.{text_taken, between_is}
 use Rattle.utf8_cut.proofs.Cut.take_characters.Goals as goal
 
+pub returns-clause-state : goal.returns-clause-state
+returns-clause-state c =
+    let old = state c.self.inside in
+    let n = c.args.n in
+    let count : old.count ≡ c.args.self.now.count = ap (λ (cut : CutState). cut.count) c.self.view_is in
+    let at_count : old.start ≡ old.count = ap (λ (cut : CutState). cut.start) c.self.view_is ∙ c.requires.between ∙ sym count in
+    ap (λ (cut : CutState). record { held = cut.held; start = old.count + n; count = old.count + n; is_bad = cut.is_bad }) (between_is old c.self.invariant at_count)
+    ∙ ap (λ k. between_characters (k + n)) count
+
 pub returns-clause-stands_for : goal.returns-clause-stands_for
 returns-clause-stands_for c taken text given s long whole =
     let old = state c.self.inside in

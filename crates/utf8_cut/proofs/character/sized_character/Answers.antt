@@ -1,4 +1,4 @@
-use Rattle.std.proofs.Common.{[], sym, subst, arith}
+use Rattle.std.proofs.Common.{[], sym, subst, arith, rules}
 use Rattle.std.proofs.lemmas.List.{nil_from_length}
 use Rattle.std.specs.Str.{StartsWithNoChar}
 use Rattle.utf8_cut.proofs.TableLemmas.{no_char_nil}
@@ -28,3 +28,9 @@ returns-in-len3-up-clause-some c = (first_three c.args.bytes.now _ c.in-len3-up.
 
 pub returns-in-len3-up-clause-len : goal.returns-in-len3-up-clause-len
 returns-in-len3-up-clause-len c = (first_three c.args.bytes.now _ c.in-len3-up.len_at_least c.char_of_three.ensures).0
+
+pub returns-in-Incomplete-clause-some : goal.returns-in-Incomplete-clause-some
+returns-in-Incomplete-clause-some c = search rules depth 3
+
+pub returns-in-Incomplete-clause-len : goal.returns-in-Incomplete-clause-len
+returns-in-Incomplete-clause-len c = search rules depth 3
