@@ -1,4 +1,4 @@
-use Rattle.std.proofs.Common.{◌≡◌, ℕ, List, [], ◌∷◌, ◌++◌, length, sym, ap, ap₂, ◌∙◌, subst, rules}
+use Rattle.std.proofs.Common.{◌≡◌, ℕ, List, [], ◌∷◌, ◌++◌, length, true, sym, ap, ap₂, ◌∙◌, subst, arith}
 use Rattle.unicode_normalization.specs.Decompose.{decompose}
 use Rattle.ucd_normal.specs.declared.forms.Form.TheVariants.{Nfd}
 use Rattle.unicode_normalization.specs.StreamSafe.{has_short_runs}
@@ -7,7 +7,7 @@ use Rattle.nfd_points.specs.Points.{ordered}
 use Rattle.nfd_points.specs.PointFaults.{run_after, fault_of_code_point, part_fault}
 use Rattle.nfd_points.specs.Reordering.{code_points, IsHeld, IsSoundPoint, is_closed}
 use Rattle.nfd_points.proofs.DecompositionLemmas.{decomposition-decompose}
-use Rattle.nfd_points.proofs.RunLemmas.{fault_of_code_point-parts, short-nil}
+use Rattle.nfd_points.proofs.RunLemmas.{fault_of_code_point-parts, part_fault-none, short-nil}
 use Rattle.nfd_points.proofs.ReorderingLemmas.{is_closed-nil, stops}
 use Rattle.nfd_points.proofs.PushLemmas.{IsPushed, IsPushed-parts, IsPushed-all, IsPushed-carries, plain-pushed, plain-given, plain-short, plain-fault, plain-sound}
 use Rattle.nfd_points.proofs.AfreshLemmas.{afresh, first-good}
@@ -119,16 +119,24 @@ returns-clause-afresh c =
     c.empty.ensures (c.decomposition-parts.ensures.value ∙ sym (decomposition-decompose c.args.c)) c.take_all.ensures.held c.take_all.ensures.moved c.take_all.ensures.closed c.take_all.ensures.run)
 
 pub take_all-requires-clause-room : goal.take_all-requires-clause-room
-take_all-requires-clause-room c = search rules depth 4
+take_all-requires-clause-room c =
+    let fits = part_fault-none c.len-run.result c.decomposition-parts.result.now (sym c.in_default.ensures) in
+    let held = subst (λ w. IsHeld w.held) c.self.view_is c.self.invariant in
+    omega (arith, fits.0, held.few, ap length c.empty.ensures)
 
 pub take_all-requires-clause-short : goal.take_all-requires-clause-short
-take_all-requires-clause-short c = search rules depth 4
+take_all-requires-clause-short c =
+    let fits = part_fault-none c.len-run.result c.decomposition-parts.result.now (sym c.in_default.ensures) in
+    subst (λ n. has_short_runs n c.decomposition-parts.result.now ≡ true) (c.len-run.ensures.value ∙ ap (λ w. length w.held) c.self.view_is) fits.1
 
 pub returns-clause-few : goal.returns-clause-few
-returns-clause-few c = search rules depth 4
+returns-clause-few c =
+    let fits = part_fault-none c.len-run.result c.decomposition-parts.result.now (sym c.in_default.ensures) in
+    let held = subst (λ w. IsHeld w.held) c.self.view_is c.self.invariant in
+    omega (arith, fits.0, held.few, ap length c.empty.ensures, c.take_all.ensures.len)
 
 pub returns-then-is_plain-clause-held : goal.returns-then-is_plain-clause-held
-returns-then-is_plain-clause-held c = search rules depth 4
+returns-then-is_plain-clause-held c = c.take.ensures.held
 
 pub returns-clause-held : goal.returns-clause-held
-returns-clause-held c = search rules depth 4
+returns-clause-held c = c.take_all.ensures.held
