@@ -90,6 +90,15 @@ same-neighbors sets bytes before here i j m n is_before is_here same_before same
 
 -- ---- bytes that pass
 
+-- one byte that does not halt passes
+pub passes-one : (sets : AsciiSets) (bytes : List ℕ) → 1 ≤ length bytes → get_or bytes 0 0 < 128 → in_set sets.halt (get_or bytes 0 0) ≡ 0 → Passes sets bytes 1
+passes-one sets bytes some low going = record {
+  within = some;
+  ascii = λ _. low;
+  going = λ _. going;
+  each = λ i less. absurd (omega (arith, less));
+}
+
 -- no more bytes pass than those before one that does not
 pub ends : (sets : AsciiSets) (bytes : List ℕ) (m n : ℕ) → 1 ≤ m → m ≤ n → DoesNotPass sets (get_or bytes (m - 1) 0) (get_or bytes m 0) → EndsAt sets bytes n
 ends sets bytes m n some within stop p =

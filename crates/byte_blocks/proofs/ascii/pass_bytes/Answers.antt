@@ -1,7 +1,8 @@
 use Rattle.std.proofs.Common.{◌≡◌, ℕ, suc, ◌+◌, ◌-◌, ◌≤◌, ◌<◌, List, length, get_or, subst, arith, inl, inr}
-use Rattle.std.proofs.lemmas.Bool.{cases_lt}
+use Rattle.std.proofs.lemmas.Bool.{both_ways, cases_lt}
 use Rattle.byte_blocks.specs.declared.ascii.AsciiSets.{AsciiSets}
 use Rattle.byte_blocks.specs.Ascii.{Passes, PassesBehind}
+use Rattle.byte_blocks.proofs.PassLemmas.{ends}
 use Rattle.byte_blocks.proofs.ascii.pass_bytes.Goals as goal
 
 passes-one : (sets : AsciiSets) (bytes : List ℕ) (len : ℕ) → 1 ≤ len → len + 1 ≤ length bytes → Passes sets bytes len →
@@ -33,3 +34,12 @@ loop-len-preserved c =
       passes = passes-one c.args.sets.now c.args.piece.now c.loop-len.len some (omega (arith, test, c.requires.limit)) i.passes (c.byte_passes.ensures.0 c.if-byte_passes.true);
       some = omega (arith, some);
     }
+
+pub returns-else-byte_passes-clause-most : goal.returns-else-byte_passes-clause-most
+returns-else-byte_passes-clause-most c = λ below.
+    let len = c.loop-len.len in
+    ends c.args.sets.now c.args.piece.now len len c.loop-len.invariant.some (omega arith)
+    (λ p. both_ways c.byte_passes.result c.if-byte_passes.false (c.byte_passes.ensures.1 p))
+
+pub returns-after-loop-len-clause-most : goal.returns-after-loop-len-clause-most
+returns-after-loop-len-clause-most c = λ below. absurd (omega (arith, below, c.loop-len-test.false))
