@@ -1,4 +1,4 @@
-use Rattle.std.proofs.Common.{◌≡◌, ◌<◌, ℕ, false, List, [], ◌∷◌, ◌++◌, sym, ap₂, subst, arith}
+use Rattle.std.proofs.Common.{◌≡◌, ◌<◌, ℕ, false, List, [], ◌∷◌, ◌++◌, sym, ap₂, subst, arith, rules}
 use Rattle.std.proofs.Math.Logic.{∥∥₁_map}
 use Rattle.collation_letters.specs.declared.letter.Letter.{Letter}
 use Rattle.collation_letters.specs.Letters.{IsLetter}
@@ -23,6 +23,9 @@ returns-then-is_mark-clause-moves g c = λ byte spelled at bytes h.
 pub behind_letter-requires-clause-next : goal.behind_letter-requires-clause-next
 behind_letter-requires-clause-next g c = λ at cs h.
     c.is_next.ensures.apart c.if-is_next.true (g.W.Weights.table c.args.table.now) c.args.pattern.now at cs c.args.c h c.requires.letter
+
+pub behind_letter-requires-clause-known : goal.behind_letter-requires-clause-known
+behind_letter-requires-clause-known g c = search rules depth 3
 
 -- two characters that are one mapped string
 pub returns-clause-moves : goal.returns-clause-moves
