@@ -12,4 +12,4 @@ returns-clause-prints g c = λ form ranges before f p.
     (c.as_bytes.ensures.value ∙ c.as_str.ensures.value) c.write_all.ensures.ok c.write_all.ensures.err c.write_all.ensures.count refl refl c.clear-2.ensures c.is_err-self.ensures.value
 
 pub returns-clause-ready : goal.returns-clause-ready
-returns-clause-ready g c = search rules depth 6
+returns-clause-ready g c = search rules depth 6 steps 300000

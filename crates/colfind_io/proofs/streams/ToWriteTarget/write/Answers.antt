@@ -1,5 +1,4 @@
-use Rattle.std.proofs.Common.{rules}
 use Rattle.colfind_io.proofs.streams.ToWriteTarget.write.Goals as goal
 
 pub returns-else-count-eq0-clause-writer : goal.returns-else-count-eq0-clause-writer
-returns-else-count-eq0-clause-writer g c = search rules depth 5
+returns-else-count-eq0-clause-writer g c = rw c.in-Ok.is at c.write.ensures.bytes
