@@ -8,7 +8,7 @@ returns-clause-stands g c =
     let cut = c.new-self.ensures.stands_for in
     let finder = c.begin_again.ensures.stands (g.W.Weights.table c.args.self.now.query.table.now) in
     record {
-      cut_stands = search (rules, chars-nil);
+      cut_stands = search;
       found = search (rules, chars-nil);
       open_bytes = search (rules, chars-nil);
       no_fault = refl;

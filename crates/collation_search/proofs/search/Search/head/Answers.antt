@@ -19,4 +19,4 @@ returns-clause-few g c =
     (subst (λ (f : Finder). length f.reorder.held ≤ MOST_WAITING) c.deref-finder.ensures c.waiting-waiting.ensures.held.few)
 
 pub returns-clause-numbers : goal.returns-clause-numbers
-returns-clause-numbers g c = search rules depth 6
+returns-clause-numbers g c = search rules depth 6 steps 300000

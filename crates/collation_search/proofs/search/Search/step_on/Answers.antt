@@ -1,6 +1,7 @@
 use Rattle.std.specs.Prelude.{Err}
 use Rattle.std.specs.Str.{chars}
-use Rattle.std.proofs.Common.{◌≡◌, ◌∙◌, ℕ, List, [], ◌∷◌, ◌++◌, ap, sym, subst, refl, rules}
+use Rattle.std.proofs.Common.{◌≡◌, ◌∙◌, ℕ, List, [], ◌∷◌, ◌++◌, ap, sym, subst, refl, rules, arith}
+use Rattle.collation_table.specs.Table.{longest_mapped}
 use Rattle.collation_matches.specs.GoodPrefix.{whole}
 use Rattle.collation_search.specs.Feeding.{Takes}
 use Rattle.collation_search.specs.Search.{HasTaken, sought}
@@ -52,3 +53,8 @@ returns-in-Err-clause-takes g c =
     tt
     (search rules)
     (search rules)
+
+pub returns-in-Err-clause-few : goal.returns-in-Err-clause-few
+returns-in-Err-clause-few g c =
+    let same = ap (λ q. longest_mapped (g.W.Weights.table q.table.now)) c.in-Err.ensures.same in
+    omega (arith, same, c.end.ensures.few)

@@ -16,7 +16,7 @@ returns-then-is_none-clause-settled g c = λ text u handed compiled h.
     (c.end.ensures.ended (chars (whole u)) handed (subst (λ (f : Finder). FinderStandsFor s.table s.pattern f (chars (whole u)) handed) (sym there) h.found))
 
 pub end-requires-clause-open : goal.end-requires-clause-open
-end-requires-clause-open g c = search rules depth 4
+end-requires-clause-open g c = search rules depth 4 steps 300000
 
 pub returns-clause-settled : goal.returns-clause-settled
-returns-clause-settled g c = search rules depth 6
+returns-clause-settled g c = search rules depth 6 steps 300000
