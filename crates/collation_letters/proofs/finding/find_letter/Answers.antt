@@ -1,4 +1,6 @@
-use Rattle.std.proofs.Common.{◌≡◌, ◌≢◌, ◌∙◌, [], ◌∷◌, refl, sym, ap, subst, length, List, ◌≤◌}
+use Rattle.std.proofs.Common.{◌≡◌, ◌≢◌, ◌∙◌, [], ◌∷◌, refl, sym, ap, subst, length, List, ◌≤◌, arith}
+use Rattle.std.proofs.lemmas.List.Elements.{All-same}
+use Rattle.nfd_points.specs.Reordering.{IsSoundPoint}
 use Rattle.nfd_points.specs.Points.{is_in_order, points_of}
 use Rattle.nfd_points.specs.declared.limits.TheConstants.{MOST_WAITING}
 use Rattle.nfd_points.specs.declared.points.Point.{Point}
@@ -41,3 +43,15 @@ returns-clause-letter g c =
           (subst (λ s. AreLastSymbols pattern.keys (character_keys w.in-Some.plain) (listed s)) (sym (ap (λ r. r.1) w.role-is)) (w.role_and_symbols.ensures.symbols role))
       | in-None w ↦ absurd (known (ap (λ r. r.0) w.role-is))
     ]))
+
+pub items_of-requires-clause-room : goal.items_of-requires-clause-room
+items_of-requires-clause-room g c = omega (arith, c.as_slice-points.ensures.fits, c.requires.room)
+
+pub items_of-requires-clause-sound : goal.items_of-requires-clause-sound
+items_of-requires-clause-sound g c = All-same IsSoundPoint _ _ c.as_slice-points.ensures.value c.points_of_character-points.ensures.sound
+
+pub overflow_cast-letter : goal.overflow_cast-letter
+overflow_cast-letter g c = omega (arith, c.as_slice-points.ensures.fits)
+
+pub returns-clause-window : goal.returns-clause-window
+returns-clause-window g c = c.items_of.ensures.window

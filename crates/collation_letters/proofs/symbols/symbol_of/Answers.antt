@@ -14,3 +14,6 @@ returns-clause-symbol c = record {
   known = λ place is. absurd (omega (arith, is));
   first = λ place earlier is. absurd (omega (arith, is));
 }
+
+pub loop-place-init : goal.loop-place-init
+loop-place-init c = λ i below. absurd (omega (arith, below))
