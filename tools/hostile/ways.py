@@ -108,6 +108,8 @@ def cases():
     yield "a contraction across each cut of 4,096 bytes", "zz", across_cuts(prose, "\u0e40\u0e01")
     yield "a letter and marks across each cut of 4,096 bytes", "zz", across_cuts(prose, "e\u0327\u0301")
     yield "a unit left to the steps at each second character", "zz", "a\u0f71\u0f72"
+    yield "zero bytes", "zz", "\0"
+    yield "the second key at each character", "ba", "a"
     yield "the first key at each character", "ab", "a"
     yield "the first eight keys at each character", "a" * 9 + "b", "a"
     yield "a match at each character", "a", "a"
@@ -135,9 +137,10 @@ def cases():
 
 
 def own_pattern(part):
-    """Two characters of a text, of which the first is a letter; that one, or else the second, is past ASCII if there are such ones."""
+    """Two characters of a text, of which the first is a letter; that one, or else the second, is past ASCII if there are such ones. `a` where
+    the text has no letter."""
     pairs = [part[place : place + 2] for place, c in enumerate(part) if c.isalpha() and part[place + 1 : place + 2] != "\0"]
-    return min(pairs, key=lambda pair: (pair[0].isascii(), pair.isascii()))
+    return min(pairs, key=lambda pair: (pair[0].isascii(), pair.isascii()), default="a")
 
 
 def matches(bench, name, words, text, others):

@@ -11,6 +11,9 @@ use std::alloc::{AllocError, Global};
 /// The most bytes that are walked over before text is passed by again, once some were not worth it.
 const MOST_HELD: usize = 256;
 
+/// The same once nothing was passed by: to find that out may take a look at all that is left of a piece.
+const MOST_HELD_IN_VAIN: usize = 65_536;
+
 /// The fewest bytes that are walked over before text is passed by again.
 const FEWEST_HELD: usize = 1;
 
@@ -32,8 +35,10 @@ const BY_STEPS: usize = 32_768;
 pub struct Cache {
     pub letters: Letters,
     pub skip: Skip,
-    /// How many bytes are walked over before text is passed by: few where that was worth it, more where it was not.
+    /// How many bytes are walked over each time before text is passed by: few where that was worth it, more where it was not.
     pub hold: usize,
+    /// How many of these are left, counted from the beginning of the next piece.
+    pub due: usize,
     /// How many bytes more go by steps alone, as long as no piece has more: for one short text letters cost more than the steps that they
     /// save.
     pub by_steps: usize,
@@ -74,6 +79,7 @@ impl Cache {
             letters: Letters::for_long_patterns(alloc, table)?,
             skip: Skip::new(alloc),
             hold: FEWEST_HELD,
+            due: FEWEST_HELD,
             by_steps: if pattern.len() > MOST_KEYS {
                 BY_STEPS
             } else {
@@ -143,7 +149,9 @@ fn held_after(hold: usize, passed: usize, was_worth_it: bool) -> usize {
         FEWEST_HELD
     } else if was_worth_it {
         (hold / 2).max(FEWEST_HELD)
-    } else {
+    } else if passed > 0 {
         hold.saturating_mul(2).min(MOST_HELD)
+    } else {
+        hold.saturating_mul(2).min(MOST_HELD_IN_VAIN)
     }
 }

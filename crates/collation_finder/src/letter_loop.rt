@@ -75,7 +75,7 @@ pub(crate) fn walk_letters<W: Weights, F: FnMut(u64, u64)>(
     let mut c = from.next;
     let mut end = c.len_utf8();
     let mut letter = from.letter;
-    let mut due = cache.hold;
+    let mut due = cache.due;
     'characters: loop {
         let Some((next, len)) = sized_character(&piece[end..]) else {
             break;
@@ -119,6 +119,7 @@ pub(crate) fn walk_letters<W: Weights, F: FnMut(u64, u64)>(
         end = at + c.len_utf8();
         letter = behind.letter;
         due = at.saturating_add(cache.hold);
+        cache.due = due;
     }
     Walked {
         len: at,

@@ -277,6 +277,7 @@ impl Finder {
             letter,
         };
         let walked = walk_letters(&mut self.matcher, query, cache, front, from, sink);
+        cache.due = cache.due.saturating_sub(walked.len);
         let at = front.offset + walked.len as u64;
         found.clear();
         // where no point waits no character is at fault

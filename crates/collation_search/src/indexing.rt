@@ -111,7 +111,7 @@ impl<'a, W: Weights> Search<'a, W> {
     {
         self.cache.by_steps = self.cache.by_steps.max(bytes_by_steps(text));
         if text.len() <= LONGEST_WALKED {
-            self.cache.hold = LONGEST_WALKED;
+            self.cache.due = LONGEST_WALKED;
         }
     }
 

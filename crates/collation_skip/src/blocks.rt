@@ -13,6 +13,12 @@ use collation_letters::{Letter, Letters, laws_of_characters, laws_of_symbols};
 use collation_pattern::Pattern;
 use collation_table::Weights;
 
+/// The most bytes that are passed at once: where the text can't be left behind them, they are looked at in vain.
+const MOST: usize = 65_536;
+
+/// In how many bytes, the last of those that pass, a character is looked for behind which the text may be left.
+const WAY_BACK: usize = 4_096;
+
 /// Passes by text of ASCII at the front of a piece, where no key waits, by right classes: at most `reach` bytes, and to the end of a
 /// character with a key that the pattern does not have. `None` where it finds no such character behind which it may stop.
 pub(crate) fn pass_blocks<W: Weights>(
@@ -33,7 +39,7 @@ pub(crate) fn pass_blocks<W: Weights>(
     laws_of_symbols();
     units_stay_apart();
     weighers_go_on();
-    let len = passed_len(&classes.sets, piece, piece.len().min(reach));
+    let len = passed_len(&classes.sets, piece, piece.len().min(reach).min(MOST));
     let (start, _) = last_clean(table, pattern, letters, piece, followed_len(piece, len))?;
     let next = piece[start + 1] as char;
     let letter = letters.letter(table, pattern, next);
@@ -59,7 +65,8 @@ fn followed_len(piece: &[u8], len: usize) -> usize
     len.saturating_sub(1)
 }
 
-/// The last of the first `len` bytes of a piece whose character is a cluster with a key that the pattern does not have; and its letter.
+/// The last of the first `len` bytes of a piece, and of the last of these, whose character is a cluster with a key that the pattern does
+/// not have; and its letter.
 #[inline(always)]
 fn last_clean<W: Weights>(
     table: &W,
@@ -76,8 +83,9 @@ fn last_clean<W: Weights>(
         IsLetter (W.table table.now) pattern.now (slice_index piece.now r.0 ∷ []) r.1) }
     ensures clean { IfSome result (λ r. IsClean r.1) }
 {
+    let first = len.saturating_sub(WAY_BACK);
     let mut end = len;
-    while end > 0 {
+    while end > first {
         end -= 1;
         let letter = letters.letter(table, pattern, piece[end] as char);
         if letter.is_clean() {

@@ -96,7 +96,7 @@ impl Pace {
         true
     }
 
-    /// Whether the automaton did not pay for as long as it may not be asked: its last rest was the longest.
+    /// Whether the automaton is asked as seldom as may be, for it has not paid many times in a row.
     pub(crate) fn has_long_rest(&self) -> bool {
         self.last_rest == LONGEST_REST
     }

@@ -83,7 +83,7 @@ impl Skip {
         by_blocks
     }
 
-    /// Whether the automaton has not paid for long, so that few characters at a time are passed by.
+    /// Whether the automaton is asked as seldom as may be, for it has not paid many times in a row.
     pub fn has_long_rest(&self) -> bool {
         self.pace.has_long_rest()
     }

@@ -151,9 +151,10 @@ fn is_clean(letter: &Letter) -> bool {
     }
 }
 
-/// The last of the first `len` bytes of a piece whose character is a cluster with a key that the pattern does not have.
+/// The last of the first `len` bytes of a piece, and of the last 4,096 of these, whose character is a cluster with a key that the pattern
+/// does not have.
 fn last_clean(ways: &mut Ways<'_>, piece: &[u8], len: usize) -> Option<usize> {
-    for at in (0..len).rev() {
+    for at in (len.saturating_sub(4_096)..len).rev() {
         if is_clean(&ways.letter(byte_at(piece, at) as char)) {
             return Some(at);
         }

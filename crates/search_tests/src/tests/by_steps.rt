@@ -160,7 +160,7 @@ fn compare_first(rt: &impl Abort, alloc: Global, query: &Query<'_, Table>, text:
     want.is_some()
 }
 
-/// Texts of 1 to 66 characters, of which 1 to 20 are different.
+/// Texts of 1 to 66 characters, and of 171 to 191, which are some 170 to 335 bytes; 1 to 20 of them are different.
 #[test]
 fn first_range_of_short_texts(rt: HostRuntime) {
     let alloc = rt.alloc();
@@ -168,7 +168,12 @@ fn first_range_of_short_texts(rt: HostRuntime) {
     let pattern = compile(&rt, alloc, &table, "sa", ONE, KEPT);
     let query = for_all(&table, &pattern);
     let mut found = 0usize;
-    for len in 1..=66usize {
+    for turn in 1..=87usize {
+        let len = if turn <= 66 {
+            turn
+        } else {
+            turn.wrapping_add(104)
+        };
         for different in 1..=20usize {
             let text = varied(&rt, alloc, len, different);
             if compare_first(&rt, alloc, &query, text.as_bytes()) {
@@ -176,5 +181,5 @@ fn first_range_of_short_texts(rt: HostRuntime) {
             }
         }
     }
-    holds(&rt, 100 < found && found < 1_220, &found);
+    holds(&rt, 100 < found && found < 1_640, &found);
 }

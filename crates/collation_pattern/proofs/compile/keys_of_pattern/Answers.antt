@@ -45,7 +45,7 @@ returns-then-is_empty-clause-refused g c = λ _.
     let text = c.args.text.now in
     let short : length text ≤ 65_536 = omega arith in
     let keys = c.in-Ok-keys_among.ensures ∙ ap item_keys (c.as_slice.ensures.value ∙ c.in-Ok.ensures.items)
-        ∙ c.items_are_keys_and_starts.ensures.keys T c.args.strength c.args.variable (points (chars text)) in
+    ∙ c.items_are_keys_and_starts.ensures.keys T c.args.strength c.args.variable (points (chars text)) in
     no_key T c.args.strength c.args.variable text short c.in-Ok.ensures.good
     (omega (arith, ap length keys, eqb-true (vec_len c.in-Ok-keys_among.keys) 0 (sym c.if-is_empty.ensures)))
 
@@ -55,6 +55,6 @@ returns-clause-accepted g c =
     let text = c.args.text.now in
     let short : length text ≤ 65_536 = omega arith in
     let keys = c.in-Ok-keys_among.ensures ∙ ap item_keys (c.as_slice.ensures.value ∙ c.in-Ok.ensures.items)
-        ∙ c.items_are_keys_and_starts.ensures.keys T c.args.strength c.args.variable (points (chars text)) in
+    ∙ c.items_are_keys_and_starts.ensures.keys T c.args.strength c.args.variable (points (chars text)) in
     no_fault T c.args.strength c.args.variable text short c.in-Ok.ensures.good
     (omega (arith, ap length keys, eqb-false (vec_len c.in-Ok-keys_among.keys) 0 (sym c.if-is_empty.ensures)))
