@@ -11,17 +11,14 @@ use std::alloc::{AllocError, Global};
 /// The most bytes that are walked over before text is passed by again, once some were not worth it.
 const MOST_HELD: usize = 256;
 
-/// The same once nothing was passed by: to find that out may take a look at all that is left of a piece.
-const MOST_HELD_IN_VAIN: usize = 65_536;
+/// The same where nothing was passed by: to find that out may take a look at much of what is left of a piece.
+const MOST_HELD_IN_VAIN: usize = 32_768;
 
 /// The fewest bytes that are walked over before text is passed by again.
 const FEWEST_HELD: usize = 1;
 
 /// How many bytes that were passed by are so much that only the fewest are walked over next.
 const MUCH: usize = 24;
-
-/// The fewest bytes that may be passed by: fewer are walked over sooner.
-const SHORTEST: usize = 8;
 
 /// The most keys of a pattern for which letters are found from the first piece on.
 const MOST_KEYS: usize = 1_024;
@@ -37,7 +34,7 @@ pub struct Cache {
     pub skip: Skip,
     /// How many bytes are walked over each time before text is passed by: few where that was worth it, more where it was not.
     pub hold: usize,
-    /// How many of these are left, counted from the beginning of the next piece.
+    /// How many of these are left, counted from the front of what is taken by letters next.
     pub due: usize,
     /// How many bytes more go by steps alone, as long as no piece has more: for one short text letters cost more than the steps that they
     /// save.
@@ -121,9 +118,6 @@ impl Cache {
         laws_of_symbols();
         laws_of_borders();
         weighers_go_on();
-        if reach < SHORTEST {
-            return None;
-        }
         let Some(passed) = self.skip.pass(
             query.table,
             query.pattern,
@@ -132,7 +126,7 @@ impl Cache {
             reach,
         )
         else {
-            self.hold = held_after(self.hold, 0, false);
+            self.hold = held_in_vain(self.hold, self.skip.looked_over());
             return None;
         };
         // more than one letter is worth it, and so is one where the automaton may be asked soon
@@ -143,15 +137,18 @@ impl Cache {
 }
 
 /// How many bytes are walked over before text is passed by again, where so many were before, and so many were passed by then: the fewest
-/// where these are much, half as many where they were worth it, else twice as many.
+/// where these are much, a quarter as many where they were worth it, else twice as many.
 fn held_after(hold: usize, passed: usize, was_worth_it: bool) -> usize {
     if passed >= MUCH {
         FEWEST_HELD
     } else if was_worth_it {
-        (hold / 2).max(FEWEST_HELD)
-    } else if passed > 0 {
-        hold.saturating_mul(2).min(MOST_HELD)
+        (hold / 4).max(FEWEST_HELD)
     } else {
-        hold.saturating_mul(2).min(MOST_HELD_IN_VAIN)
+        hold.saturating_mul(2).min(MOST_HELD)
     }
+}
+
+/// The same where nothing was passed by: twice as many, and at least as many as were looked over in vain.
+fn held_in_vain(hold: usize, looked: usize) -> usize {
+    hold.saturating_mul(2).max(looked).min(MOST_HELD_IN_VAIN)
 }

@@ -17,6 +17,9 @@ use collation_table::Weights;
 use collation_walk::{Matcher, Query, walk_letter};
 use utf8_cut::sized_character;
 
+/// The fewest bytes up to `reach` that are worth a look whether they may be passed by: fewer are walked over sooner.
+const SHORTEST: usize = 8;
+
 /// A character and the marks behind it, or what was walked over.
 #[derive(Clone, Copy)]
 pub(crate) struct Walked {
@@ -105,7 +108,11 @@ pub(crate) fn walk_letters<W: Weights, F: FnMut(u64, u64)>(
         end += len;
         c = next;
         letter = following;
-        if at < due || matcher.walk.state != 0 || matcher.weigher.after_variable() {
+        if at < due
+            || matcher.walk.state != 0
+            || matcher.weigher.after_variable()
+            || reach - at < SHORTEST
+        {
             continue;
         }
         let here = Walked {

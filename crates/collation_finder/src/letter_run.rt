@@ -173,6 +173,9 @@ fn joins_next<W: Weights>(
     !both.role.is_steps()
 }
 
+/// The most bytes over which letters go at once: text that can't be passed by may be looked over to their end in vain.
+const MOST: usize = 65_536;
+
 impl Finder {
     ghost use Rattle.std.specs.Prelude.{◌≡◌, ℕ, ◌+◌, ◌≤◌, List, length, take, false};
     ghost use Rattle.std.specs.Str.{IsUtf8};
@@ -184,8 +187,8 @@ impl Finder {
 
     /// Takes characters at the front of a piece, which stands at a byte offset, and calls the sink once for each range that became
     /// known, in order. It answers how many bytes it took: those up to the first character that it can't take so, or that begins
-    /// after `reach`; none where that is the first one. Behind a character that ends after `reach` it also takes characters of ASCII, as
-    /// many as there is room for. `found` is room that it uses.
+    /// after `reach`, or after `MOST` bytes; none where that is the first one. Behind a character that ends after `reach` it also
+    /// takes characters of ASCII, as many as there is room for. `found` is room that it uses.
     pub fn take_letters<W: Weights, F: FnMut(u64, u64)>(
         &mut self,
         query: &Query<'_, W>,
@@ -215,7 +218,11 @@ impl Finder {
         ensures callable { F.IsAlwaysCallable sink.new }
     {
         laws_of_points();
-        let len = self.take_to_reach(query, cache, front, found, sink);
+        let near = Front {
+            reach: front.reach.min(MOST),
+            ..front
+        };
+        let len = self.take_to_reach(query, cache, near, found, sink);
         if len <= front.reach {
             return len;
         }
@@ -277,6 +284,7 @@ impl Finder {
             letter,
         };
         let walked = walk_letters(&mut self.matcher, query, cache, front, from, sink);
+        // these were walked over or passed by: what is left is counted from behind them
         cache.due = cache.due.saturating_sub(walked.len);
         let at = front.offset + walked.len as u64;
         found.clear();

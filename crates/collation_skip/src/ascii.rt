@@ -18,6 +18,8 @@ pub struct AsciiBlocks {
     sample: usize,
     /// How many bytes came until then, counted again where they came again.
     seen: usize,
+    /// How many bytes were looked over the last time.
+    pub(crate) looked: usize,
 }
 
 impl AsciiBlocks {
@@ -36,6 +38,7 @@ impl AsciiBlocks {
             classes: None,
             sample: 0,
             seen: 0,
+            looked: 0,
         }
     }
 
@@ -63,7 +66,15 @@ impl AsciiBlocks {
         let Some(classes) = &self.classes else {
             return None;
         };
-        pass_blocks(table, pattern, letters, classes, piece, reach)
+        pass_blocks(
+            table,
+            pattern,
+            letters,
+            classes,
+            piece,
+            reach,
+            &mut self.looked,
+        )
     }
 
     /// Chooses a place by a text, where it is due.
@@ -83,6 +94,7 @@ impl AsciiBlocks {
         self.seen = self.seen.saturating_add(text.len());
         if self.is_due(text.len()) {
             self.sample = text.len();
+            self.looked = 0;
             self.classes = classes_for(table, pattern, letters, text);
         }
     }

@@ -13,14 +13,12 @@ use collation_letters::{Letter, Letters, laws_of_characters, laws_of_symbols};
 use collation_pattern::Pattern;
 use collation_table::Weights;
 
-/// The most bytes that are passed at once: where the text can't be left behind them, they are looked at in vain.
-const MOST: usize = 65_536;
-
-/// In how many bytes, the last of those that pass, a character is looked for behind which the text may be left.
+/// In how many bytes at most, the last of those that pass, a character is looked for behind which the text may be left.
 const WAY_BACK: usize = 4_096;
 
 /// Passes by text of ASCII at the front of a piece, where no key waits, by right classes: at most `reach` bytes, and to the end of a
-/// character with a key that the pattern does not have. `None` where it finds no such character behind which it may stop.
+/// character with a key that the pattern does not have. `None` where it finds no such character behind which it may stop. `looked` becomes
+/// how many bytes it looked over.
 pub(crate) fn pass_blocks<W: Weights>(
     table: &W,
     pattern: &Pattern,
@@ -28,6 +26,7 @@ pub(crate) fn pass_blocks<W: Weights>(
     classes: &Classes,
     piece: &[u8],
     reach: usize,
+    looked: &mut usize,
 ) -> Option<Passed>
     requires right { AreLetters (W.table table.now) pattern.now letters.old }
     requires classes { AreClassesRight (W.table table.now) pattern.now classes.now }
@@ -39,7 +38,8 @@ pub(crate) fn pass_blocks<W: Weights>(
     laws_of_symbols();
     units_stay_apart();
     weighers_go_on();
-    let len = passed_len(&classes.sets, piece, piece.len().min(reach).min(MOST));
+    let len = passed_len(&classes.sets, piece, piece.len().min(reach));
+    *looked = len;
     let (start, _) = last_clean(table, pattern, letters, piece, followed_len(piece, len))?;
     let next = piece[start + 1] as char;
     let letter = letters.letter(table, pattern, next);
@@ -65,7 +65,7 @@ fn followed_len(piece: &[u8], len: usize) -> usize
     len.saturating_sub(1)
 }
 
-/// The last of the first `len` bytes of a piece, and of the last of these, whose character is a cluster with a key that the pattern does
+/// The last of the first `len` bytes of a piece, as far as it is looked for, whose character is a cluster with a key that the pattern does
 /// not have; and its letter.
 #[inline(always)]
 fn last_clean<W: Weights>(
@@ -83,7 +83,58 @@ fn last_clean<W: Weights>(
         IsLetter (W.table table.now) pattern.now (slice_index piece.now r.0 ∷ []) r.1) }
     ensures clean { IfSome result (λ r. IsClean r.1) }
 {
+    if len > WAY_BACK {
+        return last_clean_of_many(table, pattern, letters, piece, len);
+    }
+    last_clean_from(table, pattern, letters, piece, 0, len)
+}
+
+/// The same where there are many: looked for in the last of them, and then in as many in front of their half, for what they end with may be
+/// text in vain.
+#[inline(never)]
+fn last_clean_of_many<W: Weights>(
+    table: &W,
+    pattern: &Pattern,
+    letters: &mut Letters,
+    piece: &[u8],
+    len: usize,
+) -> Option<(usize, Letter)>
+    requires right { AreLetters (W.table table.now) pattern.now letters.old }
+    requires len { len ≤ length piece.now }
+    ensures right { AreLetters (W.table table.now) pattern.now letters.new }
+    ensures within { IfSome result (λ r. r.0 < len) }
+    ensures letter { IfSome result (λ r.
+        IsLetter (W.table table.now) pattern.now (slice_index piece.now r.0 ∷ []) r.1) }
+    ensures clean { IfSome result (λ r. IsClean r.1) }
+{
     let first = len.saturating_sub(WAY_BACK);
+    let near = last_clean_from(table, pattern, letters, piece, first, len);
+    if near.is_some() {
+        return near;
+    }
+    let half = len / 2;
+    let first = half.saturating_sub(WAY_BACK);
+    last_clean_from(table, pattern, letters, piece, first, half)
+}
+
+/// The same, looked for from byte `first` on.
+#[inline(always)]
+fn last_clean_from<W: Weights>(
+    table: &W,
+    pattern: &Pattern,
+    letters: &mut Letters,
+    piece: &[u8],
+    first: usize,
+    len: usize,
+) -> Option<(usize, Letter)>
+    requires right { AreLetters (W.table table.now) pattern.now letters.old }
+    requires len { len ≤ length piece.now }
+    ensures right { AreLetters (W.table table.now) pattern.now letters.new }
+    ensures within { IfSome result (λ r. r.0 < len) }
+    ensures letter { IfSome result (λ r.
+        IsLetter (W.table table.now) pattern.now (slice_index piece.now r.0 ∷ []) r.1) }
+    ensures clean { IfSome result (λ r. IsClean r.1) }
+{
     let mut end = len;
     while end > first {
         end -= 1;

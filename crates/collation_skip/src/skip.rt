@@ -88,6 +88,11 @@ impl Skip {
         self.pace.has_long_rest()
     }
 
+    /// How many bytes of ASCII the last `pass` looked over in blocks, where it passed nothing by: all of them in vain.
+    pub fn looked_over(&self) -> usize {
+        self.blocks.looked
+    }
+
     /// Passes by text of characters of one and of two bytes in blocks, asked before blocks of ASCII (`first`) or after them. `None` where
     /// no sets are chosen, where it is not their turn, or where that is not worth while. Where such texts are short, there are no sets
     /// from then on, until some are chosen again.

@@ -44,6 +44,9 @@ const MIDDLE: usize = 200;
 
 const LONG: usize = 600;
 
+/// In how many of the bytes that pass, the last ones, a text may be left.
+const WAY_BACK: usize = 4_096;
+
 /// How far one from the other stops are in calm texts, where they have any.
 const RATES: [usize; 4] = [50, 100, 200, 0];
 
@@ -151,15 +154,24 @@ fn is_clean(letter: &Letter) -> bool {
     }
 }
 
-/// The last of the first `len` bytes of a piece, and of the last 4,096 of these, whose character is a cluster with a key that the pattern
-/// does not have.
-fn last_clean(ways: &mut Ways<'_>, piece: &[u8], len: usize) -> Option<usize> {
-    for at in (len.saturating_sub(4_096)..len).rev() {
+/// The last of the first `len` bytes of a piece whose character is a cluster with a key that the pattern does not have, looked for in the
+/// last `WAY_BACK` of them.
+fn last_clean_near(ways: &mut Ways<'_>, piece: &[u8], len: usize) -> Option<usize> {
+    for at in (len.saturating_sub(WAY_BACK)..len).rev() {
         if is_clean(&ways.letter(byte_at(piece, at) as char)) {
             return Some(at);
         }
     }
     None
+}
+
+/// The same, and where there are more bytes and none is found, in front of their half.
+fn last_clean(ways: &mut Ways<'_>, piece: &[u8], len: usize) -> Option<usize> {
+    let near = last_clean_near(ways, piece, len);
+    if near.is_some() || len <= WAY_BACK {
+        return near;
+    }
+    last_clean_near(ways, piece, len / 2)
 }
 
 /// Where a piece was left of which so many bytes passed.
@@ -296,7 +308,9 @@ fn compare_after(
     let mut ways = ways_of(rt, alloc, table, pattern);
     let long = repeated(rt, alloc, "m", 1_024);
     let _long = ways.pass_blocks(long.as_bytes(), 1_000);
-    compare_all(rt, &mut ways, classes)
+    let far = compare_all(rt, &mut ways, classes);
+    drop(ways);
+    far
 }
 
 /// Compares texts in the table of a file. Hundreds of them go many rounds.
@@ -304,13 +318,39 @@ fn compare_in(rt: &impl Abort, alloc: Global, file: &str, text: &str, classes: &
     let table = table_of(rt, alloc, file, None);
     let pattern = compile(rt, alloc, &table, (text, ONE, KEPT));
     let far = compare_after(rt, alloc, &table, &pattern, classes);
+    drop(table);
     holds(rt, far > 800, &far);
 }
 
 #[test]
 fn blocks_pass_as_much_as_before(rt: HostRuntime) {
-    compare_in(&rt, rt.alloc(), PLAIN, "ab", &TWO);
-    compare_in(&rt, rt.alloc(), TABLE, "ab", &TWO_BESIDE_STRING);
-    compare_in(&rt, rt.alloc(), PLAIN, "a", &ONE_ALONE);
-    compare_in(&rt, rt.alloc(), TABLE, "a", &ONE_BESIDE_STRING);
+    let alloc = rt.alloc();
+    compare_in(&rt, alloc, PLAIN, "ab", &TWO);
+    compare_in(&rt, alloc, TABLE, "ab", &TWO_BESIDE_STRING);
+    compare_in(&rt, alloc, PLAIN, "a", &ONE_ALONE);
+    compare_in(&rt, alloc, TABLE, "a", &ONE_BESIDE_STRING);
+}
+
+/// A text that ends in letters behind which it can't be left: more and more of them.
+fn compare_in_vain(rt: &impl Abort, ways: &mut Ways<'_>) {
+    let mut text = [b'a'; WAY_BACK + 8];
+    put_byte(&mut text, 0, b'm');
+    for len in WAY_BACK - 8..WAY_BACK + 8 {
+        let piece = text.get(..len).unwrap_or(b"");
+        let passed = compare(rt, ways, &TWO, piece, len);
+        same_at(rt, &passed, &len, &len);
+    }
+}
+
+#[test]
+fn blocks_are_left_near_their_end(rt: HostRuntime) {
+    let alloc = rt.alloc();
+    let table = table_of(&rt, alloc, PLAIN, None);
+    let pattern = compile(&rt, alloc, &table, ("ab", ONE, KEPT));
+    let mut ways = ways_of(&rt, alloc, &table, &pattern);
+    let long = repeated(&rt, alloc, "m", 1_024);
+    let _long = ways.pass_blocks(long.as_bytes(), 1_000);
+    compare_in_vain(&rt, &mut ways);
+    drop(ways);
+    drop(table);
 }

@@ -52,8 +52,12 @@ returns-clause-left g c = λ place taken handed h at reach before.
     let more : ds ≡ chars (take m (drop n piece)) = ap (λ (bs : List ℕ). chars (take m bs)) (take_rest piece n) in
     let len = chars-len piece n c.take_to_reach-len.ensures.within c.take_to_reach-len.ensures.text in
     let offset : c.args.front.offset + n ≡ byte_len (taken ++ cs) = omega (arith, at, len, c.laws_of_points.ensures.bytes_of_parts taken cs) in
-    let there = c.take_to_reach-len.ensures.left place taken handed h at reach before in
+    let there = c.take_to_reach-len.ensures.left place taken handed h at (omega (arith, reach, c.min.ensures)) before in
     let codes : (taken ++ cs) ++ ds ≡ taken ++ chars (take (n + m) piece) =
     append_assoc taken cs ds ∙ ap (λ (t : List ℕ). taken ++ t) (ap (λ (t : List ℕ). cs ++ t) more ∙ sym (chars-more piece n m c.take_to_reach-len.ensures.text)) in
     subst (λ t. IsCutUpTo table place t now.window.points) codes
     (c.take_ascii-more.ensures.left place (taken ++ cs) (handed ++ run.0) (run.2 taken handed h at) offset there)
+
+pub returns-then-len-front-clause-left : goal.returns-then-len-front-clause-left
+returns-then-len-front-clause-left g c = λ place taken handed h at reach before.
+    c.take_to_reach-len.ensures.left place taken handed h at (omega (arith, reach, c.min.ensures)) before

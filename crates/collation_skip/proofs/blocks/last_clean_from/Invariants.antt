@@ -1,6 +1,6 @@
 use Rattle.std.specs.Prelude.{◌≤◌}
 use Rattle.collation_letters.specs.Store.{AreLetters}
-use Rattle.collation_skip.proofs.blocks.last_clean.Given as goal
+use Rattle.collation_skip.proofs.blocks.last_clean_from.Given as goal
 
 abbrev pub invariant-loop-end : goal.invariant-loop-end
 invariant-loop-end g l = record {
