@@ -1,6 +1,7 @@
 //! What the tests of several crates need: a table, the settings of a pattern, and the calls that make both, each in a function of its
 //! own that promises nothing, so that a proof meets a long contract once, and not at each use. Where a test goes on only if a call
 //! succeeds, the function stops the test itself: with each `?` a proof goes through everything that the caller has to drop there.
+//! For the same reason a test lets go of a table, of letters and of ways by `drop`, which is one call.
 
 use collation_elements::{Strength, Variable};
 use collation_pattern::Pattern;

@@ -99,15 +99,20 @@ fn ends_of(cut: &Cut) -> (u64, u64, Option<u64>) {
     (cut.count(), cut.held_start(), cut.finish())
 }
 
+/// The ends are these.
+fn ends_are(rt: &impl Abort, cut: &Cut, want: (u64, u64, Option<u64>)) {
+    same(rt, &ends_of(cut), &want);
+}
+
 /// Bytes, the answers to them, where what is held begins then, and the fault where the bytes end.
 type Row<'a> = (&'a [u8], &'a str, u64, Option<u64>);
 
 /// Compares them.
-fn cut_is(rt: &impl Abort, alloc: Global, row: Row<'_>) {
-    let (bytes, want, start, fault) = row;
+fn cut_is(rt: &impl Abort, alloc: Global, row: &Row<'_>) {
+    let (bytes, want, start, fault) = *row;
     let (text, cut) = cut_of(rt, alloc, bytes);
     text_is(rt, &text, want);
-    same(rt, &ends_of(&cut), &(bytes.len() as u64, start, fault));
+    ends_are(rt, &cut, (bytes.len() as u64, start, fault));
 }
 
 /// The last row has the least and the greatest characters of each length.
@@ -128,19 +133,41 @@ const ROWS: [Row; 7] = [
 
 #[test]
 fn bytes_are_cut(rt: HostRuntime) {
-    for row in ROWS {
+    for row in &ROWS {
         cut_is(&rt, rt.alloc(), row);
     }
 }
 
-/// Overlong forms, surrogates, and sequences above U+10FFFF.
+/// Overlong forms, surrogates, and sequences above U+10FFFF: of two bytes, and of one.
+const ILL_FORMED: [(&[u8], &str); 17] = [
+    (b"\xe0\x80", ".!0 "),
+    (b"\xe0\x9f", ".!0 "),
+    (b"\xf0\x80", ".!0 "),
+    (b"\xf0\x8f", ".!0 "),
+    (b"\xed\xa0", ".!0 "),
+    (b"\xed\xbf", ".!0 "),
+    (b"\xf4\x90", ".!0 "),
+    (b"\xf4\xbf", ".!0 "),
+    (b"\xc0", "!0 "),
+    (b"\xc1", "!0 "),
+    (b"\xf5", "!0 "),
+    (b"\xf8", "!0 "),
+    (b"\xfc", "!0 "),
+    (b"\xfe", "!0 "),
+    (b"\xff", "!0 "),
+    (b"\x80", "!0 "),
+    (b"\xbf", "!0 "),
+];
+
+/// Compares what a `Cut` answers to bytes with a fault at the first.
+fn fault_is(rt: &impl Abort, alloc: Global, start: &[u8], want: &str) {
+    cut_is(rt, alloc, &(start, want, 0, Some(0)));
+}
+
 #[test]
 fn ill_formed_starts(rt: HostRuntime) {
-    for starts in b"\xe0\x80\xe0\x9f\xf0\x80\xf0\x8f\xed\xa0\xed\xbf\xf4\x90\xf4\xbf".chunks(2) {
-        cut_is(&rt, rt.alloc(), (starts, ".!0 ", 0, Some(0)));
-    }
-    for start in b"\xc0\xc1\xf5\xf8\xfc\xfe\xff\x80\xbf".chunks(1) {
-        cut_is(&rt, rt.alloc(), (start, "!0 ", 0, Some(0)));
+    for (start, want) in &ILL_FORMED {
+        fault_is(&rt, rt.alloc(), *start, *want);
     }
 }
 
@@ -156,13 +183,23 @@ fn by_std(bytes: &[u8]) -> Cutting {
     }
 }
 
+/// A push of a byte answers this.
+fn push_is(rt: &impl Abort, cut: &mut Cut, byte: u8, want: Cutting) {
+    same(rt, &push(cut, byte), &want);
+}
+
+/// Compares what two bytes make.
+fn two_bytes_are(rt: &impl Abort, first: u8, second: u8) {
+    let mut cut = Cut::new();
+    let _ = push(&mut cut, first);
+    push_is(rt, &mut cut, second, by_std(&[first, second]));
+}
+
 #[test]
 fn two_bytes_are_as_std_reads_them(rt: HostRuntime) {
     for first in 0x80..=0xFFu8 {
         for second in 0x00..=0xFFu8 {
-            let mut cut = Cut::new();
-            let _ = push(&mut cut, first);
-            same(&rt, &push(&mut cut, second), &by_std(&[first, second]));
+            two_bytes_are(&rt, first, second);
         }
     }
 }
@@ -176,10 +213,15 @@ const FRONTS: [(&[u8], &str, Option<u64>); 6] = [
     (b"\xffa", "", Some(0)),
 ];
 
+/// The text at the front of bytes and the fault are these.
+fn front_is(rt: &impl Abort, bytes: &[u8], want: &str, fault: Option<u64>) {
+    same(rt, &front(bytes), &(want, fault));
+}
+
 #[test]
 fn front_gives_text_and_fault(rt: HostRuntime) {
-    for (bytes, want, want_fault) in &FRONTS {
-        same(&rt, &front(*bytes), &(*want, *want_fault));
+    for (bytes, want, fault) in &FRONTS {
+        front_is(&rt, *bytes, *want, *fault);
     }
 }
 
@@ -217,17 +259,26 @@ fn draw(rt: &impl Abort, alloc: Global, seed: &mut u64) -> Vec<u8> {
     bytes
 }
 
+/// What pushes answer before a character of so many bytes is whole.
+fn dots(len: usize) -> &'static str {
+    match len {
+        1 => "",
+        2 => ".",
+        3 => "..",
+        _ => "...",
+    }
+}
+
+/// Writes what pushes of a whole character answer.
+fn put_one(rt: &impl Abort, out: &mut String, c: char, at: u64) {
+    put(rt, out, dots(c.len_utf8()));
+    put_character(rt, out, c as u32, at);
+}
+
 /// Writes what pushes of whole characters answer.
 fn put_whole(rt: &impl Abort, out: &mut String, text: &str) {
     for (at, c) in text.char_indices() {
-        let more = match c.len_utf8() {
-            1 => "",
-            2 => ".",
-            3 => "..",
-            _ => "...",
-        };
-        put(rt, out, more);
-        put_cutting(rt, out, Cutting::Char(c, at as u64));
+        put_one(rt, out, c, at as u64);
     }
 }
 
@@ -244,10 +295,11 @@ fn front_agrees(rt: &impl Abort, alloc: Global, bytes: &[u8]) {
 
 #[test]
 fn front_agrees_with_single_pushes(rt: HostRuntime) {
+    let alloc = rt.alloc();
     let mut seed = 1u64;
     for _ in 0..2000 {
-        let bytes = draw(&rt, rt.alloc(), &mut seed);
-        front_agrees(&rt, rt.alloc(), &bytes);
+        let bytes = draw(&rt, alloc, &mut seed);
+        front_agrees(&rt, alloc, &bytes);
     }
 }
 
@@ -256,8 +308,8 @@ fn characters_are_taken_at_once(rt: HostRuntime) {
     let mut cut = Cut::new();
     let _ = push(&mut cut, b'a');
     same(&rt, &take_characters(&mut cut, 5), &true);
-    same(&rt, &ends_of(&cut), &(6, 6, None));
-    same(&rt, &push(&mut cut, b'b'), &Cutting::Char('b', 6));
+    ends_are(&rt, &cut, (6, 6, None));
+    push_is(&rt, &mut cut, b'b', Cutting::Char('b', 6));
 }
 
 const FIRSTS: [(&[u8], Option<char>); 10] = [
@@ -273,21 +325,31 @@ const FIRSTS: [(&[u8], Option<char>); 10] = [
     (b"\xf0\x9f\x98", None),
 ];
 
+/// The first character of bytes is this.
+fn first_is(rt: &impl Abort, bytes: &[u8], want: Option<char>) {
+    same(rt, &first_character(bytes), &want);
+}
+
 #[test]
 fn first_characters(rt: HostRuntime) {
     for (bytes, want) in &FIRSTS {
-        same(&rt, &first_character(*bytes), want);
+        first_is(&rt, *bytes, *want);
     }
+}
+
+/// A `Cut` holds these bytes.
+fn held_is(rt: &impl Abort, cut: &Cut, want: &[u8]) {
+    same(rt, &cut.held(), &want);
 }
 
 #[test]
 fn what_was_held_is_restored(rt: HostRuntime) {
     let (_text, cut) = cut_of(&rt, rt.alloc(), b"a\xe2\x82");
-    same(&rt, &cut.held(), &b"\xe2\x82".as_slice());
+    held_is(&rt, &cut, b"\xe2\x82");
     let mut again = Cut::restore(cut.count(), cut.held());
-    same(&rt, &ends_of(&again), &(3, 1, Some(1)));
-    same(&rt, &push(&mut again, 0xAC), &Cutting::Char('\u{20AC}', 1));
-    same(&rt, &again.held().is_empty(), &true);
+    ends_are(&rt, &again, (3, 1, Some(1)));
+    push_is(&rt, &mut again, 0xAC, Cutting::Char('\u{20AC}', 1));
+    held_is(&rt, &again, b"");
 }
 
 const HELD: [&[u8]; 4] = [b"", b"\xc3", b"\xe2\x82", b"\xf0\x9f\x98"];
@@ -300,12 +362,17 @@ const NOT_HELD: [&[u8]; 5] = [
     b"\xf0\x9f\x98\x80",
 ];
 
+/// Compares whether bytes may be held.
+fn may_hold_is(rt: &impl Abort, bytes: &[u8], want: bool) {
+    same_at(rt, &Cut::may_hold(bytes), &want, &bytes);
+}
+
 #[test]
 fn what_may_be_held(rt: HostRuntime) {
     for bytes in &HELD {
-        holds(&rt, Cut::may_hold(*bytes), bytes);
+        may_hold_is(&rt, *bytes, true);
     }
     for bytes in &NOT_HELD {
-        holds(&rt, !Cut::may_hold(*bytes), bytes);
+        may_hold_is(&rt, *bytes, false);
     }
 }

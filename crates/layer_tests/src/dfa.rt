@@ -97,9 +97,9 @@ const SHORT: [(&str, usize, usize); 7] = [
 /// Short pieces, which single moves go over: to the end, or to what is no letter.
 #[test]
 fn short_pieces_are_gone_over(rt: HostRuntime) {
-    for (piece, at, accepted_at) in SHORT {
-        let accepted_at = [accepted_at, accepted_at];
-        runs_are(&rt, rt.alloc(), piece.as_bytes(), at, accepted_at);
+    for (piece, at, accepted_at) in &SHORT {
+        let accepted_at = [*accepted_at, *accepted_at];
+        runs_are(&rt, rt.alloc(), piece.as_bytes(), *at, accepted_at);
     }
 }
 
@@ -117,8 +117,8 @@ fn put_byte(piece: &mut [u8], place: usize, letter: u8) {
 }
 
 /// Compares runs over a piece of 3,000 bytes, with `ab` at a place and a space at another one.
-fn long_runs_are(rt: &impl Abort, alloc: Global, row: (usize, usize, usize, [usize; 2])) {
-    let (letters, space, at, accepted_at) = row;
+fn long_runs_are(rt: &impl Abort, alloc: Global, row: &(usize, usize, usize, [usize; 2])) {
+    let (letters, space, at, accepted_at) = *row;
     let mut piece = [b'm'; 3_000];
     put_both(&mut piece, letters);
     put_byte(&mut piece, space, b' ');
@@ -141,7 +141,7 @@ const LONG: [(usize, usize, usize, [usize; 2]); 8] = [
 /// Four runs note no place but where one goes on alone, before a stop and in the last bytes.
 #[test]
 fn long_pieces_are_gone_over(rt: HostRuntime) {
-    for row in LONG {
+    for row in &LONG {
         long_runs_are(&rt, rt.alloc(), row);
     }
 }
@@ -193,9 +193,9 @@ const SPACES: [usize; 9] = [
 /// of the first two legs, where windows end and within them, and in legs that are gone over by windows or by single moves.
 #[test]
 fn legs_are_gone_over(rt: HostRuntime) {
-    for letters in LETTERS {
-        for space in SPACES {
-            leg_is(&rt, rt.alloc(), letters, space);
+    for letters in &LETTERS {
+        for space in &SPACES {
+            leg_is(&rt, rt.alloc(), *letters, *space);
         }
     }
 }
@@ -217,9 +217,10 @@ const ENDS: [usize; 9] = [
 /// Pieces that end with a leg, or next to its end, with `ab` as their last bytes, and without the last of them.
 #[test]
 fn pieces_end_with_a_leg(rt: HostRuntime) {
-    for len in ENDS {
-        end_is(&rt, rt.alloc(), len, len);
-        end_is(&rt, rt.alloc(), len.saturating_sub(1), len);
+    let alloc = rt.alloc();
+    for len in &ENDS {
+        end_is(&rt, alloc, *len, *len);
+        end_is(&rt, alloc, len.saturating_sub(1), *len);
     }
 }
 
@@ -249,7 +250,7 @@ fn far_apart_is(rt: &impl Abort, alloc: Global, step: usize) {
 /// Rows that accept far from one another, in runs that begin behind one, with guesses and without.
 #[test]
 fn rows_accept_far_apart(rt: HostRuntime) {
-    for step in [50, 200, 1_000, 3_000, 9_000, 17_000, 40_000] {
-        far_apart_is(&rt, rt.alloc(), step);
+    for step in &[50, 200, 1_000, 3_000, 9_000, 17_000, 40_000] {
+        far_apart_is(&rt, rt.alloc(), *step);
     }
 }

@@ -132,6 +132,14 @@ fn put_row(rt: &impl Abort, units: &mut String, unit: &Unit<'_>) {
     put(rt, units, " ");
 }
 
+/// Writes a unit: its first code point, the points that were held and are not left, and its row.
+fn put_unit(rt: &impl Abort, units: &mut String, unit: &Unit<'_>, held: &[Point], left: &[Point]) {
+    put_point(rt, units, &unit.first_point());
+    put(rt, units, ": ");
+    put_points(rt, units, held, left);
+    put_row(rt, units, unit);
+}
+
 /// The units that are decided, a dozen at most: each by its first code point, those that it takes out of the window, and its row.
 fn units_of(rt: &impl Abort, alloc: Global, table: &Table, mut window: Window) -> String {
     let mut units = String::new(alloc);
@@ -140,10 +148,7 @@ fn units_of(rt: &impl Abort, alloc: Global, table: &Table, mut window: Window) -
         let Some(unit) = next_unit(&mut window, table) else {
             break;
         };
-        put_point(rt, &mut units, &unit.first_point());
-        put(rt, &mut units, ": ");
-        put_points(rt, &mut units, &held, &points_in(rt, alloc, &window));
-        put_row(rt, &mut units, &unit);
+        put_unit(rt, &mut units, &unit, &held, &points_in(rt, alloc, &window));
     }
     units
 }
@@ -189,18 +194,35 @@ const UNITS: [Units; 9] = [
 ];
 
 /// Compares the units of a row.
-fn units_are(rt: &impl Abort, alloc: Global, row: Units<'_>) {
-    let (file, text, has_ended, want) = row;
+fn units_are(rt: &impl Abort, alloc: Global, row: &Units<'_>) {
+    let (file, text, has_ended, want) = *row;
     let table = table_of(rt, alloc, file, None);
     let window = window_of(rt, alloc, &table, text, has_ended);
-    text_is(rt, &units_of(rt, alloc, &table, window), want);
+    let units = units_of(rt, alloc, &table, window);
+    drop(table);
+    text_is(rt, &units, want);
 }
 
 #[test]
 fn cuts_decided_units(rt: HostRuntime) {
-    for row in UNITS {
+    for row in &UNITS {
         units_are(&rt, rt.alloc(), row);
     }
+}
+
+/// The items of a unit.
+type UnitItems = ArrayVec<Item, MOST_ITEMS>;
+
+/// Puts the items of a unit behind the others.
+fn put_items(
+    rt: &impl Abort,
+    all: &mut Vec<Item>,
+    weigher: &mut Weigher,
+    unit: &Unit<'_>,
+    items: &mut UnitItems,
+) {
+    weigher.take(unit, items);
+    all.extend_from_slice(items.as_slice()).expect(rt, "memory");
 }
 
 /// The items of the units in a window, a dozen of these at most.
@@ -212,13 +234,12 @@ fn items_of(
     mut weigher: Weigher,
 ) -> Vec<Item> {
     let mut all = Vec::new(alloc);
-    let mut items = ArrayVec::<Item, MOST_ITEMS>::new();
+    let mut items = UnitItems::new();
     for _ in 0..12 {
         let Some(unit) = next_unit(&mut window, table) else {
             break;
         };
-        weigher.take(&unit, &mut items);
-        all.extend_from_slice(items.as_slice()).expect(rt, "memory");
+        put_items(rt, &mut all, &mut weigher, &unit, &mut items);
     }
     all
 }
@@ -285,8 +306,8 @@ fn items_are(rt: &impl Abort, got: &[Item], want: &[Item]) {
 }
 
 /// Compares the items of a row, by a window and a weigher, and by the call for a whole text.
-fn row_is(rt: &impl Abort, alloc: Global, table: &Table, row: Items<'_>) {
-    let (text, strength, variable, want) = row;
+fn row_is(rt: &impl Abort, alloc: Global, table: &Table, row: &Items<'_>) {
+    let (text, strength, variable, want) = *row;
     let window = window_of(rt, alloc, table, text, true);
     let weigher = Weigher::new(strength, variable);
     items_are(rt, &items_of(rt, alloc, table, window, weigher), want);
@@ -296,10 +317,12 @@ fn row_is(rt: &impl Abort, alloc: Global, table: &Table, row: Items<'_>) {
 
 #[test]
 fn gives_keys_up_to_the_strength(rt: HostRuntime) {
-    let table = table_of(&rt, rt.alloc(), TABLE, None);
-    for row in ITEMS {
-        row_is(&rt, rt.alloc(), &table, row);
+    let alloc = rt.alloc();
+    let table = table_of(&rt, alloc, TABLE, None);
+    for row in &ITEMS {
+        row_is(&rt, alloc, &table, row);
     }
+    drop(table);
 }
 
 /// The points of a window are these.
@@ -317,12 +340,14 @@ fn two_points(rt: &impl Abort, alloc: Global, table: &Table) {
 
 #[test]
 fn answers_each_call(rt: HostRuntime) {
-    let table = table_of(&rt, rt.alloc(), TABLE, None);
-    two_points(&rt, rt.alloc(), &table);
+    let alloc = rt.alloc();
+    let table = table_of(&rt, alloc, TABLE, None);
+    two_points(&rt, alloc, &table);
     let weigher = Weigher::restore(TWO, SHIFTED, true);
     same(&rt, &weigher.after_variable(), &true);
-    let marks = repeated(&rt, rt.alloc(), "\u{301}", 31);
-    let fault = try_items(rt.alloc(), &table, &marks, TWO, SHIFTED).err();
+    let marks = repeated(&rt, alloc, "\u{301}", 31);
+    let fault = try_items(alloc, &table, &marks, TWO, SHIFTED).err();
+    drop(table);
     same(&rt, &fault, &Some(ItemsFault::Points));
     same(&rt, &worked::unused_item(), &Item::ClusterStart(0));
 }
@@ -341,8 +366,10 @@ fn try_marked(alloc: Global, table: &Table) -> Result<[Option<CharacterItems>; 2
 
 #[test]
 fn keeps_the_items_of_a_character(rt: HostRuntime) {
-    let table = table_of(&rt, rt.alloc(), TABLE, None);
-    let [two, none] = try_marked(rt.alloc(), &table).expect(&rt, "memory");
+    let alloc = rt.alloc();
+    let table = table_of(&rt, alloc, TABLE, None);
+    let [two, none] = try_marked(alloc, &table).expect(&rt, "memory");
+    drop(table);
     let expected = CharacterItems {
         begins_cluster: true,
         first: Some(Key::Primary(0x1C40, 0x20, 0)),

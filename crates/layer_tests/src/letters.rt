@@ -62,6 +62,7 @@ fn try_letters(
     let mut letters = Letters::new(alloc, table)?;
     let letter = letters.letter(table, pattern, c);
     let together = letters.pair(table, pattern, pair.0, pair.1);
+    drop(letters);
     Ok((letter, together))
 }
 
@@ -75,7 +76,9 @@ fn letters(
 ) -> (Letter, Letter) {
     let table = table_with_more(rt, alloc);
     let pattern = compile(rt, alloc, &table, settings);
-    try_letters(alloc, &table, &pattern, c, pair).expect(rt, "the letters")
+    let both = try_letters(alloc, &table, &pattern, c, pair).expect(rt, "the letters");
+    drop(table);
+    both
 }
 
 /// The letter of a character to a pattern.
@@ -112,9 +115,10 @@ const OF_CHARACTERS: [(char, &str); 14] = [
 
 #[test]
 fn letters_of_characters(rt: HostRuntime) {
+    let alloc = rt.alloc();
     for (c, want) in &OF_CHARACTERS {
-        let letter = letter(&rt, rt.alloc(), ("a", TWO, KEPT), *c);
-        text_is(&rt, &said(&rt, rt.alloc(), letter), *want);
+        let letter = letter(&rt, alloc, ("a", TWO, KEPT), *c);
+        text_is(&rt, &said(&rt, alloc, letter), *want);
     }
 }
 
@@ -133,9 +137,10 @@ const SHIFTED_LETTERS: [(char, Strength, &str); 9] = [
 
 #[test]
 fn letters_in_shifted_weighting(rt: HostRuntime) {
+    let alloc = rt.alloc();
     for (c, strength, want) in &SHIFTED_LETTERS {
-        let letter = letter(&rt, rt.alloc(), ("a\u{301}", *strength, SHIFTED), *c);
-        letter_is(&rt, rt.alloc(), letter, *want);
+        let letter = letter(&rt, alloc, ("a\u{301}", *strength, SHIFTED), *c);
+        letter_is(&rt, alloc, letter, *want);
     }
 }
 
@@ -165,8 +170,8 @@ fn symbol_to(rt: &impl Abort, alloc: Global, table: &Table, text: &str, key: &Ke
 }
 
 /// Compares the symbol of a row.
-fn symbol_is(rt: &impl Abort, alloc: Global, table: &Table, row: Symbol<'_>) {
-    let (count, rest, key, want) = row;
+fn symbol_is(rt: &impl Abort, alloc: Global, table: &Table, row: &Symbol<'_>) {
+    let (count, rest, key, want) = *row;
     let mut text = repeated(rt, alloc, "a", count);
     put(rt, &mut text, rest);
     let symbol = symbol_to(rt, alloc, table, &text, &key);
@@ -175,17 +180,20 @@ fn symbol_is(rt: &impl Abort, alloc: Global, table: &Table, row: Symbol<'_>) {
 
 #[test]
 fn symbols_of_keys(rt: HostRuntime) {
-    let table = table_with_more(&rt, rt.alloc());
-    for row in SYMBOLS {
-        symbol_is(&rt, rt.alloc(), &table, row);
+    let alloc = rt.alloc();
+    let table = table_with_more(&rt, alloc);
+    for row in &SYMBOLS {
+        symbol_is(&rt, alloc, &table, row);
     }
+    drop(table);
 }
 
 #[test]
 fn letters_of_many_keys(rt: HostRuntime) {
-    let more = repeated(&rt, rt.alloc(), "a", 1_025);
-    letter_to_is(&rt, rt.alloc(), more.as_str(), 'a', "Steps");
-    letter_to_is(&rt, rt.alloc(), "ab", 'x', "Base 0 1 2;");
+    let alloc = rt.alloc();
+    let more = repeated(&rt, alloc, "a", 1_025);
+    letter_to_is(&rt, alloc, more.as_str(), 'a', "Steps");
+    letter_to_is(&rt, alloc, "ab", 'x', "Base 0 1 2;");
 }
 
 /// A key that has the place of `A` in the set of a pattern's keys.
@@ -216,6 +224,7 @@ fn try_long(alloc: Global, table: &Table, pattern: &Pattern) -> Result<[Letter; 
     let first = letters.letter(table, pattern, 'a');
     let foreign = letters.letter(table, pattern, 'b');
     let together = letters.pair(table, pattern, 'c', 'h');
+    drop(letters);
     Ok([first, foreign, together])
 }
 
@@ -238,8 +247,8 @@ fn long_symbols(
 }
 
 /// Compares the symbols of a row.
-fn long_is(rt: &impl Abort, alloc: Global, table: &Table, row: Long) {
-    let (count, more, key, may_have, want) = row;
+fn long_is(rt: &impl Abort, alloc: Global, table: &Table, row: &Long) {
+    let (count, more, key, may_have, want) = *row;
     let mut text = repeated(rt, alloc, "a", count);
     put(rt, &mut text, &repeated(rt, alloc, "b", more));
     let symbols = long_symbols(rt, alloc, table, &text, &key);
@@ -248,10 +257,12 @@ fn long_is(rt: &impl Abort, alloc: Global, table: &Table, row: Long) {
 
 #[test]
 fn symbols_of_long_patterns(rt: HostRuntime) {
-    let table = table_with_more(&rt, rt.alloc());
-    for row in LONG {
-        long_is(&rt, rt.alloc(), &table, row);
+    let alloc = rt.alloc();
+    let table = table_with_more(&rt, alloc);
+    for row in &LONG {
+        long_is(&rt, alloc, &table, row);
     }
+    drop(table);
 }
 
 /// The letters of three characters to a pattern of any length are these.
@@ -259,6 +270,7 @@ fn long_are(rt: &impl Abort, alloc: Global, text: &str, want: [&str; 3]) {
     let table = table_with_more(rt, alloc);
     let pattern = compile(rt, alloc, &table, (text, ONE, KEPT));
     let three = try_long(alloc, &table, &pattern).expect(rt, "the letters");
+    drop(table);
     let ([first, foreign, together], [one, two, three]) = (three, want);
     letter_is(rt, alloc, first, one);
     letter_is(rt, alloc, foreign, two);
@@ -267,13 +279,14 @@ fn long_are(rt: &impl Abort, alloc: Global, text: &str, want: [&str; 3]) {
 
 #[test]
 fn letters_of_long_patterns(rt: HostRuntime) {
-    let text = repeated(&rt, rt.alloc(), "a", 1_025);
+    let alloc = rt.alloc();
+    let text = repeated(&rt, alloc, "a", 1_025);
     let want = [
         "Plain 255 255 1; 1/0; closed apart",
         "Plain 255 255 0; 1/0; closed apart",
         "Plain 255 255 0; 2/0; closed apart",
     ];
-    long_are(&rt, rt.alloc(), &text, want);
+    long_are(&rt, alloc, &text, want);
 }
 
 /// The beginning of a pattern and so many letters `b`, before a `z`; a key; from which place on the pattern may have it; and its symbol
@@ -330,10 +343,12 @@ fn shared_are(rt: &impl Abort, alloc: Global, table: &Table, row: &Shared<'_>) {
 
 #[test]
 fn symbols_of_keys_that_share_a_place(rt: HostRuntime) {
-    let table = table_with_more(&rt, rt.alloc());
-    for row in SHARED {
-        shared_are(&rt, rt.alloc(), &table, &row);
+    let alloc = rt.alloc();
+    let table = table_with_more(&rt, alloc);
+    for row in &SHARED {
+        shared_are(&rt, alloc, &table, row);
     }
+    drop(table);
 }
 
 /// A character with marks behind it, and its letter to a pattern with the keys of `e` and of U+0301; none where one of them does not
@@ -373,12 +388,13 @@ fn joined(rt: &impl Abort, alloc: Global, text: &str) -> Option<Letter> {
 
 #[test]
 fn marks_join(rt: HostRuntime) {
+    let alloc = rt.alloc();
     for (text, want) in &MARKED {
-        match joined(&rt, rt.alloc(), *text) {
+        match joined(&rt, alloc, *text) {
             None => text_is(&rt, "", *want),
             Some(letter) => {
                 holds(&rt, !want.is_empty(), text);
-                letter_is(&rt, rt.alloc(), letter, *want);
+                letter_is(&rt, alloc, letter, *want);
             }
         }
     }
@@ -387,8 +403,9 @@ fn marks_join(rt: HostRuntime) {
 /// A letter has no more than 30 points.
 #[test]
 fn run_of_marks_is_cut(rt: HostRuntime) {
-    let base = letter(&rt, rt.alloc(), ("e", ONE, KEPT), 'e');
-    let mark = letter(&rt, rt.alloc(), ("e", ONE, KEPT), '\u{301}');
+    let alloc = rt.alloc();
+    let base = letter(&rt, alloc, ("e", ONE, KEPT), 'e');
+    let mark = letter(&rt, alloc, ("e", ONE, KEPT), '\u{301}');
     let mut run = base;
     for points in 2..=30u8 {
         run = run.with_mark(mark).expect(&rt, "a letter");
@@ -404,6 +421,7 @@ fn try_four(alloc: Global, table: &Table, pattern: &Pattern) -> Result<[Letter; 
     let again = letters.letter(table, pattern, 'a');
     let other = letters.letter(table, pattern, '\u{2061}');
     let back = letters.letter(table, pattern, 'a');
+    drop(letters);
     Ok([first, again, back, other])
 }
 
@@ -418,6 +436,7 @@ fn try_four_pairs(
     let again = letters.pair(table, pattern, 'c', 'h');
     let other = letters.pair(table, pattern, '\u{823}', 'h');
     let back = letters.pair(table, pattern, 'c', 'h');
+    drop(letters);
     Ok([first, again, back, other])
 }
 
@@ -432,18 +451,14 @@ fn four_are(rt: &impl Abort, alloc: Global, four: [Letter; 4], want: &str, other
 
 #[test]
 fn same_letter_is_answered_again(rt: HostRuntime) {
-    let table = table_with_more(&rt, rt.alloc());
-    let pattern = compile(&rt, rt.alloc(), &table, ("ach", TWO, KEPT));
-    let four = try_four(rt.alloc(), &table, &pattern).expect(&rt, "the letters");
-    four_are(
-        &rt,
-        rt.alloc(),
-        four,
-        "Plain 255 255 1;",
-        "Plain 255 255 0;",
-    );
-    let pairs = try_four_pairs(rt.alloc(), &table, &pattern).expect(&rt, "the letters");
-    four_are(&rt, rt.alloc(), pairs, "Plain 255 255 2;", "Steps");
+    let alloc = rt.alloc();
+    let table = table_with_more(&rt, alloc);
+    let pattern = compile(&rt, alloc, &table, ("ach", TWO, KEPT));
+    let four = try_four(alloc, &table, &pattern).expect(&rt, "the letters");
+    four_are(&rt, alloc, four, "Plain 255 255 1;", "Plain 255 255 0;");
+    let pairs = try_four_pairs(alloc, &table, &pattern).expect(&rt, "the letters");
+    drop(table);
+    four_are(&rt, alloc, pairs, "Plain 255 255 2;", "Steps");
 }
 
 /// `c` with `h` is mapped, and so is `u` with an accent, which is no starter.
@@ -458,10 +473,11 @@ const PAIRS: [(char, char, &str); 6] = [
 
 #[test]
 fn letters_of_pairs(rt: HostRuntime) {
+    let alloc = rt.alloc();
     for (first, second, want) in &PAIRS {
         let pair = (*first, *second);
-        let (_letter, together) = letters(&rt, rt.alloc(), ("bch", TWO, KEPT), 'a', pair);
-        text_is(&rt, &said(&rt, rt.alloc(), together), *want);
+        let (_letter, together) = letters(&rt, alloc, ("bch", TWO, KEPT), 'a', pair);
+        text_is(&rt, &said(&rt, alloc, together), *want);
     }
 }
 
@@ -469,13 +485,15 @@ fn letters_of_pairs(rt: HostRuntime) {
 /// with ample memory. A refusal that meets the test itself stops it.
 #[test]
 fn refused_letters_are_asked_for_again(rt: HostRuntime) {
-    let table = table_with_more(&rt, rt.alloc());
-    let pattern = compile(&rt, rt.alloc(), &table, ("a", TWO, KEPT));
-    let _is_refused = try_letters(rt.alloc(), &table, &pattern, 'a', ('c', 'h')).is_err();
-    let again = try_letters(rt.alloc(), &table, &pattern, 'a', ('c', 'h'));
+    let alloc = rt.alloc();
+    let table = table_with_more(&rt, alloc);
+    let pattern = compile(&rt, alloc, &table, ("a", TWO, KEPT));
+    let _is_refused = try_letters(alloc, &table, &pattern, 'a', ('c', 'h')).is_err();
+    let again = try_letters(alloc, &table, &pattern, 'a', ('c', 'h'));
     let (letter, pair) = again.expect(&rt, "the letters");
-    letter_is(&rt, rt.alloc(), letter, "Plain 255 255 1;");
-    letter_is(&rt, rt.alloc(), pair, "Plain 255 255 0;");
+    drop(table);
+    letter_is(&rt, alloc, letter, "Plain 255 255 1;");
+    letter_is(&rt, alloc, pair, "Plain 255 255 0;");
 }
 
 /// Whether the letters of two characters are kept together, behind the letters of so many others.
@@ -495,7 +513,9 @@ fn try_kept(
     }
     let _ = letters.letter(table, pattern, first);
     let _ = letters.letter(table, pattern, second);
-    Ok(letters.known(first).is_some() && letters.known(second).is_some())
+    let are_known = letters.known(first).is_some() && letters.known(second).is_some();
+    drop(letters);
+    Ok(are_known)
 }
 
 /// The same.
@@ -523,20 +543,24 @@ const TOGETHER: [(u32, char, char, bool); 6] = [
 
 #[test]
 fn more_letters_are_kept_where_more_are_found(rt: HostRuntime) {
-    let table = table_with_more(&rt, rt.alloc());
-    let pattern = compile(&rt, rt.alloc(), &table, ("a", TWO, KEPT));
+    let alloc = rt.alloc();
+    let table = table_with_more(&rt, alloc);
+    let pattern = compile(&rt, alloc, &table, ("a", TWO, KEPT));
     for (others, first, second, want) in &TOGETHER {
         let both = (*first, *second);
-        let kept = are_kept(&rt, rt.alloc(), &table, &pattern, *others, both);
+        let kept = are_kept(&rt, alloc, &table, &pattern, *others, both);
         same_at(&rt, &kept, want, &(*first, *second, *others));
     }
+    drop(table);
 }
 
 /// To be run with 130 requests in a row refused too, which is how often the first 4,096 letters ask for places.
 #[test]
 fn refused_places_are_asked_for_again(rt: HostRuntime) {
-    let table = table_with_more(&rt, rt.alloc());
-    let pattern = compile(&rt, rt.alloc(), &table, ("a", TWO, KEPT));
-    let kept = are_kept(&rt, rt.alloc(), &table, &pattern, 4_096, ('a', 'b'));
+    let alloc = rt.alloc();
+    let table = table_with_more(&rt, alloc);
+    let pattern = compile(&rt, alloc, &table, ("a", TWO, KEPT));
+    let kept = are_kept(&rt, alloc, &table, &pattern, 4_096, ('a', 'b'));
+    drop(table);
     same(&rt, &kept, &true);
 }

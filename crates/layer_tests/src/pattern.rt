@@ -1,8 +1,8 @@
 //! What no clause says of `collation_pattern`: the printed fault, and the keys and faults of worked patterns over a small table.
 
 use crate::calls::{
-    KEPT, ONE, SHIFTED, Settings, TABLE, THREE, TWO, compile, holds, repeated, same, same_at,
-    table_of, text_is,
+    KEPT, ONE, SHIFTED, Settings, TABLE, THREE, TWO, compile, repeated, same, same_at, table_of,
+    text_is,
 };
 use collation_elements::{Key, Strength, Variable};
 use collation_pattern::{Pattern, PatternFault};
@@ -12,19 +12,22 @@ use std::process::Abort;
 
 /// The pattern of these settings under the table.
 fn pattern_of(rt: &impl Abort, alloc: Global, settings: Settings<'_>) -> Pattern {
-    compile(rt, alloc, &table_of(rt, alloc, TABLE, None), settings)
+    let table = table_of(rt, alloc, TABLE, None);
+    let pattern = compile(rt, alloc, &table, settings);
+    drop(table);
+    pattern
 }
 
 #[test]
 fn prints_a_fault(rt: HostRuntime) {
-    for (kind, want) in [
+    for (kind, want) in &[
         (PatternFault::TOO_LONG, "fault 21 of the pattern"),
         (PatternFault::NO_KEY, "fault 22 of the pattern"),
         (PatternFault::LONG_RUN, "fault 23 of the pattern"),
         (PatternFault::MEMORY, "fault 24 of the pattern"),
     ] {
-        let text = PatternFault { kind }.to_string(rt.alloc());
-        text_is(&rt, &text.expect(&rt, "memory"), want);
+        let text = PatternFault { kind: *kind }.to_string(rt.alloc());
+        text_is(&rt, &text.expect(&rt, "memory"), *want);
     }
 }
 
@@ -59,17 +62,19 @@ fn has_keys(rt: &impl Abort, alloc: Global, settings: Settings<'_>, len: usize) 
 
 #[test]
 fn keys_of_worked_patterns(rt: HostRuntime) {
+    let alloc = rt.alloc();
     for (settings, keys) in &KEYS {
-        has_these_keys(&rt, &pattern_of(&rt, rt.alloc(), *settings), *keys);
-        has_keys(&rt, rt.alloc(), *settings, keys.len());
+        has_these_keys(&rt, &pattern_of(&rt, alloc, *settings), *keys);
+        has_keys(&rt, alloc, *settings, keys.len());
     }
 }
 
 /// Spaces and the hyphen give keys only where they are not ignorable.
 #[test]
 fn shifted_pattern_has_no_variable_keys(rt: HostRuntime) {
-    has_keys(&rt, rt.alloc(), ("a - b", ONE, KEPT), 5);
-    has_keys(&rt, rt.alloc(), ("a - b", ONE, SHIFTED), 2);
+    let alloc = rt.alloc();
+    has_keys(&rt, alloc, ("a - b", ONE, KEPT), 5);
+    has_keys(&rt, alloc, ("a - b", ONE, SHIFTED), 2);
 }
 
 const A: Key = Key::Primary(0x1C00, 0, 0);
@@ -88,7 +93,7 @@ fn advanced(pattern: &Pattern, state: usize, key: Key) -> Option<usize> {
 #[test]
 fn states_of_a_worked_pattern(rt: HostRuntime) {
     let pattern = pattern_of(&rt, rt.alloc(), ("aab", ONE, KEPT));
-    for (state, key, want) in [
+    for (state, key, want) in &[
         (0, A, 1),
         (1, A, 2),
         (2, A, 2),
@@ -97,18 +102,24 @@ fn states_of_a_worked_pattern(rt: HostRuntime) {
         (3, B, 0),
         (1, B, 0),
     ] {
-        same_at(&rt, &advanced(&pattern, state, key), &Some(want), &state);
+        let got = advanced(&pattern, *state, *key);
+        same_at(&rt, &got, &Some(*want), state);
     }
+}
+
+/// Compares whether a pattern has the sort key of these keys.
+fn same_key_is(rt: &impl Abort, pattern: &Pattern, keys: &[Key], want: bool) {
+    same_at(rt, &pattern.same_key(keys), &want, &keys.len());
 }
 
 /// The first weights of U+4E00 are those of a pair, and of two keys that no text has.
 #[test]
 fn pair_has_the_sort_key_of_two_keys(rt: HostRuntime) {
     let ideograph = pattern_of(&rt, rt.alloc(), ("\u{4E00}", ONE, KEPT));
-    let primaries = [Key::Primary(0xFB40, 0, 0), Key::Primary(0xCE00, 0, 0)];
-    holds(&rt, ideograph.same_key(&primaries), &"both");
-    holds(&rt, !ideograph.same_key(&primaries[..1]), &"one");
-    holds(&rt, !ideograph.same_key(&[]), &"none");
+    let (lead, follower) = (Key::Primary(0xFB40, 0, 0), Key::Primary(0xCE00, 0, 0));
+    same_key_is(&rt, &ideograph, &[lead, follower], true);
+    same_key_is(&rt, &ideograph, &[lead], false);
+    same_key_is(&rt, &ideograph, &[], false);
 }
 
 /// Whether the keys of one pattern are those of another.
@@ -125,7 +136,7 @@ fn have_same_key(
 /// U+4E00 and U+2F00 differ at the third level alone, `e` and U+00E9 from the second on.
 #[test]
 fn levels_up_to_the_strength_are_compared(rt: HostRuntime) {
-    for (text, other, strength, is_same) in [
+    for (text, other, strength, is_same) in &[
         ("\u{2F00}", "\u{4E00}", ONE, true),
         ("\u{2F00}", "\u{4E00}", TWO, true),
         ("\u{2F00}", "\u{4E00}", THREE, false),
@@ -135,9 +146,9 @@ fn levels_up_to_the_strength_are_compared(rt: HostRuntime) {
         ("\u{E9}", "e\u{301}", THREE, true),
         ("c", "ch", ONE, false),
     ] {
-        let (text, other) = ((text, strength, KEPT), (other, strength, KEPT));
+        let (text, other) = ((*text, *strength, KEPT), (*other, *strength, KEPT));
         let has_same = have_same_key(&rt, rt.alloc(), text, other);
-        same_at(&rt, &has_same, &is_same, &text);
+        same_at(&rt, &has_same, is_same, &text);
     }
 }
 
@@ -165,16 +176,13 @@ const FAULTS: [(&str, usize, Result<usize, u8>); 8] = [
 
 #[test]
 fn first_fault_is_reported(rt: HostRuntime) {
-    let table = table_of(&rt, rt.alloc(), TABLE, None);
+    let alloc = rt.alloc();
+    let table = table_of(&rt, alloc, TABLE, None);
     for (piece, count, want) in &FAULTS {
-        let text = repeated(&rt, rt.alloc(), *piece, *count);
-        same_at(
-            &rt,
-            &try_pattern(rt.alloc(), &table, &text, ONE),
-            want,
-            count,
-        );
+        let text = repeated(&rt, alloc, *piece, *count);
+        same_at(&rt, &try_pattern(alloc, &table, &text, ONE), want, count);
     }
+    drop(table);
 }
 
 /// Compares how many keys the greatest patterns have: letters, and accented ones of two bytes and, from strength two on, two keys each.
@@ -189,9 +197,10 @@ fn greatest(rt: &impl Abort, alloc: Global, strength: Strength, variable: Variab
 /// No pattern is too long before it has more than 65,536 bytes, whatever it is compared by.
 #[test]
 fn greatest_pattern_is_compiled(rt: HostRuntime) {
-    for strength in [ONE, TWO, THREE] {
-        greatest(&rt, rt.alloc(), strength, KEPT);
-        greatest(&rt, rt.alloc(), strength, SHIFTED);
+    let alloc = rt.alloc();
+    for strength in &[ONE, TWO, THREE] {
+        greatest(&rt, alloc, *strength, KEPT);
+        greatest(&rt, alloc, *strength, SHIFTED);
     }
 }
 
@@ -208,15 +217,17 @@ fn pattern_again(alloc: Global, table: &Table, text: &str) -> Result<usize, u8> 
 /// with ample memory. A refusal that meets the test itself stops it.
 #[test]
 fn refused_patterns_are_asked_for_again(rt: HostRuntime) {
-    let table = table_of(&rt, rt.alloc(), TABLE, None);
-    for (piece, count, want) in [
+    let alloc = rt.alloc();
+    let table = table_of(&rt, alloc, TABLE, None);
+    for (piece, count, want) in &[
         ("aae\u{301}", 1, Ok(4)),
         ("u\u{327}\u{301}", 1, Ok(2)),
         ("ab", 3_000, Ok(6_000)),
         ("", 1, Err(22)),
         ("a", 65_537, Err(21)),
     ] {
-        let text = repeated(&rt, rt.alloc(), piece, count);
-        same(&rt, &pattern_again(rt.alloc(), &table, &text), &want);
+        let text = repeated(&rt, alloc, *piece, *count);
+        same(&rt, &pattern_again(alloc, &table, &text), want);
     }
+    drop(table);
 }

@@ -6,7 +6,7 @@ ghost use Rattle.nfd_points.specs.Points.{points};
 ghost use Rattle.nfd_points.specs.PointFaults.{point_fault};
 ghost use Rattle.nfd_points.specs.WorkedPoints.{worked_point};
 
-use crate::calls::{holds, put, same, text_is};
+use crate::calls::{holds, put, same, same_at, text_is};
 use arrayvec::ArrayVec;
 use nfd_points::laws::{
     laws_of_decompositions, laws_of_faults, laws_of_ordering, laws_of_points, laws_of_reordering,
@@ -85,15 +85,21 @@ fn points_are(rt: &impl Abort, alloc: Global, points: &[Point], want: &str) {
 /// A blank point, the points of characters at 7, and those that are asked for by themselves.
 #[test]
 fn points_of_characters(rt: HostRuntime) {
-    points_are(&rt, rt.alloc(), &[Point::default()], " +0/0@0");
-    for (c, want) in [
+    let alloc = rt.alloc();
+    points_are(&rt, alloc, &[Point::default()], " +0/0@0");
+    for (c, want) in &[
         ('a', " 61/0@7"),
         ('\u{20AC}', " 20AC/0@7"),
         ('\u{1EC7}', " 65/0@7 +323/220@7 +302/230@7"),
         ('\u{301}', " 301/230@7"),
     ] {
-        points_are(&rt, rt.alloc(), points_of_character(c, 7).as_slice(), want);
+        points_are(&rt, alloc, points_of_character(*c, 7).as_slice(), *want);
     }
+}
+
+/// Compares whether a code point is decomposed.
+fn decomposed_is(rt: &impl Abort, c: char, want: bool) {
+    same_at(rt, &Point::is_decomposed(c), &want, &c);
 }
 
 /// The last of the decomposed ones has a compatibility decomposition alone. Of the others there are a letter with its mark, two marks, a
@@ -101,11 +107,24 @@ fn points_of_characters(rt: HostRuntime) {
 #[test]
 fn decomposed_code_points(rt: HostRuntime) {
     for c in "a\u{301}\u{1100}\u{4E00}\u{FB01}".chars() {
-        holds(&rt, Point::is_decomposed(c), &c);
+        decomposed_is(&rt, c, true);
     }
     for c in "\u{E9}\u{F73}\u{AC01}\u{2126}\u{F900}".chars() {
-        holds(&rt, !Point::is_decomposed(c), &c);
+        decomposed_is(&rt, c, false);
     }
+}
+
+/// Writes what a push gives, and a bar.
+fn put_pushed(
+    rt: &impl Abort,
+    all: &mut String,
+    reorder: &mut Reorder,
+    from: (char, u64),
+    out: &mut Given,
+) {
+    push_well(rt, reorder, from.0, from.1, out);
+    put_points(rt, all, out.as_slice());
+    put(rt, all, " |");
 }
 
 /// What the pushes of a text give, a bar after each, and what waits at its end and is given then.
@@ -114,9 +133,7 @@ fn pushed(rt: &impl Abort, alloc: Global, text: &str) -> String {
     let mut out = Given::new();
     let mut all = String::new(alloc);
     for (offset, c) in text.char_indices() {
-        push_well(rt, &mut reorder, c, offset as u64, &mut out);
-        put_points(rt, &mut all, out.as_slice());
-        put(rt, &mut all, " |");
+        put_pushed(rt, &mut all, &mut reorder, (c, offset as u64), &mut out);
     }
     let mut waiting = String::new(alloc);
     put_points(rt, &mut waiting, reorder.waiting());
@@ -195,25 +212,27 @@ fn run_is_cut(rt: &impl Abort, alloc: Global, c: char, times: u64) {
 
 #[test]
 fn runs_of_non_starters(rt: HostRuntime) {
-    run_is_cut(&rt, rt.alloc(), '\u{F73}', 15);
-    run_is_cut(&rt, rt.alloc(), '\u{301}', 30);
+    let alloc = rt.alloc();
+    run_is_cut(&rt, alloc, '\u{F73}', 15);
+    run_is_cut(&rt, alloc, '\u{301}', 30);
     let kinds = (PointFault::LONG_RUN, PointFault::LONG_DECOMPOSITION);
     same(&rt, &kinds, &(32, 33));
 }
 
 #[test]
 fn restored(rt: HostRuntime) {
+    let alloc = rt.alloc();
     let mut out = Given::new();
-    let mut reorder = Reorder::new(rt.alloc());
+    let mut reorder = Reorder::new(alloc);
     push_well(&rt, &mut reorder, '\u{327}', 0, &mut out);
     push_well(&rt, &mut reorder, '\u{301}', 2, &mut out);
     same(&rt, &Reorder::may_wait(reorder.waiting()), &true);
     let letter = [Point::new('a', 4, true)];
     same(&rt, &Reorder::may_wait(&letter), &false);
-    let mut again = Reorder::restore(rt.alloc(), reorder.waiting());
+    let mut again = Reorder::restore(alloc, reorder.waiting());
     push_well(&rt, &mut again, 'a', 4, &mut out);
     let want = " 327/202@0 301/230@2 61/0@4";
-    points_are(&rt, rt.alloc(), out.as_slice(), want);
+    points_are(&rt, alloc, out.as_slice(), want);
 }
 
 /// Whether a code point decomposes or has a class.
@@ -275,6 +294,13 @@ fn offsets_of(rt: &impl Abort, alloc: Global, chars: &[char]) -> Vec<u64> {
     offsets
 }
 
+/// The NFD of code points by `unicode_normalization`.
+fn nfd_of(rt: &impl Abort, alloc: Global, chars: &[char]) -> Vec<char> {
+    let mut expected = Vec::new(alloc);
+    extend_nfd(&mut expected, chars).expect(rt, "memory");
+    expected
+}
+
 /// The points of a text.
 fn text_of(rt: &impl Abort, alloc: Global, chars: &[char]) -> Text {
     let mut text = Text {
@@ -296,12 +322,12 @@ fn text_of(rt: &impl Abort, alloc: Global, chars: &[char]) -> Text {
 
 #[test]
 fn whole_data(rt: HostRuntime) {
-    let chars = changing_code_points(&rt, rt.alloc());
-    let mut expected = Vec::new(rt.alloc());
-    extend_nfd(&mut expected, chars.as_slice()).expect(&rt, "memory");
-    let text = text_of(&rt, rt.alloc(), &chars);
+    let alloc = rt.alloc();
+    let chars = changing_code_points(&rt, alloc);
+    let text = text_of(&rt, alloc, &chars);
     holds(&rt, text.code_points.len() > chars.len(), &"more");
+    let expected = nfd_of(&rt, alloc, &chars);
     holds(&rt, text.code_points == expected, &"code points");
-    let offsets = offsets_of(&rt, rt.alloc(), &chars);
+    let offsets = offsets_of(&rt, alloc, &chars);
     holds(&rt, text.offsets == offsets, &"offsets");
 }

@@ -44,7 +44,7 @@ fn lengths(piece: &str) -> (usize, usize) {
 /// To the end, to what halts, to a pair, and to a byte past ASCII; pieces of fewer than eighteen bytes do not go with characters of two.
 #[test]
 fn bytes_pass_up_to_one_that_does_not(rt: HostRuntime) {
-    for (piece, lengths_of_piece) in [
+    for (piece, lengths_of_piece) in &[
         ("", (0, 0)),
         ("a cat", (5, 0)),
         ("a cat and a bat beside the door of a barn", (41, 41)),
@@ -55,6 +55,6 @@ fn bytes_pass_up_to_one_that_does_not(rt: HostRuntime) {
         ("the door of the ж of the house", (16, 31)),
         ("the door of the жb", (16, 18)),
     ] {
-        same_at(&rt, &lengths(piece), &lengths_of_piece, &piece);
+        same_at(&rt, &lengths(*piece), lengths_of_piece, piece);
     }
 }

@@ -5,7 +5,7 @@ use crate::calls::{
     KEPT, ONE, SHIFTED, Settings, TABLE, THREE, TWO, compile, holds, joined, repeated, same_at,
     table_of,
 };
-use crate::ways::{Place, ways_of};
+use crate::ways::{Place, Ways, ways_of};
 use collation_pattern::Pattern;
 use collation_table::Table;
 use std::alloc::Global;
@@ -27,7 +27,9 @@ fn passed(
 ) -> [Option<Place>; 2] {
     let mut ways = ways_of(rt, alloc, table, pattern);
     let first = ways.run(piece, reach, false);
-    [first, ways.run(piece, reach, true)]
+    let second = ways.run(piece, reach, true);
+    drop(ways);
+    [first, second]
 }
 
 /// Compares what an automaton passes by.
@@ -42,6 +44,7 @@ fn passed_is(
     let table = table_of(rt, alloc, TABLE, None);
     let pattern = compile(rt, alloc, &table, settings);
     let places = passed(rt, alloc, &table, &pattern, piece, reach);
+    drop(table);
     places_are(rt, places, [want, want], settings.0);
 }
 
@@ -68,11 +71,21 @@ const TEXTS: [(&str, &str, Option<Place>); 16] = [
     ("h", "mmch", Some((1, 2, 'c'))),
 ];
 
+/// Compares what is passed by of a whole text.
+fn text_passes(
+    rt: &impl Abort,
+    alloc: Global,
+    settings: Settings<'_>,
+    text: &str,
+    want: Option<Place>,
+) {
+    passed_is(rt, alloc, settings, text.as_bytes(), text.len(), want);
+}
+
 #[test]
 fn text_is_passed_by(rt: HostRuntime) {
-    for (pattern, text, want) in TEXTS {
-        let (settings, text) = ((pattern, ONE, KEPT), text.as_bytes());
-        passed_is(&rt, rt.alloc(), settings, text, text.len(), want);
+    for (pattern, text, want) in &TEXTS {
+        text_passes(&rt, rt.alloc(), (*pattern, ONE, KEPT), *text, *want);
     }
 }
 
@@ -88,8 +101,8 @@ const PIECES: [(&[u8], usize, Option<Place>); 6] = [
 
 #[test]
 fn less_is_passed_by(rt: HostRuntime) {
-    for (piece, reach, want) in PIECES {
-        passed_is(&rt, rt.alloc(), ("b", ONE, KEPT), piece, reach, want);
+    for (piece, reach, want) in &PIECES {
+        passed_is(&rt, rt.alloc(), ("b", ONE, KEPT), *piece, *reach, *want);
     }
 }
 
@@ -115,8 +128,8 @@ const FOUR_RUNS: [(usize, Place); 6] = [
 /// A long text, of which four runs pass as much by as one does: they stop in the first, second, third or fourth of them, or not.
 #[test]
 fn long_text_is_passed_by(rt: HostRuntime) {
-    for (stop, want) in FOUR_RUNS {
-        stop_is(&rt, rt.alloc(), 2_000, stop, want);
+    for (stop, want) in &FOUR_RUNS {
+        stop_is(&rt, rt.alloc(), 2_000, *stop, *want);
     }
 }
 
@@ -129,19 +142,24 @@ const WINDOWS: [(usize, Place); 5] = [
     (3_000, (2_998, 2_999, 'm')),
 ];
 
+/// Compares what is passed by of a thousand `m` and two thousand `a`.
+fn end_is(rt: &impl Abort, alloc: Global) {
+    let before = repeated(rt, alloc, "m", 1_000);
+    let behind = repeated(rt, alloc, "a", 2_000);
+    let text = joined(rt, alloc, &[before.as_str(), behind.as_str()]);
+    let want = Some((999, 1_000, 'a'));
+    text_passes(rt, alloc, ("aab", ONE, KEPT), &text, want);
+}
+
 /// A text so long that windows are begun in guesses. They pass as much by as single moves do, where the first guess is wrong as well,
 /// where the text stops in a window or in the last bytes, and where it may be passed by up to no place in the last windows.
 #[test]
 fn windows_pass_by_as_much(rt: HostRuntime) {
-    for (stop, want) in WINDOWS {
-        stop_is(&rt, rt.alloc(), 3_000, stop, want);
+    let alloc = rt.alloc();
+    for (stop, want) in &WINDOWS {
+        stop_is(&rt, alloc, 3_000, *stop, *want);
     }
-    let text = repeated(&rt, rt.alloc(), "m", 1_000);
-    let rest = repeated(&rt, rt.alloc(), "a", 2_000);
-    let text = joined(&rt, rt.alloc(), &[text.as_str(), rest.as_str()]);
-    let want = Some((999, 1_000, 'a'));
-    let settings = ("aab", ONE, KEPT);
-    passed_is(&rt, rt.alloc(), settings, text.as_bytes(), 3_000, want);
+    end_is(&rt, alloc);
 }
 
 const VARIABLE: [(&str, Place); 3] = [
@@ -153,27 +171,39 @@ const VARIABLE: [(&str, Place); 3] = [
 /// A space begins a cluster and has no key in shifted weighting, and so no key that the pattern does not have.
 #[test]
 fn variable_characters_are_passed_by(rt: HostRuntime) {
-    for (text, want) in VARIABLE {
-        let (settings, text) = (("b", TWO, SHIFTED), text.as_bytes());
-        passed_is(&rt, rt.alloc(), settings, text, text.len(), Some(want));
+    for (text, want) in &VARIABLE {
+        text_passes(&rt, rt.alloc(), ("b", TWO, SHIFTED), *text, Some(*want));
     }
+}
+
+/// The one place or the other is this.
+fn one_is(rt: &impl Abort, first: Option<Place>, again: Option<Place>, want: Option<Place>) {
+    holds(rt, first == want || again == want, &(first, again));
 }
 
 /// To be run with each allocation refused in turn: where the moves of one automaton were refused less is passed by, if anything, and
 /// the other one passes by all. A refusal that meets the test itself stops it.
 #[test]
 fn refused_moves_are_stops(rt: HostRuntime) {
-    let table = table_of(&rt, rt.alloc(), TABLE, None);
-    let pattern = compile(&rt, rt.alloc(), &table, ("b", ONE, KEPT));
+    let alloc = rt.alloc();
+    let table = table_of(&rt, alloc, TABLE, None);
+    let pattern = compile(&rt, alloc, &table, ("b", ONE, KEPT));
     let text = b"mememememe";
-    let [first, _] = passed(&rt, rt.alloc(), &table, &pattern, text, text.len());
-    let [again, _] = passed(&rt, rt.alloc(), &table, &pattern, text, text.len());
-    let all = Some((8, 9, 'e'));
-    holds(&rt, first == all || again == all, &(first, again));
+    let [first, _] = passed(&rt, alloc, &table, &pattern, text, text.len());
+    let [again, _] = passed(&rt, alloc, &table, &pattern, text, text.len());
+    drop(table);
+    one_is(&rt, first, again, Some((8, 9, 'e')));
 }
 
 /// The characters whose letters are known.
 const KNOWN: [char; 5] = ['m', 'b', '\u{301}', '\u{4E00}', '\u{D55C}'];
+
+/// Asks for the letters of these characters.
+fn ask_letters(ways: &mut Ways<'_>) {
+    for c in &KNOWN {
+        ways.letter(*c);
+    }
+}
 
 /// What passes by of a text where the automaton rests, as it does once nothing has paid: character by character.
 fn one_by_one(
@@ -185,15 +215,18 @@ fn one_by_one(
     reach: usize,
 ) -> [Option<Place>; 2] {
     let mut ways = ways_of(rt, alloc, table, pattern);
-    for c in KNOWN {
-        ways.letter(c);
-    }
+    ask_letters(&mut ways);
     let nothing = ways.pass(b"", 0);
-    [nothing, ways.pass(text.as_bytes(), reach)]
+    let place = ways.pass(text.as_bytes(), reach);
+    drop(ways);
+    [nothing, place]
 }
 
+/// A text, how many bytes of it may be passed by, and where it is left.
+type Text<'a> = (&'a str, usize, Option<Place>);
+
 /// Characters with other keys go one by one, before a character whose letter is known and is no mark, and that begins not after `reach`.
-const CHARACTERS: [(&str, usize, Option<Place>); 8] = [
+const CHARACTERS: [Text; 8] = [
     ("m\u{4E00}\u{D55C}m", 8, Some((4, 7, 'm'))),
     ("m\u{4E00}\u{D55C}m", 4, Some((1, 4, '\u{D55C}'))),
     ("m\u{4E00}\u{D55C}m", 3, Some((0, 1, '\u{4E00}'))),
@@ -205,14 +238,28 @@ const CHARACTERS: [(&str, usize, Option<Place>); 8] = [
     ("bmm", 3, None),
 ];
 
+/// Compares what passes by of the text of a row.
+fn characters_are(
+    rt: &impl Abort,
+    alloc: Global,
+    table: &Table,
+    pattern: &Pattern,
+    row: &Text<'_>,
+) {
+    let (text, reach, want) = *row;
+    let places = one_by_one(rt, alloc, table, pattern, text, reach);
+    places_are(rt, places, [None, want], text);
+}
+
 #[test]
 fn characters_are_passed_by(rt: HostRuntime) {
-    let table = table_of(&rt, rt.alloc(), TABLE, None);
-    let pattern = compile(&rt, rt.alloc(), &table, ("b", ONE, KEPT));
-    for (text, reach, want) in CHARACTERS {
-        let places = one_by_one(&rt, rt.alloc(), &table, &pattern, text, reach);
-        places_are(&rt, places, [None, want], text);
+    let alloc = rt.alloc();
+    let table = table_of(&rt, alloc, TABLE, None);
+    let pattern = compile(&rt, alloc, &table, ("b", ONE, KEPT));
+    for row in &CHARACTERS {
+        characters_are(&rt, alloc, &table, &pattern, row);
     }
+    drop(table);
 }
 
 /// Rows beside those of the table, for blocks of ASCII. A unit may reach out of `l`. The control U+0001 has no key.
@@ -239,7 +286,10 @@ fn in_blocks(
     let mut ways = ways_of(rt, alloc, &table, &pattern);
     let before = ways.pass_blocks(text.as_bytes(), reach);
     let _long = ways.pass_blocks(long, 1_000);
-    [before, ways.pass_blocks(text.as_bytes(), reach)]
+    let after = ways.pass_blocks(text.as_bytes(), reach);
+    drop(ways);
+    drop(table);
+    [before, after]
 }
 
 const TELL: &str = "a toll at bottle to tell all a total at a tab. ";
@@ -277,8 +327,8 @@ const BLOCKS: [Block; 12] = [
 ];
 
 /// Compares what passes by in blocks: nothing before a long text came, then this much.
-fn block_is(rt: &impl Abort, alloc: Global, row: Block<'_>) {
-    let (sought, text, reach, want) = row;
+fn block_is(rt: &impl Abort, alloc: Global, row: &Block<'_>) {
+    let (sought, text, reach, want) = *row;
     let long = repeated(rt, alloc, if text.is_empty() { TELL } else { text }, 32);
     let settings = (sought, ONE, KEPT);
     let places = in_blocks(rt, alloc, settings, long.as_bytes(), text, reach);
@@ -287,7 +337,7 @@ fn block_is(rt: &impl Abort, alloc: Global, row: Block<'_>) {
 
 #[test]
 fn text_is_passed_by_in_blocks(rt: HostRuntime) {
-    for row in BLOCKS {
+    for row in &BLOCKS {
         block_is(&rt, rt.alloc(), row);
     }
 }

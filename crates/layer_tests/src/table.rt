@@ -190,22 +190,24 @@ const ANSWERS: [(&[u8], Answer); 8] = [
 
 #[test]
 fn answers_by_its_sizes(rt: HostRuntime) {
-    file_is(&rt, rt.alloc(), BASIC.as_bytes(), Ok((2, 2)));
-    file_is(&rt, rt.alloc(), TABLE.as_bytes(), Ok((2, 2)));
+    let alloc = rt.alloc();
+    file_is(&rt, alloc, BASIC.as_bytes(), Ok((2, 2)));
+    file_is(&rt, alloc, TABLE.as_bytes(), Ok((2, 2)));
     for (file, want) in &ANSWERS {
-        file_is(&rt, rt.alloc(), *file, *want);
+        file_is(&rt, alloc, *file, *want);
     }
 }
 
 #[test]
 fn prints_a_fault(rt: HostRuntime) {
-    for (kind, line, want) in [
+    for (kind, line, want) in &[
         (3, 2, "fault 3 at line 2"),
         (14, 0, "fault 14 at line 0"),
         (73, 1_048_577, "fault 73 at line 1048577"),
     ] {
+        let (kind, line) = (*kind, *line);
         let text = TableFault { line, kind }.to_string(rt.alloc());
-        text_is(&rt, &text.expect(&rt, "memory"), want);
+        text_is(&rt, &text.expect(&rt, "memory"), *want);
     }
 }
 
@@ -277,10 +279,11 @@ fn line_is(
 
 #[test]
 fn bounds_a_line(rt: HostRuntime) {
-    line_is(&rt, rt.alloc(), 17, 33, Ok((17, 33)), Ok((17, 33)));
-    line_is(&rt, rt.alloc(), 64, 128, Ok((64, 128)), Ok((64, 128)));
-    line_is(&rt, rt.alloc(), 65, 1, Err((4, 1)), Err((64, 1)));
-    line_is(&rt, rt.alloc(), 1, 129, Err((4, 1)), Err((64, 1)));
+    let alloc = rt.alloc();
+    line_is(&rt, alloc, 17, 33, Ok((17, 33)), Ok((17, 33)));
+    line_is(&rt, alloc, 64, 128, Ok((64, 128)), Ok((64, 128)));
+    line_is(&rt, alloc, 65, 1, Err((4, 1)), Err((64, 1)));
+    line_is(&rt, alloc, 1, 129, Err((4, 1)), Err((64, 1)));
 }
 
 /// Writes a range of one code point.
@@ -300,14 +303,15 @@ fn ranges_of(rt: &impl Abort, alloc: Global, first: u32, ranges: u32) -> String 
 
 #[test]
 fn bounds_the_ranges(rt: HostRuntime) {
-    let most = ranges_of(&rt, rt.alloc(), 0x17000, 256);
-    file_is(&rt, rt.alloc(), most.as_bytes(), Ok((1, 2)));
-    let more = ranges_of(&rt, rt.alloc(), 0x17000, 257);
-    file_is(&rt, rt.alloc(), more.as_bytes(), Err((13, 258)));
-    let most_after = ranges_of(&rt, rt.alloc(), 0x17800, 256);
-    both_are(&rt, rt.alloc(), &most, &most_after, Ok((1, 2)));
-    let more_after = ranges_of(&rt, rt.alloc(), 0x17800, 257);
-    both_are(&rt, rt.alloc(), &most, &more_after, Err((73, 258)));
+    let alloc = rt.alloc();
+    let most = ranges_of(&rt, alloc, 0x17000, 256);
+    file_is(&rt, alloc, most.as_bytes(), Ok((1, 2)));
+    let more = ranges_of(&rt, alloc, 0x17000, 257);
+    file_is(&rt, alloc, more.as_bytes(), Err((13, 258)));
+    let most_after = ranges_of(&rt, alloc, 0x17800, 256);
+    both_are(&rt, alloc, &most, &most_after, Ok((1, 2)));
+    let more_after = ranges_of(&rt, alloc, 0x17800, 257);
+    both_are(&rt, alloc, &most, &more_after, Err((73, 258)));
 }
 
 /// Writes an element with this first weight.
@@ -348,12 +352,13 @@ fn rows_of(rt: &impl Abort, alloc: Global, rows: u32) -> String {
 
 #[test]
 fn bounds_the_entries(rt: HostRuntime) {
-    let most = rows_of(&rt, rt.alloc(), 1_048_576);
-    file_is(&rt, rt.alloc(), most.as_bytes(), Ok((1, 2)));
-    both_are(&rt, rt.alloc(), BASIC, &most, Ok((2, 2)));
-    let more = rows_of(&rt, rt.alloc(), 1_048_577);
-    file_is(&rt, rt.alloc(), more.as_bytes(), Err((13, 1_048_577)));
-    both_are(&rt, rt.alloc(), BASIC, &more, Err((73, 1_048_577)));
+    let alloc = rt.alloc();
+    let most = rows_of(&rt, alloc, 1_048_576);
+    file_is(&rt, alloc, most.as_bytes(), Ok((1, 2)));
+    both_are(&rt, alloc, BASIC, &most, Ok((2, 2)));
+    let more = rows_of(&rt, alloc, 1_048_577);
+    file_is(&rt, alloc, more.as_bytes(), Err((13, 1_048_577)));
+    both_are(&rt, alloc, BASIC, &more, Err((73, 1_048_577)));
 }
 
 /// How many elements a row has, the first weight that each has, and whether they are variable; no elements where there is no row.
@@ -394,12 +399,15 @@ const STRINGS: [(&[u32], usize, Row); 7] = [
 
 #[test]
 fn answers_by_its_rows(rt: HostRuntime) {
-    let table = table_of(&rt, rt.alloc(), TABLE, None);
-    let plain = plain_of(&rt, rt.alloc(), TABLE);
+    let alloc = rt.alloc();
+    let table = table_of(&rt, alloc, TABLE, None);
+    let plain = plain_of(&rt, alloc, TABLE);
     for (string, longest, row) in &STRINGS {
         string_is(&rt, &table, *string, *longest, *row);
         string_is(&rt, &plain, *string, *longest, *row);
     }
+    drop(plain);
+    drop(table);
 }
 
 const OVERLAID: [(&[u32], usize, Row); 5] = [
@@ -417,6 +425,7 @@ fn answers_by_the_rows_of_both_files(rt: HostRuntime) {
     for (string, longest, row) in &OVERLAID {
         string_is(&rt, &table, *string, *longest, *row);
     }
+    drop(table);
 }
 
 const GOES_ON: [(&[u32], bool); 8] = [
@@ -438,14 +447,17 @@ fn goes_on_in<W: Weights>(table: &W, string: &[u32]) -> bool {
 /// `abc` is mapped, and `ab` is not. A plain table does not know.
 #[test]
 fn says_what_goes_on(rt: HostRuntime) {
+    let alloc = rt.alloc();
     let tailor = "0061 0062 0063 ; [.1C05.0020.0002]";
-    let table = table_of(&rt, rt.alloc(), TABLE, Some(tailor.as_bytes()));
+    let table = table_of(&rt, alloc, TABLE, Some(tailor.as_bytes()));
     for (string, goes_on) in &GOES_ON {
         same_at(&rt, &goes_on_in(&table, *string), goes_on, string);
     }
-    let plain = plain_of(&rt, rt.alloc(), TABLE);
+    drop(table);
+    let plain = plain_of(&rt, alloc, TABLE);
     let string = [0x63, 0x68];
     holds(&rt, goes_on_in(&plain, &string), &string);
+    drop(plain);
 }
 
 const PLAIN: &str = "0061 ; [.1C00.0020.0002]";
@@ -480,11 +492,14 @@ fn implicit_in<W: Weights>(table: &W, point: u32) -> [u16; 2] {
 
 #[test]
 fn weighs_what_has_no_row(rt: HostRuntime) {
+    let alloc = rt.alloc();
     for (file, point, want) in &IMPLICIT {
-        let table = table_of(&rt, rt.alloc(), *file, None);
+        let table = table_of(&rt, alloc, *file, None);
         same_at(&rt, &implicit_in(&table, *point), want, point);
-        let plain = plain_of(&rt, rt.alloc(), *file);
+        drop(table);
+        let plain = plain_of(&rt, alloc, *file);
         same_at(&rt, &implicit_in(&plain, *point), want, point);
+        drop(plain);
     }
 }
 
@@ -501,9 +516,10 @@ fn commented(rt: &impl Abort, alloc: Global, letters: usize) -> String {
 
 #[test]
 fn reads_lines_of_any_length(rt: HostRuntime) {
-    for letters in [5_000, 70_000] {
-        let file = commented(&rt, rt.alloc(), letters);
-        file_is(&rt, rt.alloc(), file.as_bytes(), Ok((2, 2)));
+    let alloc = rt.alloc();
+    for letters in &[5_000, 70_000] {
+        let file = commented(&rt, alloc, *letters);
+        file_is(&rt, alloc, file.as_bytes(), Ok((2, 2)));
     }
 }
 
@@ -542,28 +558,37 @@ fn many_are<W: Weights>(rt: &impl Abort, table: &W, number: u32) {
     }
 }
 
+/// Compares what a large table answers of some of these code points, and of one behind the last of them.
+fn all_are<W: Weights>(rt: &impl Abort, table: &W) {
+    for number in &[0, 1, 9, 10, 28_671, 28_672, 65_536, 99_990, 99_999] {
+        many_are(rt, table, *number);
+    }
+    string_is(rt, table, &[0x30000 + MANY, 0x61], 0, NO_ROW);
+}
+
 #[test]
 fn answers_by_many_rows(rt: HostRuntime) {
-    let file = many_rows(&rt, rt.alloc());
-    let table = table_of(&rt, rt.alloc(), &file, None);
-    let plain = plain_of(&rt, rt.alloc(), &file);
-    for number in [0, 1, 9, 10, 28_671, 28_672, 65_536, 99_990, 99_999] {
-        many_are(&rt, &table, number);
-        many_are(&rt, &plain, number);
-    }
-    string_is(&rt, &table, &[0x30000 + MANY, 0x61], 0, NO_ROW);
-    string_is(&rt, &plain, &[0x30000 + MANY, 0x61], 0, NO_ROW);
-    file_is(&rt, rt.alloc(), file.as_bytes(), Ok((2, 2)));
+    let alloc = rt.alloc();
+    let file = many_rows(&rt, alloc);
+    let table = table_of(&rt, alloc, &file, None);
+    all_are(&rt, &table);
+    drop(table);
+    let plain = plain_of(&rt, alloc, &file);
+    all_are(&rt, &plain);
+    drop(plain);
+    file_is(&rt, alloc, file.as_bytes(), Ok((2, 2)));
 }
 
 #[test]
 fn replaces_one_of_many_rows(rt: HostRuntime) {
-    let file = many_rows(&rt, rt.alloc());
+    let alloc = rt.alloc();
+    let file = many_rows(&rt, alloc);
     let tailor = "30000 0061 ; [.0001.0020.0002]";
-    let table = table_of(&rt, rt.alloc(), &file, Some(tailor.as_bytes()));
+    let table = table_of(&rt, alloc, &file, Some(tailor.as_bytes()));
     string_is(&rt, &table, &[0x30000, 0x61], 2, (1, 1, false));
     many_are(&rt, &table, 10);
     many_are(&rt, &table, 99_990);
+    drop(table);
 }
 
 /// As many strings of two code points that begin with `a`, and with every hundredth one of three.
@@ -594,18 +619,24 @@ fn strings_are<W: Weights>(rt: &impl Abort, table: &W, number: u32) {
     }
 }
 
+/// Compares what it answers of some of them, and of two others.
+fn all_strings_are<W: Weights>(rt: &impl Abort, table: &W) {
+    for number in &[0, 1, 99, 100, 99_900, 99_999] {
+        strings_are(rt, table, *number);
+    }
+    string_is(rt, table, &[0x61, 0x20000 + MANY], 1, NO_ROW);
+    string_is(rt, table, &[0x62, 0x20000], 0, NO_ROW);
+}
+
 #[test]
 fn answers_by_many_strings_after_one_code_point(rt: HostRuntime) {
-    let file = strings_after_one(&rt, rt.alloc());
-    let table = table_of(&rt, rt.alloc(), &file, None);
-    let plain = plain_of(&rt, rt.alloc(), &file);
-    for number in [0, 1, 99, 100, 99_900, 99_999] {
-        strings_are(&rt, &table, number);
-        strings_are(&rt, &plain, number);
-    }
-    for (string, longest) in [([0x61, 0x20000 + MANY], 1), ([0x62, 0x20000], 0)] {
-        string_is(&rt, &table, &string, longest, NO_ROW);
-        string_is(&rt, &plain, &string, longest, NO_ROW);
-    }
-    file_is(&rt, rt.alloc(), file.as_bytes(), Ok((3, 2)));
+    let alloc = rt.alloc();
+    let file = strings_after_one(&rt, alloc);
+    let table = table_of(&rt, alloc, &file, None);
+    all_strings_are(&rt, &table);
+    drop(table);
+    let plain = plain_of(&rt, alloc, &file);
+    all_strings_are(&rt, &plain);
+    drop(plain);
+    file_is(&rt, alloc, file.as_bytes(), Ok((3, 2)));
 }

@@ -219,7 +219,9 @@ fn rows_are(
     let mut ways = ways_of(rt, alloc, table, pattern);
     compare_rows(rt, &mut ways, before);
     compare_rows(rt, &mut ways, rows);
-    compare_made(rt, alloc, &mut ways, made)
+    let count = compare_made(rt, alloc, &mut ways, made);
+    drop(ways);
+    count
 }
 
 /// Compares rows behind a sample, before which the automaton passed by so many bytes: how many made texts behind them were passed by in
@@ -238,7 +240,9 @@ fn rows_after(
     let much = calm(rt, alloc, MUCH + 2);
     let rest = calm(rt, alloc, bytes % MUCH + 2);
     let before = [all(&much, bytes / MUCH), all(&rest, 1), all(sample, 1)];
-    rows_are(rt, alloc, &table, &pattern, &before, rows, made)
+    let count = rows_are(rt, alloc, &table, &pattern, &before, rows, made);
+    drop(table);
+    count
 }
 
 /// Compares rows where sets were chosen before, and made texts behind them.
@@ -253,22 +257,42 @@ fn probe_is(rt: &impl Abort, alloc: Global, sought: &str, sample: &str, probe: &
     rows_after(rt, alloc, sought, FIRST_WAIT - 500, sample, &rows, 0);
 }
 
+/// How much passes by of a text with a match behind 200 bytes: up to the match in blocks, where sets are chosen, and else all.
+fn probe_len(probe: &str, is_chosen: bool) -> usize {
+    if is_chosen { 200 } else { all_of(probe) }
+}
+
+/// Compares a row behind a calm sample, where so many bytes fewer pass by before than are waited for.
+fn first_wait_is(rt: &impl Abort, alloc: Global, less: usize, row: Row<'_>) {
+    let sample = calm(rt, alloc, 1_102);
+    let bytes = (FIRST_WAIT - 1_100).saturating_sub(less);
+    rows_after(rt, alloc, "абв", bytes, &sample, &[row], 0);
+}
+
+/// The same behind a sample by which no sets are found, and twice as many bytes.
+fn second_wait_is(rt: &impl Abort, alloc: Global, less: usize, row: Row<'_>) {
+    let vain = repeated(rt, alloc, "лллллл\u{4E00}л", 80);
+    let much = calm(rt, alloc, MUCH + 2);
+    let rest = calm(rt, alloc, (MUCH - 1_098).saturating_sub(less));
+    let sample = calm(rt, alloc, 1_102);
+    let rows = [all(&much, 15), all(&rest, 1), all(&sample, 1), row];
+    rows_after(rt, alloc, "абв", FIRST_WAIT - 1_000, &vain, &rows, 0);
+}
+
+/// Compares both, where sets are chosen or not.
+fn waits_are(rt: &impl Abort, alloc: Global, less: usize, is_chosen: bool) {
+    let probe = amid(rt, alloc, 200, "аб");
+    let row = (probe.as_bytes(), 1, probe_len(&probe, is_chosen));
+    first_wait_is(rt, alloc, less, row);
+    second_wait_is(rt, alloc, less, row);
+}
+
 /// Sets are chosen where the automaton has passed by as many bytes, and not before; where none are found, twice as many bytes later.
 #[test]
 fn sets_wait_for_bytes(rt: HostRuntime) {
     let alloc = rt.alloc();
-    let sample = calm(&rt, alloc, 1_102);
-    let vain = repeated(&rt, alloc, "лллллл\u{4E00}л", 80);
-    let much = calm(&rt, alloc, MUCH + 2);
-    let probe = amid(&rt, alloc, 200, "аб");
-    for (less, want) in [(0, 200), (1, all_of(&probe))] {
-        let last = (probe.as_bytes(), 1, want);
-        let bytes = (FIRST_WAIT - 1_100).saturating_sub(less);
-        rows_after(&rt, alloc, "абв", bytes, &sample, &[last], 0);
-        let rest = calm(&rt, alloc, (MUCH - 1_098).saturating_sub(less));
-        let rows = [all(&much, 15), all(&rest, 1), all(&sample, 1), last];
-        rows_after(&rt, alloc, "абв", FIRST_WAIT - 1_000, &vain, &rows, 0);
-    }
+    waits_are(&rt, alloc, 0, true);
+    waits_are(&rt, alloc, 1, false);
 }
 
 /// Characters of two bytes of which none has another's leading byte, and none stops.
@@ -289,39 +313,59 @@ fn leads(rt: &impl Abort, alloc: Global, from: usize, count: usize, before: usiz
     text
 }
 
+/// Compares whether sets are chosen by a sample.
+fn sample_is(rt: &impl Abort, alloc: Global, sample: &str, is_chosen: bool) {
+    let probe = amid(rt, alloc, 200, "аб");
+    let want = probe_len(&probe, is_chosen);
+    probe_is(rt, alloc, "абв", sample, &probe, want);
+}
+
+/// Compares it of a calm sample of so many bytes.
+fn length_is(rt: &impl Abort, alloc: Global, len: usize, is_chosen: bool) {
+    sample_is(rt, alloc, &calm(rt, alloc, len), is_chosen);
+}
+
+/// Compares it of a sample of which so many blocks halt.
+fn halts_are(rt: &impl Abort, alloc: Global, halts: usize, is_chosen: bool) {
+    let mut sample = leads(rt, alloc, 1, halts, 30);
+    put(rt, &mut sample, &calm(rt, alloc, SAMPLE));
+    sample_is(rt, alloc, &sample, is_chosen);
+}
+
+/// Compares it of a sample that has so many leading bytes.
+fn leads_are(rt: &impl Abort, alloc: Global, count: usize, is_chosen: bool) {
+    let all = leads(rt, alloc, 0, count, 0);
+    sample_is(rt, alloc, &repeated(rt, alloc, &all, 70), is_chosen);
+}
+
 /// Sets are chosen by a text that is long enough, where few of its blocks halt, and it has few leading bytes.
 #[test]
 fn sets_are_chosen_by_a_sample(rt: HostRuntime) {
     let alloc = rt.alloc();
-    let probe = amid(&rt, alloc, 200, "аб");
-    for (len, want) in [(SAMPLE - 1, all_of(&probe)), (SAMPLE, 200)] {
-        let sample = calm(&rt, alloc, len);
-        probe_is(&rt, alloc, "абв", &sample, &probe, want);
-    }
-    for (halts, want) in [(4, 200), (5, all_of(&probe))] {
-        let mut sample = leads(&rt, alloc, 1, halts, 30);
-        put(&rt, &mut sample, &calm(&rt, alloc, SAMPLE));
-        probe_is(&rt, alloc, "абв", &sample, &probe, want);
-    }
-    for (count, want) in [(8, 200), (9, all_of(&probe))] {
-        let all = leads(&rt, alloc, 0, count, 0);
-        let sample = repeated(&rt, alloc, &all, 70);
-        probe_is(&rt, alloc, "абв", &sample, &probe, want);
-    }
+    length_is(&rt, alloc, SAMPLE - 1, false);
+    length_is(&rt, alloc, SAMPLE, true);
+    halts_are(&rt, alloc, 4, true);
+    halts_are(&rt, alloc, 5, false);
+    leads_are(&rt, alloc, 8, true);
+    leads_are(&rt, alloc, 9, false);
+}
+
+/// Compares how much passes by behind a sample that has a leading byte so many times.
+fn seldom_is(rt: &impl Abort, alloc: Global, count: usize, want: usize) {
+    let mut probe = amid(rt, alloc, 100, "\u{575}");
+    put(rt, &mut probe, &amid(rt, alloc, 0, "аб"));
+    let one = amid(rt, alloc, 0, "\u{575}");
+    let mut sample = repeated(rt, alloc, &one, count);
+    put(rt, &mut sample, &calm(rt, alloc, SAMPLE));
+    probe_is(rt, alloc, "абв", &sample, &probe, want);
 }
 
 /// A leading byte that a sample has four times halts; one that it has five times does not.
 #[test]
 fn seldom_leading_bytes_halt(rt: HostRuntime) {
     let alloc = rt.alloc();
-    let mut probe = amid(&rt, alloc, 100, "\u{575}");
-    put(&rt, &mut probe, &amid(&rt, alloc, 0, "аб"));
-    for (count, want) in [(4, 100), (5, 204)] {
-        let one = amid(&rt, alloc, 0, "\u{575}");
-        let mut sample = repeated(&rt, alloc, &one, count);
-        put(&rt, &mut sample, &calm(&rt, alloc, SAMPLE));
-        probe_is(&rt, alloc, "абв", &sample, &probe, want);
-    }
+    seldom_is(&rt, alloc, 4, 100);
+    seldom_is(&rt, alloc, 5, 204);
 }
 
 /// Letters that make a pattern.
@@ -350,49 +394,74 @@ fn other_keys(rt: &impl Abort, alloc: Global, count: usize, but: usize) -> Strin
     text
 }
 
+/// Compares whether a place is found of a pattern of so many keys: that of two keys that no other text of the sample has.
+fn place_is(rt: &impl Abort, alloc: Global, count: usize, place: usize, is_found: bool) {
+    let others = other_keys(rt, alloc, count, place);
+    let sample = repeated(rt, alloc, &others, 14);
+    let probe = amid(rt, alloc, 200, &keys(rt, alloc, place, 2));
+    let want = probe_len(&probe, is_found);
+    probe_is(rt, alloc, &keys(rt, alloc, 0, count), &sample, &probe, want);
+}
+
 /// The place of the pattern is the one at which the fewest blocks of the sample halt, of the first eight.
 #[test]
 fn eight_places_are_tried(rt: HostRuntime) {
     let alloc = rt.alloc();
-    for (count, place, is_found) in [(8, 6, true), (9, 7, true), (10, 7, true), (10, 8, false)] {
-        let sought = keys(&rt, alloc, 0, count);
-        let others = other_keys(&rt, alloc, count, place);
-        let sample = repeated(&rt, alloc, &others, 14);
-        let probe = amid(&rt, alloc, 200, &keys(&rt, alloc, place, 2));
-        let want = if is_found { 200 } else { all_of(&probe) };
-        probe_is(&rt, alloc, &sought, &sample, &probe, want);
-    }
+    place_is(&rt, alloc, 8, 6, true);
+    place_is(&rt, alloc, 9, 7, true);
+    place_is(&rt, alloc, 10, 7, true);
+    place_is(&rt, alloc, 10, 8, false);
+}
+
+/// Compares how much passes by of a text with a match behind so many bytes, and of a calm one of as many.
+fn short_is(rt: &impl Abort, alloc: Global, len: usize) {
+    let text = amid(rt, alloc, len, "аб");
+    let want = if len < WORTH { all_of(&text) } else { len };
+    let short = calm(rt, alloc, len);
+    rows_with_sets(rt, alloc, &[(text.as_bytes(), 1, want), all(&short, 1)], 0);
 }
 
 /// Fewer than 32 bytes are left to the automaton, or to what passes by characters one by one.
 #[test]
 fn few_bytes_do_not_pay(rt: HostRuntime) {
-    let alloc = rt.alloc();
-    for len in [17, 18, 31, 32, 33, 34] {
-        let text = amid(&rt, alloc, len, "аб");
-        let want = if len < WORTH { all_of(&text) } else { len };
-        let short = calm(&rt, alloc, len);
-        rows_with_sets(&rt, alloc, &[(text.as_bytes(), 1, want), all(&short, 1)], 0);
+    for len in &[17, 18, 31, 32, 33, 34] {
+        short_is(&rt, rt.alloc(), *len);
     }
 }
 
 /// The most bytes that blocks pass by at once.
 const MOST: usize = 8_192;
 
+/// How many more bytes a text has, and how many pass at once.
+const AT_ONCE: [(usize, usize); 5] = [
+    (0, MOST - 2),
+    (1, MOST - 1),
+    (2, MOST),
+    (3, MOST - 1),
+    (4, MOST),
+];
+
+/// Compares how much passes by of a calm text.
+fn calm_is(rt: &impl Abort, alloc: Global, len: usize, want: usize) {
+    let text = calm(rt, alloc, len);
+    rows_with_sets(rt, alloc, &[(text.as_bytes(), 1, want)], 0);
+}
+
 /// At most 8,192 bytes pass at once, up to the end of a character.
 #[test]
 fn blocks_of_two_bytes_pass_so_much_at_once(rt: HostRuntime) {
-    let alloc = rt.alloc();
-    for (more, want) in [
-        (0, MOST - 2),
-        (1, MOST - 1),
-        (2, MOST),
-        (3, MOST - 1),
-        (4, MOST),
-    ] {
-        let text = calm(&rt, alloc, MOST + more);
-        rows_with_sets(&rt, alloc, &[(text.as_bytes(), 1, want)], 0);
+    for (more, want) in &AT_ONCE {
+        calm_is(&rt, rt.alloc(), MOST.saturating_add(*more), *want);
     }
+}
+
+/// Compares how much passes by of a text with a match behind so many keys of the pattern.
+fn way_back_is(rt: &impl Abort, alloc: Global, count: usize, is_found: bool) {
+    let mut own = repeated(rt, alloc, "в", count);
+    put(rt, &mut own, "аб");
+    let text = amid(rt, alloc, 200, &own);
+    let want = probe_len(&text, is_found);
+    rows_with_sets(rt, alloc, &[(text.as_bytes(), 1, want)], 0);
 }
 
 /// The character behind which a text is left begins in the last 512 bytes that pass; where the pattern has all of those, the automaton goes
@@ -400,41 +469,54 @@ fn blocks_of_two_bytes_pass_so_much_at_once(rt: HostRuntime) {
 #[test]
 fn way_back_has_512_bytes(rt: HostRuntime) {
     let alloc = rt.alloc();
-    for (count, is_found) in [(0, true), (253, true), (254, false)] {
-        let mut own = repeated(&rt, alloc, "в", count);
-        put(&rt, &mut own, "аб");
-        let text = amid(&rt, alloc, 200, &own);
-        let want = if is_found { 200 } else { all_of(&text) };
-        rows_with_sets(&rt, alloc, &[(text.as_bytes(), 1, want)], 0);
-    }
+    way_back_is(&rt, alloc, 0, true);
+    way_back_is(&rt, alloc, 253, true);
+    way_back_is(&rt, alloc, 254, false);
+}
+
+/// A calm text behind so many bytes of ASCII.
+fn behind_ascii(rt: &impl Abort, alloc: Global, len: usize) -> String {
+    let mut text = repeated(rt, alloc, "m", len);
+    put(rt, &mut text, &calm(rt, alloc, 200));
+    text
+}
+
+/// Compares how much passes by of a text, behind one that begins with so many bytes of ASCII: all, or those of ASCII.
+fn turn_is(rt: &impl Abort, alloc: Global, len: usize, is_all: bool) {
+    let calm_text = calm(rt, alloc, 200);
+    let near = behind_ascii(rt, alloc, len);
+    let probe = behind_ascii(rt, alloc, 40);
+    let last = (
+        probe.as_bytes(),
+        1,
+        if is_all { all_of(&probe) } else { 39 },
+    );
+    rows_with_sets(rt, alloc, &[all(&calm_text, 1), all(&near, 1), last], 0);
 }
 
 /// Where the first 256 bytes of what is passed by are of ASCII, blocks of ASCII come first then, and else those of two bytes.
 #[test]
 fn text_that_is_near_tells_the_turn(rt: HostRuntime) {
     let alloc = rt.alloc();
-    let calm_text = calm(&rt, alloc, 200);
-    let mut probe = repeated(&rt, alloc, "m", 40);
-    put(&rt, &mut probe, &calm_text);
-    for (len, want) in [(255, all_of(&probe)), (256, 39)] {
-        let mut near = repeated(&rt, alloc, "m", len);
-        put(&rt, &mut near, &calm_text);
-        let last = (probe.as_bytes(), 1, want);
-        rows_with_sets(&rt, alloc, &[all(&calm_text, 1), all(&near, 1), last], 0);
-    }
+    turn_is(&rt, alloc, 255, true);
+    turn_is(&rt, alloc, 256, false);
+}
+
+/// Compares whether sets are kept behind 63 texts of 98 bytes and one of so many.
+fn last_is(rt: &impl Abort, alloc: Global, len: usize, are_kept: bool) {
+    let text = calm(rt, alloc, 98);
+    let other = calm(rt, alloc, len);
+    let probe = amid(rt, alloc, 200, "аб");
+    let last = (probe.as_bytes(), 1, probe_len(&probe, are_kept));
+    rows_with_sets(rt, alloc, &[all(&text, 63), all(&other, 1), last], 0);
 }
 
 /// Sets are kept where 64 texts have 96 bytes each that are passed by, one with the other.
 #[test]
 fn short_texts_end_sets(rt: HostRuntime) {
     let alloc = rt.alloc();
-    let text = calm(&rt, alloc, 98);
-    let probe = amid(&rt, alloc, 200, "аб");
-    for (len, want) in [(98, 200), (97, all_of(&probe))] {
-        let other = calm(&rt, alloc, len);
-        let last = (probe.as_bytes(), 1, want);
-        rows_with_sets(&rt, alloc, &[all(&text, 63), all(&other, 1), last], 0);
-    }
+    last_is(&rt, alloc, 98, true);
+    last_is(&rt, alloc, 97, false);
 }
 
 /// Blocks pass by as much as there is up to a byte that does not go on, of whatever length the text is.
@@ -444,17 +526,28 @@ fn blocks_of_two_bytes_pass_all(rt: HostRuntime) {
     holds(&rt, count > 600, &count);
 }
 
+/// Letters of which some are keys, and behind them two and three keys that follow one another, ten times.
+fn text_of_keys(rt: &impl Abort, alloc: Global) -> String {
+    let mut text = repeated(rt, alloc, "аде жз ", 40);
+    put(rt, &mut text, "бва авг ");
+    repeated(rt, alloc, &text, 10)
+}
+
+/// Compares how much passes by of it, before and after the automaton has passed by much.
+fn keys_are(rt: &impl Abort, alloc: Global, table: &Table) {
+    let pattern = compile(rt, alloc, table, ("бвг", ONE, KEPT));
+    let text = text_of_keys(rt, alloc);
+    let before = [(text.as_bytes(), 107, text.len().saturating_sub(5))];
+    let rows = [(text.as_bytes(), 24, 480)];
+    rows_are(rt, alloc, table, &pattern, &before, &rows, 0);
+}
+
 /// By moves of the automaton two keys of three are passed by, which stop the blocks. Once the automaton has passed by much, characters of
 /// two bytes go in blocks, up to a place where two keys follow one another, also where letters have several keys.
 #[test]
 fn characters_of_two_bytes_pass_in_blocks(rt: HostRuntime) {
     let alloc = rt.alloc();
     let table = table_of(&rt, alloc, TABLE, None);
-    let pattern = compile(&rt, alloc, &table, ("бвг", ONE, KEPT));
-    let mut text = repeated(&rt, alloc, "аде жз ", 40);
-    put(&rt, &mut text, "бва авг ");
-    let text = repeated(&rt, alloc, &text, 10);
-    let before = [(text.as_bytes(), 107, text.len().saturating_sub(5))];
-    let rows = [(text.as_bytes(), 24, 480)];
-    rows_are(&rt, alloc, &table, &pattern, &before, &rows, 0);
+    keys_are(&rt, alloc, &table);
+    drop(table);
 }

@@ -139,16 +139,19 @@ fn compare_span(rt: &impl Abort, ways: &mut Ways<'_>, case: Case<'_>, span: (usi
 /// Compares pieces of each length of a text, of which the first one is so long that guesses are made.
 fn compare_spans(rt: &impl Abort, alloc: Global, table: &Table, pattern: &Pattern, case: Case<'_>) {
     let mut ways = ways_of(rt, alloc, table, pattern);
-    for span in SPANS {
-        compare_span(rt, &mut ways, case, span);
+    for span in &SPANS {
+        compare_span(rt, &mut ways, case, *span);
     }
+    drop(ways);
 }
 
 #[test]
 fn long_pieces_pass_as_much_as_short_ones(rt: HostRuntime) {
-    let table = table_of(&rt, rt.alloc(), TABLE, None);
-    let pattern = compile(&rt, rt.alloc(), &table, ("aab", ONE, KEPT));
-    for case in CASES {
-        compare_spans(&rt, rt.alloc(), &table, &pattern, case);
+    let alloc = rt.alloc();
+    let table = table_of(&rt, alloc, TABLE, None);
+    let pattern = compile(&rt, alloc, &table, ("aab", ONE, KEPT));
+    for case in &CASES {
+        compare_spans(&rt, alloc, &table, &pattern, *case);
     }
+    drop(table);
 }
