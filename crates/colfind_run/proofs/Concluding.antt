@@ -99,3 +99,13 @@ pub at_most_one : (end : TextEnd) → failures_of end ≤ 1
 at_most_one Good = omega arith
 at_most_one (Fault f) = omega arith
 at_most_one (Unread k) = omega arith
+
+-- so many failures more, where what counts them is known
+pub added : (a b k m : ℕ) → b ≡ a + k → m ≡ k → b ≡ a + m
+added a b k m e n = omega (arith, e, n)
+
+pub none_added : (a b k : ℕ) → b ≡ a + k → k ≡ 0 → b ≡ a
+none_added a b k e n = omega (arith, e, n)
+
+pub one_added : (a b k m : ℕ) → b ≡ a + k → m ≡ k → m ≤ 1 → (a ≤ b) × (b ≤ a + 1)
+one_added a b k m e n most = (omega (arith, e), omega (arith, e, n, most))

@@ -39,6 +39,15 @@ impl<'a> Folder for MemoryFolder<'a> {
     }
 }
 
+/// The three files.
+fn three_files() -> MemoryFolder<'static> {
+    MemoryFolder {
+        table: TABLE.as_bytes(),
+        tailor: b"0062 ; [.1C00.0020.0002]",
+        text: b"aab",
+    }
+}
+
 /// Compares what the words give over the three files, and an input that is one `a`.
 fn compare<'a>(
     rt: &impl Abort,
@@ -47,14 +56,9 @@ fn compare<'a>(
     wanted: Result<u64, Stop>,
     printed: &str,
 ) {
-    let folder = MemoryFolder {
-        table: TABLE.as_bytes(),
-        tailor: b"0062 ; [.1C00.0020.0002]",
-        text: b"aab",
-    };
     let mut input = MemorySource::new(b"a", 1);
     let mut out = MemoryTarget::new(alloc);
-    let answer = count_matches(&folder, alloc, words, &mut input, &mut out);
+    let answer = count_matches(&three_files(), alloc, words, &mut input, &mut out);
     same(rt, &answer, &wanted);
     bytes_are(rt, out.bytes(), printed.as_bytes());
 }

@@ -1,9 +1,9 @@
-use Rattle.std.proofs.Common.{◌∙◌, ◌++◌, [], ℕ, List, sym, ap, subst, arith}
+use Rattle.std.proofs.Common.{◌∙◌, ◌++◌, [], ℕ, List, sym, ap, subst}
 use Rattle.colfind_io.specs.Gathering.{Prints}
 use Rattle.colfind_run.specs.Patterns.{answer_to, settled_in}
 use Rattle.collation_matches.specs.Sought as looked_for
 use Rattle.colfind_run.specs.declared.run.TextEnd.TheVariants.{Good, Fault, Unread}
-use Rattle.colfind_run.proofs.Concluding.{at_most_one, concluded, compiled_from, unwritten, no_failure, one_failure}
+use Rattle.colfind_run.proofs.Concluding.{added, none_added, one_added, at_most_one, concluded, compiled_from, unwritten, no_failure, one_failure}
 use Rattle.colfind_run.proofs.Runs.{prints_all, prints_to_fault, prints_settled, prints_prefix, at_err, at_ok}
 use Rattle.colfind_run.proofs.run.run_with.Goals as goal
 
@@ -45,7 +45,7 @@ returns-then-is_err-clause-write_failure g c = λ _ p compiled.
     let count = c.in-Ok-search_text.ensures.count in
     let ends = c.close-end.ensures.count in
     prints_prefix (answer_to c.args.select table p pattern) (settled_in c.args.select table p pattern) c.args.form _ _ c.close-end.result ranges _ _ held _
-    (omega (arith, count, ends)) all.finds prefix
+    (added _ _ _ _ count ends) all.finds prefix
 
 pub returns-then-is_err-clause-failures : goal.returns-then-is_err-clause-failures
 returns-then-is_err-clause-failures g c =
@@ -62,10 +62,10 @@ returns-then-is_err-clause-failures g c =
     c.as_slice.ensures.value (c.put_all.ensures.prints c.args.form searched.handed held failures printed) in
     let count = c.in-Ok-search_text.ensures.count in
     let ends = c.close-end.ensures.count in
-    let most = at_most_one c.close-end.result in
+    let within = one_added _ _ _ _ count ends (at_most_one c.close-end.result) in
     let wrote = c.finish.ensures.count c.args.form ranges held failures prints in
     let one = one_failure c.finish.result c.if-is_err.ensures.value in
-    (omega (arith, count), omega (arith, count, ends, most), omega (arith, wrote, one))
+    (within.0, within.1, added _ _ _ 1 wrote (sym one))
 
 pub returns-in-Good-clause-done : goal.returns-in-Good-clause-done
 returns-in-Good-clause-done g c = λ p compiled.
@@ -103,7 +103,7 @@ returns-in-Good-clause-failures g c =
     let ends = c.in-Good.ensures.count in
     let wrote = c.finish.ensures.count c.args.form ranges held failures prints in
     let none = no_failure c.finish.result c.if-is_err.ensures.value in
-    (omega (arith, count, ends), omega (arith, wrote, none))
+    (none_added _ _ _ count (sym ends), none_added _ _ _ wrote none)
 
 pub returns-in-Fault-clause-text_fault : goal.returns-in-Fault-clause-text_fault
 returns-in-Fault-clause-text_fault g c = λ p compiled.
@@ -140,7 +140,7 @@ returns-in-Fault-clause-failures g c =
     let ends = c.in-Fault.ensures.count in
     let wrote = c.finish.ensures.count c.args.form ranges held failures prints in
     let none = no_failure c.finish.result c.if-is_err.ensures.value in
-    (omega (arith, count, ends), omega (arith, wrote, none))
+    (none_added _ _ _ count (sym ends), none_added _ _ _ wrote none)
 
 pub returns-in-Unread-clause-read_failure : goal.returns-in-Unread-clause-read_failure
 returns-in-Unread-clause-read_failure g c = λ p compiled.
@@ -177,7 +177,7 @@ returns-in-Unread-clause-failures g c =
     let ends = c.in-Unread.ensures.count in
     let wrote = c.finish.ensures.count c.args.form ranges held failures prints in
     let none = no_failure c.finish.result c.if-is_err.ensures.value in
-    (omega (arith, count, ends), omega (arith, wrote, none))
+    (added _ _ _ 1 count ends, none_added _ _ _ wrote none)
 
 pub returns-in-Fault-clause-done : goal.returns-in-Fault-clause-done
 returns-in-Fault-clause-done g c = tt
