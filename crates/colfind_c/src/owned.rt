@@ -8,7 +8,7 @@ ghost use Rattle.collation_search.specs.Parking.{IsFor, parked_select};
 
 use crate::queue::Queue;
 use collation_pattern::Pattern;
-use collation_search::{Parked, Select};
+use collation_search::{Found, Parked, Select};
 use collation_table::Table;
 use std::sync::Arc;
 
@@ -27,6 +27,8 @@ pub struct Session {
     /// The search, until it was finished or stopped.
     pub(crate) parked: Option<Parked>,
     pub(crate) queue: Queue,
+    /// Room for the ranges of a piece, used again and again.
+    pub(crate) found: Box<Found>,
     ghost fits: { ForSome parked (λ p.
         IsFor (table_of (arc_value query)) (arc_value query).pattern p
         × (parked_select p ≡ select)) },

@@ -20,59 +20,62 @@ use utf8_cut::whole_characters_are_the_longest_text;
 /// each it looks for the fastest way to pass text by.
 const CHUNK: usize = 4096;
 
-/// Feeds bytes to a search, and puts the ranges that became known into the queue.
+/// Feeds bytes to a search, and puts the ranges that became known into the queue. `found` is room that it uses.
 fn search_chunk<'a, W: Weights>(
     search: &mut Search<'a, W>,
     chunk: &[u8],
+    found: &mut Found,
     queue: &mut Queue,
 ) -> Result<(), TextFault>
-    ensures fed { (found : List (ℕ × ℕ)) × Feeds search.old chunk.now result found search.new
-        × Gets queue.old found queue.new }
+    ensures fed { (ranges : List (ℕ × ℕ)) × Feeds search.old chunk.now result ranges search.new
+        × Gets queue.old ranges queue.new }
 {
-    search.feed(chunk, &mut |start, end| queue.put(start, end))
+    search.feed_with(chunk, found, &mut |start, end| queue.put(start, end))
 }
 
-/// Feeds a piece to a search, and puts the ranges that became known into the queue.
+/// Feeds a piece to a search, and puts the ranges that became known into the queue. `found` is room that it uses.
 fn search_piece<'a, W: Weights>(
     search: &mut Search<'a, W>,
     piece: &[u8],
+    found: &mut Found,
     queue: &mut Queue,
 ) -> Result<(), TextFault>
-    ensures fed { (found : List (ℕ × ℕ)) × GoesOn search.old piece.now result found search.new
-        × Gets queue.old found queue.new }
+    ensures fed { (ranges : List (ℕ × ℕ)) × GoesOn search.old piece.now result ranges search.new
+        × Gets queue.old ranges queue.new }
 {
     let mut rest = piece;
     while rest.len() > CHUNK {
         let (chunk, later) = rest.split_at(CHUNK);
-        match search_chunk(search, chunk, queue) {
+        match search_chunk(search, chunk, found, queue) {
             Ok(()) => rest = later,
             Err(fault) => return Err(fault),
         }
     }
-    search_chunk(search, rest, queue)
+    search_chunk(search, rest, found, queue)
 }
 
-/// Feeds a piece to a search that was put away, and puts the ranges that became known into the queue.
+/// Feeds a piece to a search that was put away, and puts the ranges that became known into the queue. `found` is room that it uses.
 pub(crate) fn feed_parked<W: Weights>(
     table: &W,
     pattern: &Pattern,
     parked: Parked,
     piece: &[u8],
+    found: &mut Found,
     queue: &mut Queue,
 ) -> (Result<(), TextFault>, Parked)
     requires fits { IsFor (W.table table.now) pattern.now parked }
     ensures fits { IsFor (W.table table.now) pattern.now result.1 }
     ensures select { parked_select result.1 ≡ parked_select parked }
-    ensures fed { (found : List (ℕ × ℕ))
+    ensures fed { (ranges : List (ℕ × ℕ))
         × FeedsParked
         (seeking (W.table table.now) pattern.now (parked_select parked))
-        parked piece.now result.0 found result.1
-        × Gets queue.old found queue.new }
+        parked piece.now result.0 ranges result.1
+        × Gets queue.old ranges queue.new }
 {
     let mut search = parked.unpark(table, pattern);
     whole_characters_are_the_longest_text();
     search.has_handed_out();
-    let fed = search_piece(&mut search, piece, queue);
+    let fed = search_piece(&mut search, piece, found, queue);
     search.has_handed_out();
     (fed, search.park())
 }

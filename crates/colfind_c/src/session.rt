@@ -4,7 +4,7 @@ use crate::outcome::Outcome;
 use crate::owned::{Query, Session};
 use crate::parked::{feed_parked, finish_parked, first_parked, save_parked, stop_parked};
 use crate::queue::{Queue, Range};
-use collation_search::{MOST_FOUND, Search, Select, StateFault};
+use collation_search::{Found, MOST_FOUND, Search, Select, StateFault};
 use std::alloc::{AllocError, Global};
 use std::mem::replace;
 use std::sync::Arc;
@@ -16,6 +16,11 @@ const PART_LEN: usize = 65536;
 /// Those that were held back end at one of the last 94 code points before the piece, and these have
 /// 382 bytes at most, with those of a character that is cut on both sides.
 const MOST_LATE: usize = 383;
+
+/// Room for the ranges of a piece.
+fn empty_room(alloc: Global) -> Result<Box<Found>, AllocError> {
+    Ok(Box::new(alloc, Found::new())?)
+}
 
 impl Session {
     ghost use Rattle.std.specs.Prelude.{◌≡◌, ◌≤◌, [], length, IfOk, IfErr, IsSome};
@@ -46,6 +51,7 @@ impl Session {
             select,
             parked: Some(parked),
             queue: Queue::new(alloc),
+            found: empty_room(alloc)?,
         })
     }
 
@@ -85,6 +91,7 @@ impl Session {
             &query.pattern,
             parked,
             part,
+            &mut *self.found,
             &mut self.queue,
         );
         if self.queue.lost {
@@ -201,6 +208,7 @@ impl Session {
             select,
             parked: Some(parked),
             queue: Queue::new(alloc),
+            found: empty_room(alloc)?,
         })
     }
 

@@ -231,14 +231,14 @@ ends-rest table p ps first starter ends = λ more.
     sym (ap (λ (c : Cut). c.unit ∷ units table c.rest) (cut-early table p ps first more starter ends)) ∙ sym (units-cons table p (ps ++ first ∷ more)) ∙ ends more ∙ ap (λ us. us ++ units table (first ∷ more)) (units-cons table p ps) in
     cc
 
-decided-early : (table : TableMap) (p : Point) (ps : List Point) (first : Point) (later : List Point) → is_starter first ≡ true → EndsAt table (p ∷ ps) first → longest_mapped table ≤ length (first ∷ later) → begins_decided table (p ∷ (ps ++ first ∷ later)) ≡ true
+decided-early : (table : TableMap) (p : Point) (ps : List Point) (first : Point) (later : List Point) → is_starter first ≡ true → EndsAt table (p ∷ ps) first → longest_mapped table ≤ suc (length (first ∷ later)) → begins_decided table (p ∷ (ps ++ first ∷ later)) ≡ true
 decided-early table p ps first later starter ends long =
     let n = prefix_length table (p ∷ (ps ++ first ∷ later)) in
     decided-from table (p ∷ (ps ++ first ∷ later)) (omega (arith, long, length-append ps (first ∷ later)))
     (ap (list_any is_starter) (drop-append-le n (p ∷ ps) (first ∷ later) (fits table p ps first later ends))
     ∙ list_any-after (drop n (p ∷ ps)) (first ∷ later) (or_left (is_starter first) (list_any is_starter later) starter))
 
-early-within : (n : ℕ) (table : TableMap) (early : List Point) (first : Point) (later : List Point) → length early ≤ n → is_starter first ≡ true → EndsAt table early first → longest_mapped table ≤ length (first ∷ later) →
+early-within : (n : ℕ) (table : TableMap) (early : List Point) (first : Point) (later : List Point) → length early ≤ n → is_starter first ≡ true → EndsAt table early first → longest_mapped table ≤ suc (length (first ∷ later)) →
     left_points table (early ++ first ∷ later) ≡ left_points table (first ∷ later)
 early-within n table [] first later few starter ends long = refl
 early-within zero table (p ∷ ps) first later few starter ends long = absurd (omega arith)
@@ -247,6 +247,6 @@ early-within (suc n) table (p ∷ ps) first later few starter ends long =
     ∙ ap (λ (c : Cut). left_points table c.rest) (cut-early table p ps first later starter ends)
     ∙ early-within n table (first_unit table p ps).rest first later (omega (arith, first_unit-shorter table p ps)) starter (ends-rest table p ps first starter ends) long
 
-pub early-made_good : (table : TableMap) (early : List Point) (first : Point) (later : List Point) → is_starter first ≡ true → EndsAt table early first → longest_mapped table ≤ length (first ∷ later) →
+pub early-made_good : (table : TableMap) (early : List Point) (first : Point) (later : List Point) → is_starter first ≡ true → EndsAt table early first → longest_mapped table ≤ suc (length (first ∷ later)) →
     left_points table (early ++ first ∷ later) ≡ left_points table (first ∷ later)
 early-made_good table early first later starter ends long = early-within (length early) table early first later (omega arith) starter ends long

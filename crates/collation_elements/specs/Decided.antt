@@ -1,5 +1,5 @@
 -- The units that are decided among the points of a text that are final so far: those that no point which follows can change.
-use Rattle.std.specs.Prelude.{◌≡◌, ◌≤◌, Bool, true, false, ◌&&◌, nat_le, List, [], ◌∷◌, ◌++◌, drop, length, if◌then◌else◌}
+use Rattle.std.specs.Prelude.{◌≡◌, suc, ◌≤◌, Bool, true, false, ◌&&◌, nat_le, List, [], ◌∷◌, ◌++◌, drop, length, if◌then◌else◌}
 use Rattle.std.specs.List.{list_any}
 use Rattle.nfd_points.specs.declared.points.Point.{Point}
 use Rattle.nfd_points.specs.Points.{is_starter}
@@ -58,10 +58,10 @@ DecidedUnitsStay =
     × (left_points table (ps ++ more) ≡ left_points table (left_points table ps ++ more))
 
 -- Units may be cut early, as if the text ended before a starter, where none reaches across it. Once as many points as the longest
--- mapped string has stand from the starter on, all these units are decided, so that the same points are left.
+-- mapped string has, or one fewer, stand from the starter on, all these units are decided, so that the same points are left.
 abbrev pub EarlyCutsAreMadeGood : Type 0
 EarlyCutsAreMadeGood =
     (table : TableMap) (early : List Point) (first : Point) (later : List Point) → is_starter first ≡ true →
     ((more : List Point) → units table (early ++ first ∷ more) ≡ units table early ++ units table (first ∷ more)) →
-    longest_mapped table ≤ length (first ∷ later) →
+    longest_mapped table ≤ suc (length (first ∷ later)) →
     left_points table (early ++ first ∷ later) ≡ left_points table (first ∷ later)

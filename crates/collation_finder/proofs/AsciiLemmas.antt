@@ -20,7 +20,7 @@ unfolding byte_len
 ascii-len [] ascii = refl
 ascii-len (b ∷ bs) ascii = let one = len_utf8_ascii b (ascii 0) in let rest = ascii-len bs (λ i. ascii (suc i)) in omega (arith, one, rest)
 
-ascii-one : (b : ℕ) → b < 128 → IsAscii (b ∷ [])
+pub ascii-one : (b : ℕ) → b < 128 → IsAscii (b ∷ [])
 ascii-one b less zero = less
 ascii-one b less (suc i) = omega arith
 
@@ -36,17 +36,18 @@ unfolding byte_len
 one-len b = omega arith
 
 -- the points of one byte more
+pub points-push : AsciiIsItself → PointsOfParts → (start : ℕ) (bs : List ℕ) (n b : ℕ) → length bs ≡ n → IsAscii bs → b < 128 → points_from start (bs ++ b ∷ []) ≡ points_from start bs ++ ascii_point (start + n) b ∷ []
+points-push itself parts start bs n b count ascii last =
+    let bytes = ascii-len bs ascii in
+    let len : byte_len bs ≡ n = omega (arith, bytes, count) in
+    parts start bs (b ∷ []) ∙ ap (λ (t : List Point). points_from start bs ++ t) (ap (λ k. points_from (start + k) (b ∷ [])) len ∙ from_one (start + n) b ∙ itself (start + n) b last)
+
 pub points-more : AsciiIsItself → PointsOfParts → (start : ℕ) (piece : List ℕ) (n : ℕ) → n < length piece → IsAscii (take n piece) → get_or piece n 0 < 128 →
     points_from start (take (n + 1) piece) ≡ points_from start (take n piece) ++ ascii_point (start + n) (get_or piece n 0) ∷ []
 points-more itself parts start piece n less ascii last =
-    let b = get_or piece n 0 in
-    let before = take n piece in
-    let count = length-take-le n piece (omega (arith, less)) in
-    let bytes = ascii-len before ascii in
-    let len : byte_len before ≡ n = omega (arith, bytes, count) in
     let there : n + 1 ≡ suc n = omega arith in
-    ap (λ k. points_from start (take k piece)) there ∙ ap (points_from start) (take-suc piece n 0 less) ∙ parts start before (b ∷ [])
-    ∙ ap (λ (t : List Point). points_from start before ++ t) (ap (λ k. points_from (start + k) (b ∷ [])) len ∙ from_one (start + n) b ∙ itself (start + n) b last)
+    ap (λ k. points_from start (take k piece)) there ∙ ap (points_from start) (take-suc piece n 0 less)
+    ∙ points-push itself parts start (take n piece) n (get_or piece n 0) (length-take-le n piece (omega (arith, less))) ascii last
 
 -- one starter makes no run
 pub short-one : AsciiIsSound → (start b : ℕ) → b < 128 → has_short_runs 0 (code_points (ascii_point start b ∷ [])) ≡ true

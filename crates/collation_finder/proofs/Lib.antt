@@ -7,3 +7,4 @@ pub mod PointLetters
 pub mod EarlyLemmas
 pub mod SkipSteps
 pub mod LoopSteps
+pub mod Untaken

@@ -11,12 +11,15 @@ use Rattle.collation_elements.specs.Units.{units}
 use Rattle.collation_pattern.specs.Compiled.{Compiled}
 use Rattle.collation_letters.specs.Apart.{IsNext}
 use Rattle.collation_walk.specs.declared.matching.Matcher.{Matcher}
-use Rattle.collation_finder.specs.Apart.{AreApart}
+use Rattle.collation_elements.specs.Windows.{Held}
+use Rattle.nfd_points.specs.Reordering.{Waiting}
+use Rattle.collation_finder.specs.Apart.{AreApart, IsPausedBefore}
 use Rattle.collation_walk.specs.Walked.{HasWalkedOn}
 use Rattle.collation_finder.specs.LetterRun.{AreNext, HasComeTo}
 use Rattle.collation_letters.specs.Laws.{LetterLaws}
 use Rattle.collation_finder.proofs.ApartLemmas.{apart-none, apart-more, units-apart, from_none}
-use Rattle.collation_finder.proofs.CharacterLemmas.{on-none, on-more, text-part, chars-len, spells-after}
+use Rattle.collation_finder.proofs.CharacterLemmas.{on-none, on-more, text-part, chars-len, chars-more, one_char, spells-after}
+use Rattle.collation_finder.proofs.PauseLemmas.{paused-on}
 
 -- nothing so far
 pub come-none : LetterLaws → (table : TableMap) (pattern : Compiled) (piece : List ℕ) (offset reach first : ℕ) (matcher : Matcher) → len_utf8 first ≤ length piece → SpellsCharacter (take (len_utf8 first) piece) first →
@@ -80,3 +83,30 @@ next-n table piece rest offset reach at c n next same near few within spelled te
       first = (first.0, ap chars (sym part) ∙ first.1);
       ends = subst (λ (t : List ℕ). IsNext table (offset + at) (chars t) next) part ends;
     }
+
+-- ---- behind a pause
+
+-- where it began at a pause, all units up to the character to which it came were cut
+pub come-paused : LetterLaws → (table : TableMap) (pattern : Compiled) (piece : List ℕ) (offset reach first at next : ℕ) (m m' : Matcher) (found : List (ℕ × ℕ)) (waiting : Waiting) (window : Held)
+    (taken : List ℕ) (ranges : List (ℕ × ℕ)) → HasComeTo table pattern piece offset reach first m m' at next found → IsPausedBefore table pattern waiting window m taken ranges first →
+    offset ≡ byte_len taken → IsPausedBefore table pattern waiting window m' (taken ++ chars (take at piece)) (ranges ++ found) next
+come-paused laws table pattern piece offset reach first at next m m' found waiting window taken ranges e paused place =
+    let cs = chars (take at piece) in
+    let run : AreApart table (byte_len taken) cs next = subst (λ k. AreApart table k cs next) place e.apart in
+    let on : HasWalkedOn table pattern m m' (units table (points_from (byte_len taken) cs)) found =
+    subst (λ k. HasWalkedOn table pattern m m' (units table (points_from k cs)) found) place e.walked in
+    paused-on laws table pattern waiting window m m' taken cs first next e.begun.0 ranges found e.begun.1 paused run on
+
+-- the character at a place of a piece
+pub last_spelled : (piece : List ℕ) (at n c : ℕ) → n ≡ len_utf8 c → SpellsCharacter (take (len_utf8 c) (drop at piece)) c → IsUtf8 (take n (drop at piece)) × (chars (take n (drop at piece)) ≡ c ∷ [])
+last_spelled piece at n c len spelled =
+    let one = one_char (take (len_utf8 c) (drop at piece)) c spelled in
+    (subst (λ k. IsUtf8 (take k (drop at piece))) (sym len) one.0, ap (λ k. chars (take k (drop at piece))) len ∙ one.1)
+
+-- with that character
+pub codes-on : (piece taken : List ℕ) (at n c : ℕ) → n ≡ len_utf8 c → IsUtf8 (take at piece) → SpellsCharacter (take (len_utf8 c) (drop at piece)) c →
+    (taken ++ chars (take at piece)) ++ c ∷ [] ≡ taken ++ chars (take (at + n) piece)
+codes-on piece taken at n c len text spelled =
+    let cs = chars (take at piece) in
+    append_assoc taken cs (c ∷ [])
+    ∙ ap (λ (t : List ℕ). taken ++ t) (sym (chars-more piece at n text ∙ ap (λ (t : List ℕ). cs ++ t) (last_spelled piece at n c len spelled).1))

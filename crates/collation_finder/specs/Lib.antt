@@ -5,3 +5,4 @@ pub mod Taking
 pub mod Apart
 pub mod LetterRun
 pub mod Caches
+pub mod ShortPiece

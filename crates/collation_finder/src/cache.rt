@@ -11,13 +11,13 @@ use std::alloc::{AllocError, Global};
 /// The most bytes that are walked over before text is passed by again, once some were not worth it.
 const MOST_HELD: usize = 256;
 
-/// The same where nothing was passed by: to find that out may take a look at much of what is left of a piece.
+/// The same where much of what was left of a piece was looked over in vain.
 const MOST_HELD_IN_VAIN: usize = 32_768;
 
-/// The fewest bytes that are walked over before text is passed by again.
-const FEWEST_HELD: usize = 1;
+/// How many times as many bytes are walked over then, at most, as were looked over.
+const TIMES_LOOKED: usize = 8;
 
-/// How many bytes that were passed by are so much that only the fewest are walked over next.
+/// How many bytes that were passed by are so much that none are walked over next.
 const MUCH: usize = 24;
 
 /// The most keys of a pattern for which letters are found from the first piece on.
@@ -32,7 +32,7 @@ const BY_STEPS: usize = 32_768;
 pub struct Cache {
     pub letters: Letters,
     pub skip: Skip,
-    /// How many bytes are walked over each time before text is passed by: few where that was worth it, more where it was not.
+    /// How many bytes are walked over each time before text is passed by: few or none where that was worth it, more where it was not.
     pub hold: usize,
     /// How many of these are left, counted from the front of what is taken by letters next.
     pub due: usize,
@@ -75,8 +75,8 @@ impl Cache {
         Ok(Cache {
             letters: Letters::for_long_patterns(alloc, table)?,
             skip: Skip::new(alloc),
-            hold: FEWEST_HELD,
-            due: FEWEST_HELD,
+            hold: 0,
+            due: 0,
             by_steps: if pattern.len() > MOST_KEYS {
                 BY_STEPS
             } else {
@@ -136,19 +136,26 @@ impl Cache {
     }
 }
 
-/// How many bytes are walked over before text is passed by again, where so many were before, and so many were passed by then: the fewest
-/// where these are much, a quarter as many where they were worth it, else twice as many.
+/// How many bytes are walked over before text is passed by again, where so many were before, and so many were passed by then: none where
+/// these are much, a quarter as many where they were worth it, else twice as many.
 fn held_after(hold: usize, passed: usize, was_worth_it: bool) -> usize {
     if passed >= MUCH {
-        FEWEST_HELD
-    } else if was_worth_it {
-        (hold / 4).max(FEWEST_HELD)
-    } else {
-        hold.saturating_mul(2).min(MOST_HELD)
+        return 0;
     }
+    let held = if was_worth_it { hold / 4 } else { twice(hold) };
+    held.min(MOST_HELD)
 }
 
-/// The same where nothing was passed by: twice as many, and at least as many as were looked over in vain.
-fn held_in_vain(hold: usize, looked: usize) -> usize {
-    hold.saturating_mul(2).max(looked).min(MOST_HELD_IN_VAIN)
+/// The same where nothing was passed by: twice as many, up to eight times as many as were looked over in vain, or `MOST_HELD`; and at least
+/// as many as these.
+pub(crate) fn held_in_vain(hold: usize, looked: usize) -> usize {
+    let most = looked
+        .saturating_mul(TIMES_LOOKED)
+        .clamp(MOST_HELD, MOST_HELD_IN_VAIN);
+    twice(hold).max(looked).min(most)
+}
+
+/// Twice as many bytes. Where it is none or one, one letter is walked over: so two come next.
+fn twice(hold: usize) -> usize {
+    hold.saturating_mul(2).max(2)
 }

@@ -78,6 +78,14 @@ pub(crate) fn walk_letters<W: Weights, F: FnMut(u64, u64)>(
     let mut c = from.next;
     let mut end = c.len_utf8();
     let mut letter = from.letter;
+    // the next character begins after `reach`: none is walked over
+    if reach < end {
+        return Walked {
+            len: 0,
+            next: c,
+            letter,
+        };
+    }
     let mut due = cache.due;
     'characters: loop {
         let Some((next, len)) = sized_character(&piece[end..]) else {

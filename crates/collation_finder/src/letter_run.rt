@@ -177,13 +177,16 @@ fn joins_next<W: Weights>(
 const MOST: usize = 65_536;
 
 impl Finder {
-    ghost use Rattle.std.specs.Prelude.{◌≡◌, ℕ, ◌+◌, ◌≤◌, List, length, take, false};
+    ghost use Rattle.std.specs.Prelude.{◌≡◌, ℕ, ◌+◌, ◌≤◌, List, [], ◌∷◌, length, take, true, false};
     ghost use Rattle.std.specs.Str.{IsUtf8};
     ghost use Rattle.std.specs.List.{FoldsTo};
+    ghost use Rattle.nfd_points.specs.Points.{points_of, begins_with_starter};
+    ghost use Rattle.collation_letters.specs.Letters.{IsLetter};
+    ghost use Rattle.collation_finder.specs.LetterRun.{StandsInFront};
     ghost use Rattle.collation_finder.specs.Caches.{AreRight};
     ghost use Rattle.collation_matches.specs.GoodPrefix.{most_bytes};
     ghost use Rattle.collation_finder.specs.Finding.{IsMadeFor, KeepsSetup};
-    ghost use Rattle.collation_finder.specs.Taking.{CutsWithin, TakesText};
+    ghost use Rattle.collation_finder.specs.Taking.{CutsAfresh, CutsWithin, TakesAfresh, TakesText};
 
     /// Takes characters at the front of a piece, which stands at a byte offset, and calls the sink once for each range that became
     /// known, in order. It answers how many bytes it took: those up to the first character that it can't take so, or that begins
@@ -232,7 +235,7 @@ impl Finder {
         len + more
     }
 
-    /// The same without the ASCII behind `reach`.
+    /// The same without the ASCII behind `reach`. A short piece may be passed by without a pause.
     fn take_to_reach<W: Weights, F: FnMut(u64, u64)>(
         &mut self,
         query: &Query<'_, W>,
@@ -263,6 +266,9 @@ impl Finder {
     {
         laws_of_characters();
         units_stay_apart();
+        if let Some(passed) = self.pass_short(query, cache, front) {
+            return self.take_short(query, cache, front, passed, found, sink);
+        }
         let Some(first) = first_character(front.piece) else {
             return 0;
         };
@@ -283,8 +289,47 @@ impl Finder {
             next: first,
             letter,
         };
+        self.go_on(query, cache, front, from, found, sink)
+    }
+
+    /// Goes on behind a pause with the characters at the front of a piece, of which the first is the
+    /// one that follows `from`. No unit reaches into it. It answers how many bytes it took.
+    pub(crate) fn go_on<W: Weights, F: FnMut(u64, u64)>(
+        &mut self,
+        query: &Query<'_, W>,
+        cache: &mut Cache,
+        front: Front<'_>,
+        from: Walked,
+        found: &mut Found,
+        sink: &mut F,
+    ) -> usize
+        requires open { self.old.window.has_ended ≡ false }
+        requires made { IsMadeFor (W.table query.now.table.now) query.now.pattern.now self.old }
+        requires right { AreRight (W.table query.now.table.now) query.now.pattern.now cache.old }
+        requires fits { front.offset + length front.piece.now ≤ most_bytes }
+        requires callable { F.IsAlwaysCallable sink.old }
+        requires none_waits { self.old.reorder.held ≡ [] }
+        requires first { StandsInFront front.piece.now from.next }
+        requires letter { IsLetter (W.table query.now.table.now) query.now.pattern.now
+            (from.next ∷ []) from.letter }
+        requires begins { begins_with_starter (points_of front.offset from.next) ≡ true }
+        ensures within { result ≤ length front.entry.piece.now }
+        ensures text { IsUtf8 (take result front.entry.piece.now) }
+        ensures taken { (ranges : List (ℕ × ℕ))
+            × FoldsTo (λ f range g. F.step f range.0 range.1 tt g) sink.old ranges sink.new
+            × TakesAfresh (W.table query.now.table.now) query.now.pattern.now self.old self.new
+            from.next front.entry.offset (take result front.entry.piece.now) ranges }
+        ensures left { CutsAfresh (W.table query.now.table.now) query.now.pattern.now
+            self.old self.new from.next front.entry.offset front.entry.reach
+            (take result front.entry.piece.now) }
+        ensures right { AreRight (W.table query.now.table.now) query.now.pattern.now cache.new }
+        ensures open { self.new.window.has_ended ≡ false }
+        ensures setup { KeepsSetup self.old self.new }
+        ensures callable { F.IsAlwaysCallable sink.new }
+    {
+        laws_of_characters();
         let walked = walk_letters(&mut self.matcher, query, cache, front, from, sink);
-        // these were walked over or passed by: what is left is counted from behind them
+        // these were walked over or passed by: what is left is counted from where letters go on
         cache.due = cache.due.saturating_sub(walked.len);
         let at = front.offset + walked.len as u64;
         found.clear();

@@ -18,6 +18,7 @@ mod letter_run;
 mod pausing;
 mod piece_end;
 mod resuming;
+mod short_piece;
 
 pub use crate::cache::Cache;
 pub use crate::finder::Finder;

@@ -191,6 +191,10 @@ impl Finder {
         if len == 0 {
             return;
         }
+        if len == self.window.len() {
+            self.window.clear();
+            return;
+        }
         move_points(&mut self.window, &mut self.given);
         push_points(&mut self.window, &self.given.as_slice()[len..]);
     }

@@ -61,7 +61,7 @@ one_byte u byte more = append_assoc u (byte ∷ []) more
 -- from the place up to which units may be cut early, enough characters that begin with a starter are left to the steps
 abbrev pub LeavesEnough : Sought → ℕ → List ℕ → Type 0
 LeavesEnough s reach piece =
-    (u : List ℕ) → is_good_so_far (u ++ piece) ≡ true → 0 < reach → max 2 (longest_mapped s.table) ≤ starters_from (length u + reach) (chars (whole (u ++ piece)))
+    (u : List ℕ) → is_good_so_far (u ++ piece) ≡ true → 0 < reach → max 2 (longest_mapped s.table) ≤ suc (starters_from (length u + reach) (chars (whole (u ++ piece))))
 
 module _ {W : Type 0} {G : Ghosts W} where
   -- nothing was taken yet

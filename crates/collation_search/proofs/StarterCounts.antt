@@ -1,7 +1,7 @@
 -- How many starters follow the place where units were cut early.
 use Rattle.std.specs.Char.{len_utf8}
 use Rattle.unicode_normalization.specs.Lookups.{canonical_combining_class}
-use Rattle.std.proofs.Common.{◌≡◌, ◌∙◌, ℕ, ◌+◌, ◌≤◌, Bool, true, false, cond, ◌&&◌, nat_le, List, [], ◌∷◌, ◌++◌, length, filter, refl, sym, ap, inl, inr, arith}
+use Rattle.std.proofs.Common.{◌≡◌, ◌∙◌, ℕ, suc, ◌+◌, ◌≤◌, Bool, true, false, cond, ◌&&◌, nat_le, List, [], ◌∷◌, ◌++◌, length, filter, refl, sym, ap, inl, inr, arith}
 use Rattle.std.proofs.lemmas.Bool.{cases_Bool, cond-true, cond-false, and_parts, and_from, false≢true, le-leb, leb-true}
 use Rattle.std.proofs.lemmas.Str.{len_utf8_bounds}
 use Rattle.utf8_cut.specs.Characters.{with_offsets}
@@ -142,7 +142,7 @@ enough-follow short place cs before first later early final =
 -- ---- what is left
 
 -- where enough starters follow the place, the points left are those of which no unit is decided
-pub made-good : DecompositionsAreShort → EarlyCutsAreMadeGood → (table : TableMap) (place : ℕ) (taken : List ℕ) (left : List Point) → longest_mapped table ≤ starters_from place taken →
+pub made-good : DecompositionsAreShort → EarlyCutsAreMadeGood → (table : TableMap) (place : ℕ) (taken : List ℕ) (left : List Point) → longest_mapped table ≤ suc (starters_from place taken) →
     IsCutUpTo table place taken left → left ≡ left_points table (final_points taken)
 made-good short law table place taken left enough (inl same) = same
 made-good short law table place taken left enough (inr e) =

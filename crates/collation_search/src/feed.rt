@@ -1,5 +1,5 @@
 //! A search that takes a piece of a text at once.
-ghost use Rattle.std.specs.Prelude.{◌≡◌, ℕ, ◌+◌, ◌<◌, ◌≤◌, max, List, ◌++◌, length, take, true};
+ghost use Rattle.std.specs.Prelude.{◌≡◌, ℕ, suc, ◌+◌, ◌<◌, ◌≤◌, max, List, ◌++◌, length, take, true};
 ghost use Rattle.std.specs.Char.{len_utf8};
 ghost use Rattle.std.specs.Str.{chars};
 ghost use Rattle.utf8_cut.specs.Sequences.{SpellsCharacter};
@@ -23,20 +23,20 @@ use utf8_cut::{
 };
 
 /// How far letters of a piece are taken, in bytes: up to one from which on as many characters that begin with a starter stand in the
-/// piece as the longest mapped string has code points. These come into the window, so that a search holds at the end of the piece
-/// what steps alone leave.
+/// piece as the longest mapped string has code points behind its first, and one at least. These come into the window, so that a search
+/// holds at the end of the piece what steps alone leave.
 fn reach<W: Weights>(query: &Query<'_, W>, letters: &mut Letters, piece: &[u8]) -> usize
     requires { AreLetters (W.table query.now.table.now) query.now.pattern.now letters.old }
     ensures right { AreLetters (W.table query.now.table.now) query.now.pattern.now letters.new }
     ensures enough { (u : List ℕ) → is_good_so_far (u ++ piece.now) ≡ true → 0 < result
-        → max 2 (longest_mapped (W.table query.now.table.now)) ≤ starters_from (length u + result)
-        (chars (whole (u ++ piece.now))) }
+        → max 2 (longest_mapped (W.table query.now.table.now))
+        ≤ suc (starters_from (length u + result) (chars (whole (u ++ piece.now)))) }
 {
     whole_characters_are_the_longest_text();
     text_may_stand_before();
     incomplete_sequences_begin_characters();
     let mut at = piece.len();
-    let mut left = query.longest_key.max(2);
+    let mut left = query.longest_key.max(2) - 1;
     while at > 0 && left > 0 {
         at -= 1;
         if starter_comes_first(query, letters, &piece[at..]) {
@@ -67,7 +67,7 @@ fn starter_comes_first<W: Weights>(
 }
 
 impl<'a, W: Weights> Search<'a, W> {
-    ghost use Rattle.std.specs.Prelude.{◌≡◌, ℕ, ◌+◌, ◌-◌, ◌<◌, ◌≤◌, max, List, [], ◌++◌, length, take, None, Ok, true};
+    ghost use Rattle.std.specs.Prelude.{◌≡◌, ℕ, suc, ◌+◌, ◌-◌, ◌<◌, ◌≤◌, max, List, [], ◌++◌, length, take, None, Ok, true};
     ghost use Rattle.std.specs.List.{FoldsTo};
     ghost use Rattle.std.specs.Str.{chars};
     ghost use Rattle.collation_table.specs.Table.{longest_mapped};
@@ -98,8 +98,13 @@ impl<'a, W: Weights> Search<'a, W> {
         self.feed_with(piece, &mut found, sink)
     }
 
-    /// The same with room for ranges that is given: a new one costs as much as some characters.
-    pub(crate) fn feed_with<F: FnMut(u64, u64)>(
+    /// The same with room for ranges that is given, and that serves many pieces: [`Search::feed`] makes it anew each time, which costs as
+    /// much as some characters. What it holds before and after is of no account.
+    ///
+    /// # Errors
+    ///
+    /// Those of [`Search::feed`].
+    pub fn feed_with<F: FnMut(u64, u64)>(
         &mut self,
         piece: &[u8],
         found: &mut Found,
@@ -138,8 +143,8 @@ impl<'a, W: Weights> Search<'a, W> {
         requires none { self.old.fault ≡ None }
         ensures taken { Takes self.old 0 [] (Ok tt) [] self.new }
         ensures enough { (u : List ℕ) → is_good_so_far (u ++ piece.now) ≡ true → 0 < result
-            → max 2 (longest_mapped (sought self.old).table) ≤ starters_from (length u + result)
-            (chars (whole (u ++ piece.now))) }
+            → max 2 (longest_mapped (sought self.old).table)
+            ≤ suc (starters_from (length u + result) (chars (whole (u ++ piece.now)))) }
         ensures counted { self.new.cache.value.by_steps
             ≡ self.old.cache.value.by_steps - length piece.now }
     {

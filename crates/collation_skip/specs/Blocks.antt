@@ -1,5 +1,5 @@
 -- Text of ASCII that a search passes in blocks of bytes: the classes of bytes, and what they say of their characters.
-use Rattle.std.specs.Prelude.{◌≡◌, ◌≢◌, ℕ, suc, ◌-◌, ◌<◌, ◌≤◌, min, Bool, false, List, [], ◌∷◌, ◌++◌, length, slice_get, Some}
+use Rattle.std.specs.Prelude.{◌≡◌, ◌≢◌, ℕ, suc, ◌-◌, ◌<◌, ◌≤◌, min, Bool, false, List, [], ◌∷◌, ◌++◌, length, slice_get, slice_index, Some}
 use Rattle.std.specs.Option.{ForSome}
 use Rattle.nfd_points.specs.Points.{points_from}
 use Rattle.byte_blocks.specs.Sets.{in_set}
@@ -15,7 +15,7 @@ use Rattle.collation_pattern.specs.Compiled.{Compiled}
 use Rattle.collation_letters.specs.declared.letter.Letter.{Letter}
 use Rattle.collation_letters.specs.declared.letter.Role.TheVariants.{Plain, Steps}
 use Rattle.collation_letters.specs.declared.symbols.TheConstants.{NO_SYMBOL}
-use Rattle.collation_letters.specs.Letters.{AreApart, AreClosed, IsPossible, is_mark}
+use Rattle.collation_letters.specs.Letters.{AreApart, AreClosed, IsClean, IsLetter, IsPossible, is_mark}
 use Rattle.collation_letters.specs.Symbols.{IsSymbol}
 use Rattle.collation_skip.specs.declared.ascii.AsciiBlocks.{AsciiBlocks}
 use Rattle.collation_skip.specs.declared.classes.Classes.{Classes}
@@ -91,3 +91,10 @@ pub record AreClassesRight (table : TableMap) (pattern : Compiled) (classes : Cl
 -- so are those that were chosen, if any were
 abbrev pub AreBlocksRight : TableMap → Compiled → AsciiBlocks → Type 0
 AreBlocksRight table pattern blocks = ForSome blocks.classes (AreClassesRight table pattern)
+
+-- ---- where the text may be left
+
+-- the character of ASCII that ends the first bytes of a piece, so many, is a cluster with a key that the pattern does not have
+abbrev pub EndsClean : TableMap → Compiled → List ℕ → ℕ → Type 0
+EndsClean table pattern piece end =
+    (letter : Letter) × IsLetter table pattern (slice_index piece (end - 1) ∷ []) letter × IsClean letter

@@ -18,7 +18,7 @@ pub struct AsciiBlocks {
     sample: usize,
     /// How many bytes came until then, counted again where they came again.
     seen: usize,
-    /// How many bytes were looked over the last time.
+    /// How many bytes were looked over the last time that none were passed by.
     pub(crate) looked: usize,
 }
 
@@ -60,7 +60,7 @@ impl AsciiBlocks {
         ensures passes { IfSome result
             (PassesTo (W.table table.now) pattern.now piece.now reach) }
     {
-        if self.sample < SAMPLE {
+        if self.sample < SAMPLE && piece.len() / 2 >= self.sample {
             self.choose(table, pattern, letters, piece);
         }
         let Some(classes) = &self.classes else {
@@ -99,8 +99,8 @@ impl AsciiBlocks {
         }
     }
 
-    /// Whether a place is chosen by a text of so many bytes: a long one, or where as many came in short ones and none is chosen.
+    /// Whether a place is chosen by a text of so many bytes: a long one, or where as many came in short ones.
     fn is_due(&self, len: usize) -> bool {
-        len >= SAMPLE || (self.sample == 0 && self.seen >= SAMPLE && len >= SHORTEST)
+        len >= SAMPLE || (self.seen >= SAMPLE && len >= SHORTEST)
     }
 }

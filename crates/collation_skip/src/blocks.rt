@@ -1,24 +1,26 @@
 //! Passes by text of ASCII sixteen bytes at a time, as long as no two neighbours may be part of a match.
-ghost use Rattle.std.specs.Prelude.{◌<◌, ◌≤◌, ◌∷◌, [], length, IfSome, slice_index};
-ghost use Rattle.collation_letters.specs.Letters.{IsClean, IsLetter};
+ghost use Rattle.std.specs.Prelude.{◌<◌, ◌≤◌, length, IfSome, slice_index};
 ghost use Rattle.collation_letters.specs.Store.{AreLetters};
-ghost use Rattle.collation_skip.specs.Blocks.{AreClassesRight};
+ghost use Rattle.collation_skip.specs.Blocks.{AreClassesRight, EndsClean};
 ghost use Rattle.collation_skip.specs.Passed.{PassesTo};
 
 use crate::classes::Classes;
 use crate::passed::Passed;
 use byte_blocks::passed_len;
 use collation_elements::{units_stay_apart, weighers_go_on};
-use collation_letters::{Letter, Letters, laws_of_characters, laws_of_symbols};
+use collation_letters::{Letters, laws_of_characters, laws_of_symbols};
 use collation_pattern::Pattern;
 use collation_table::Weights;
 
 /// In how many bytes at most, the last of those that pass, a character is looked for behind which the text may be left.
 const WAY_BACK: usize = 4_096;
 
+/// Where more bytes pass, and these have none, half as many are looked at in front of their half, and so on: the fewest that are.
+const FEWEST_BACK: usize = 256;
+
 /// Passes by text of ASCII at the front of a piece, where no key waits, by right classes: at most `reach` bytes, and to the end of a
-/// character with a key that the pattern does not have. `None` where it finds no such character behind which it may stop. `looked` becomes
-/// how many bytes it looked over.
+/// character with a key that the pattern does not have. `None` where it finds no such character behind which it may stop: `looked` is
+/// then how many bytes it looked over.
 pub(crate) fn pass_blocks<W: Weights>(
     table: &W,
     pattern: &Pattern,
@@ -39,13 +41,16 @@ pub(crate) fn pass_blocks<W: Weights>(
     units_stay_apart();
     weighers_go_on();
     let len = passed_len(&classes.sets, piece, piece.len().min(reach));
-    *looked = len;
-    let (start, _) = last_clean(table, pattern, letters, piece, followed_len(piece, len))?;
-    let next = piece[start + 1] as char;
+    let end = last_clean(table, pattern, letters, piece, followed_len(piece, len));
+    if end == 0 {
+        *looked = len;
+        return None;
+    }
+    let next = piece[end] as char;
     let letter = letters.letter(table, pattern, next);
     Some(Passed {
-        start,
-        end: start + 1,
+        start: end - 1,
+        end,
         next,
         letter,
     })
@@ -65,8 +70,8 @@ fn followed_len(piece: &[u8], len: usize) -> usize
     len.saturating_sub(1)
 }
 
-/// The last of the first `len` bytes of a piece, as far as it is looked for, whose character is a cluster with a key that the pattern does
-/// not have; and its letter.
+/// How many of the first `len` bytes of a piece there are up to the end of the last one, as far as it is looked for, whose character is a
+/// cluster with a key that the pattern does not have; 0 for none.
 #[inline(always)]
 fn last_clean<W: Weights>(
     table: &W,
@@ -74,14 +79,12 @@ fn last_clean<W: Weights>(
     letters: &mut Letters,
     piece: &[u8],
     len: usize,
-) -> Option<(usize, Letter)>
+) -> usize
     requires right { AreLetters (W.table table.now) pattern.now letters.old }
     requires len { len ≤ length piece.now }
     ensures right { AreLetters (W.table table.now) pattern.now letters.new }
-    ensures within { IfSome result (λ r. r.0 < len) }
-    ensures letter { IfSome result (λ r.
-        IsLetter (W.table table.now) pattern.now (slice_index piece.now r.0 ∷ []) r.1) }
-    ensures clean { IfSome result (λ r. IsClean r.1) }
+    ensures within { result ≤ len }
+    ensures clean { 0 < result → EndsClean (W.table table.now) pattern.now piece.now result }
 {
     if len > WAY_BACK {
         return last_clean_of_many(table, pattern, letters, piece, len);
@@ -89,8 +92,8 @@ fn last_clean<W: Weights>(
     last_clean_from(table, pattern, letters, piece, 0, len)
 }
 
-/// The same where there are many: looked for in the last of them, and then in as many in front of their half, for what they end with may be
-/// text in vain.
+/// The same where there are many. What they end with may be text in vain, so it is also looked for in front of their half, and of the half
+/// of these, in fewer and fewer bytes, of which none is looked at twice.
 #[inline(never)]
 fn last_clean_of_many<W: Weights>(
     table: &W,
@@ -98,23 +101,25 @@ fn last_clean_of_many<W: Weights>(
     letters: &mut Letters,
     piece: &[u8],
     len: usize,
-) -> Option<(usize, Letter)>
+) -> usize
     requires right { AreLetters (W.table table.now) pattern.now letters.old }
     requires len { len ≤ length piece.now }
     ensures right { AreLetters (W.table table.now) pattern.now letters.new }
-    ensures within { IfSome result (λ r. r.0 < len) }
-    ensures letter { IfSome result (λ r.
-        IsLetter (W.table table.now) pattern.now (slice_index piece.now r.0 ∷ []) r.1) }
-    ensures clean { IfSome result (λ r. IsClean r.1) }
+    ensures within { result ≤ len }
+    ensures clean { 0 < result → EndsClean (W.table table.now) pattern.now piece.now result }
 {
-    let first = len.saturating_sub(WAY_BACK);
-    let near = last_clean_from(table, pattern, letters, piece, first, len);
-    if near.is_some() {
-        return near;
+    let mut end = len;
+    let mut back = WAY_BACK;
+    while back >= FEWEST_BACK {
+        let first = end.saturating_sub(back);
+        let found = last_clean_from(table, pattern, letters, piece, first, end);
+        if found > 0 {
+            return found;
+        }
+        end = first.min(end / 2);
+        back /= 2;
     }
-    let half = len / 2;
-    let first = half.saturating_sub(WAY_BACK);
-    last_clean_from(table, pattern, letters, piece, first, half)
+    0
 }
 
 /// The same, looked for from byte `first` on.
@@ -126,22 +131,20 @@ fn last_clean_from<W: Weights>(
     piece: &[u8],
     first: usize,
     len: usize,
-) -> Option<(usize, Letter)>
+) -> usize
     requires right { AreLetters (W.table table.now) pattern.now letters.old }
     requires len { len ≤ length piece.now }
     ensures right { AreLetters (W.table table.now) pattern.now letters.new }
-    ensures within { IfSome result (λ r. r.0 < len) }
-    ensures letter { IfSome result (λ r.
-        IsLetter (W.table table.now) pattern.now (slice_index piece.now r.0 ∷ []) r.1) }
-    ensures clean { IfSome result (λ r. IsClean r.1) }
+    ensures within { result ≤ len }
+    ensures clean { 0 < result → EndsClean (W.table table.now) pattern.now piece.now result }
 {
     let mut end = len;
     while end > first {
-        end -= 1;
-        let letter = letters.letter(table, pattern, piece[end] as char);
+        let letter = letters.letter(table, pattern, piece[end - 1] as char);
         if letter.is_clean() {
-            return Some((end, letter));
+            return end;
         }
+        end -= 1;
     }
-    None
+    0
 }

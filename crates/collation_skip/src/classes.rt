@@ -26,7 +26,10 @@ pub(crate) struct Classes {
     pub(crate) sets: AsciiSets,
 }
 
-/// The classes for the place of the pattern at which the fewest blocks of a text halt; `None` where they are not known to be right.
+/// How many bytes of a short text are counted.
+const MOST_COUNTED: usize = 128;
+
+/// The classes for the place of the pattern at which the fewest stops are expected, by a text; `None` where they are not known to be right.
 pub(crate) fn classes_for<W: Weights>(
     table: &W,
     pattern: &Pattern,
@@ -44,13 +47,13 @@ pub(crate) fn classes_for<W: Weights>(
     }
     let places = (count - 1).min(MOST_PLACES);
     let mut best = classes_at(table, pattern, letters, 0);
-    let mut fewest = halts(&best, text);
+    let mut fewest = stops(&best, text);
     for place in 1..places {
         let classes = classes_at(table, pattern, letters, place);
-        let blocks = halts(&classes, text);
-        if blocks < fewest {
+        let expected = stops(&classes, text);
+        if expected < fewest {
             best = classes;
-            fewest = blocks;
+            fewest = expected;
         }
     }
     if are_right(table, pattern, letters, &best) {
@@ -107,6 +110,32 @@ fn add(classes: &mut Classes, byte: u8, kind: Kind)
     if kind.inner {
         put(&mut classes.sets.inner, byte);
     }
+}
+
+/// How many stops are expected, by a text, as far as two numbers can be compared. Of a long text the blocks that halt tell
+/// it. A short one has fewer: so it also tells how often each of two neighbours comes, and with it how often both meet by chance.
+fn stops(classes: &Classes, text: &[u8]) -> usize {
+    let blocks = halts(classes, text);
+    if text.len() >= SAMPLE {
+        return blocks;
+    }
+    let len = text.len().min(MOST_COUNTED);
+    let keys = count(&classes.sets.key, &text[..len]);
+    let later = count(&classes.sets.later, &text[..len]);
+    blocks
+        .saturating_mul(len)
+        .saturating_add(keys.saturating_mul(later))
+}
+
+/// How many bytes of a text are ASCII and in a set.
+fn count(set: &[u8; 16], text: &[u8]) -> usize {
+    let mut count = 0usize;
+    for byte in text {
+        if *byte < 128 && in_ascii(set, *byte) != 0 {
+            count = count.saturating_add(1);
+        }
+    }
+    count
 }
 
 /// How many blocks near the front of a text halt.

@@ -19,6 +19,8 @@ pub struct Skip {
     pub(crate) blocks: AsciiBlocks,
     pub(crate) sets: Option<TwoByteClasses>,
     pace: Pace,
+    /// How many bytes the sets looked over in the last call of `pass`, where they passed nothing by.
+    looked_by_sets: usize,
 }
 
 impl Skip {
@@ -38,6 +40,7 @@ impl Skip {
             blocks: AsciiBlocks::new(),
             sets: None,
             pace: Pace::new(),
+            looked_by_sets: 0,
         }
     }
 
@@ -58,6 +61,7 @@ impl Skip {
         ensures right { IsSkipRight (W.table table.now) pattern.now self.new }
         ensures letters { AreLetters (W.table table.now) pattern.now letters.new }
     {
+        self.looked_by_sets = 0;
         let by_sets = self.pass_by_sets(table, pattern, letters, piece, reach, true);
         if by_sets.is_some() {
             return by_sets;
@@ -88,9 +92,9 @@ impl Skip {
         self.pace.has_long_rest()
     }
 
-    /// How many bytes of ASCII the last `pass` looked over in blocks, where it passed nothing by: all of them in vain.
+    /// How many bytes at least the last `pass` looked over in vain, in blocks, where it passed nothing by.
     pub fn looked_over(&self) -> usize {
-        self.blocks.looked
+        self.blocks.looked.max(self.looked_by_sets)
     }
 
     /// Passes by text of characters of one and of two bytes in blocks, asked before blocks of ASCII (`first`) or after them. `None` where
@@ -119,7 +123,15 @@ impl Skip {
         let Some(sets) = &self.sets else {
             return None;
         };
-        let passed = pass_two_bytes(table, pattern, letters, sets, piece, reach);
+        let passed = pass_two_bytes(
+            table,
+            pattern,
+            letters,
+            sets,
+            piece,
+            reach,
+            &mut self.looked_by_sets,
+        );
         if !self.pace.after_sets(len_of(&passed)) {
             self.sets = None;
         }

@@ -20,7 +20,8 @@ const MOST: usize = 8_192;
 const WAY_BACK: usize = 512;
 
 /// Passes by text at the front of a piece, where no key waits, by right sets: at most `reach` bytes, and to the end of a character with
-/// a key that the pattern does not have. `None` where it finds no such character behind which it may stop.
+/// a key that the pattern does not have. `None` where it finds no such character behind which it may stop: `looked` is then how many bytes
+/// it looked over.
 pub(crate) fn pass_two_bytes<W: Weights>(
     table: &W,
     pattern: &Pattern,
@@ -28,6 +29,7 @@ pub(crate) fn pass_two_bytes<W: Weights>(
     classes: &TwoByteClasses,
     piece: &[u8],
     reach: usize,
+    looked: &mut usize,
 ) -> Option<Passed>
     requires right { AreLetters (W.table table.now) pattern.now letters.old }
     requires classes { AreSetsRight (W.table table.now) pattern.now classes.now }
@@ -40,7 +42,10 @@ pub(crate) fn pass_two_bytes<W: Weights>(
     units_stay_apart();
     weighers_go_on();
     let len = going_len(&classes.sets, piece, piece.len().min(reach).min(MOST));
-    let ending = last_ending(table, pattern, letters, piece, len)?;
+    let Some(ending) = last_ending(table, pattern, letters, piece, len) else {
+        *looked = len;
+        return None;
+    };
     Some(Passed {
         start: ending.start,
         end: ending.end,

@@ -47,6 +47,18 @@ const LONG: usize = 600;
 /// In how many of the bytes that pass, the last ones, a text may be left.
 const WAY_BACK: usize = 4_096;
 
+/// By what that number is divided for each further part, where more bytes pass.
+const PARTS: [usize; 5] = [1, 2, 4, 8, 16];
+
+/// How many bytes a text has that may be left behind one place alone.
+const IN_VAIN: usize = 2 * WAY_BACK + 8;
+
+/// These places: the first and the last that are looked at in each part, and those beside them.
+const PLACES: [usize; 18] = [
+    0, 255, 256, 511, 512, 1_023, 1_024, 1_025, 2_048, 2_049, 2_050, 2_051, 4_098, 4_099, 4_102,
+    4_103, 8_198, 8_199,
+];
+
 /// How far one from the other stops are in calm texts, where they have any.
 const RATES: [usize; 4] = [50, 100, 200, 0];
 
@@ -154,10 +166,9 @@ fn is_clean(letter: &Letter) -> bool {
     }
 }
 
-/// The last of the first `len` bytes of a piece whose character is a cluster with a key that the pattern does not have, looked for in the
-/// last `WAY_BACK` of them.
-fn last_clean_near(ways: &mut Ways<'_>, piece: &[u8], len: usize) -> Option<usize> {
-    for at in (len.saturating_sub(WAY_BACK)..len).rev() {
+/// The last of the bytes of a piece from `first` on up to `end` whose character is a cluster with a key that the pattern does not have.
+fn last_clean_near(ways: &mut Ways<'_>, piece: &[u8], first: usize, end: usize) -> Option<usize> {
+    for at in (first..end).rev() {
         if is_clean(&ways.letter(byte_at(piece, at) as char)) {
             return Some(at);
         }
@@ -165,13 +176,18 @@ fn last_clean_near(ways: &mut Ways<'_>, piece: &[u8], len: usize) -> Option<usiz
     None
 }
 
-/// The same, and where there are more bytes and none is found, in front of their half.
+/// The same of the first `len` bytes: where these are more than `WAY_BACK`, looked for in each part until one is found.
 fn last_clean(ways: &mut Ways<'_>, piece: &[u8], len: usize) -> Option<usize> {
-    let near = last_clean_near(ways, piece, len);
-    if near.is_some() || len <= WAY_BACK {
-        return near;
+    let mut end = len;
+    for part in PARTS {
+        let first = end.saturating_sub(WAY_BACK / part);
+        let near = last_clean_near(ways, piece, first, end);
+        if near.is_some() || len <= WAY_BACK {
+            return near;
+        }
+        end = first.min(end / 2);
     }
-    last_clean_near(ways, piece, len / 2)
+    None
 }
 
 /// Where a piece was left of which so many bytes passed.
@@ -342,6 +358,17 @@ fn compare_in_vain(rt: &impl Abort, ways: &mut Ways<'_>) {
     }
 }
 
+/// A longer one, which may be left at one place alone.
+fn compare_places(rt: &impl Abort, ways: &mut Ways<'_>) {
+    let mut text = [b'a'; IN_VAIN];
+    for place in PLACES {
+        put_byte(&mut text, place, b'm');
+        let passed = compare(rt, ways, &TWO, &text, IN_VAIN);
+        same_at(rt, &passed, &IN_VAIN, &place);
+        put_byte(&mut text, place, b'a');
+    }
+}
+
 #[test]
 fn blocks_are_left_near_their_end(rt: HostRuntime) {
     let alloc = rt.alloc();
@@ -351,6 +378,7 @@ fn blocks_are_left_near_their_end(rt: HostRuntime) {
     let long = repeated(&rt, alloc, "m", 1_024);
     let _long = ways.pass_blocks(long.as_bytes(), 1_000);
     compare_in_vain(&rt, &mut ways);
+    compare_places(&rt, &mut ways);
     drop(ways);
     drop(table);
 }

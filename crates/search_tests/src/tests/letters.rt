@@ -113,8 +113,8 @@ fn compare_case<W: Weights>(
     let (letters, strength, variable, select, want) = *case;
     let pattern = compile(rt, alloc, table, letters, strength, variable);
     let query = query_for(table, &pattern, select);
-    for size in 1..=71usize {
-        let size = if size == 71 { usize::MAX } else { size };
+    for size in 1..=99usize {
+        let size = if size == 99 { usize::MAX } else { size };
         count_is(rt, compare_with_steps(rt, alloc, &query, text, size), want);
     }
 }

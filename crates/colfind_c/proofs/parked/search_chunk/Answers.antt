@@ -8,8 +8,8 @@ use Rattle.colfind_c.proofs.parked.search_chunk.Goals as goal
 pub returns : goal.returns
 returns g c = record {
   fed =
-      let fed = c.feed.ensures.fed in
-      let queue = c.queue-1.given.1 (chained_keeps _ (λ ys s. c.feed-arg-2-1.given ≡ s.0.ghost_name) (λ ys q x v i k. search rules) fed.0 _ _ refl fed.1) in (
+      let fed = c.feed_with.ensures.fed in
+      let queue = c.queue-1.given.1 (chained_keeps _ (λ ys s. c.feed_with-arg-3-1.given ≡ s.0.ghost_name) (λ ys q x v i k. search rules) fed.0 _ _ refl fed.1) in (
         fed.0,
         fed.2,
         let here = chained_keeps _ (λ ys s. Gets c.args.queue.now ys s.0.now) (λ ys q x v i k. let one : Gets q.0.now (x ∷ []) v.0.now = search rules in gets_more _ _ _ ys (x ∷ []) i one) fed.0 _ _ (gets_none c.args.queue.now) fed.1 in

@@ -14,6 +14,21 @@ use Rattle.collation_finder.proofs.letter_loop.walk_letters.Given as given
 use Rattle.collation_finder.proofs.letter_loop.walk_letters.Goals.{After-walk_letter}
 use Rattle.collation_finder.proofs.letter_loop.walk_letters.Goals as goal
 
+-- where the first character ends after the reach
+
+pub returns-then-reach-end-clause-come : goal.returns-then-reach-end-clause-come
+returns-then-reach-end-clause-come g c = (
+  [],
+  refl,
+  come-none c.laws_of_characters.ensures (g.W.Weights.table c.args.query.now.table.now) c.args.query.now.pattern.now c.args.front.piece.now c.args.front.offset c.args.front.reach c.args.from.next c.args.matcher.now
+      c.requires.first.0 c.requires.first.1 c.requires.begins,
+)
+
+pub returns-then-reach-end-clause-keeps : goal.returns-then-reach-end-clause-keeps
+returns-then-reach-end-clause-keeps g c = record { state = c.requires.state; select = refl; room = refl }
+
+-- ---- the loop
+
 pub characters-init : goal.characters-init
 characters-init g c =
     let table = g.W.Weights.table c.args.query.now.table.now in

@@ -16,11 +16,11 @@ returns-clause-passes g c =
       one = c.laws_of_symbols.ensures.one;
       foreign = c.laws_of_symbols.ensures.foreign;
     } in
-    let is = c.in_ok-ending.ensures.ending in
+    let is = c.in-Some.ensures.ending in
     let within = is.within in
     let len = c.going_len-len.ensures in
     let fits = len.within in
-    let passed = ending-of laws foreign (g.W.Weights.table c.args.table.now) c.args.pattern.now c.args.classes.now c.requires.classes c.args.piece.now c.going_len-len.result len.passes (λ j. (c.type_inv.piece j).fits) c.in_ok-ending.ending is in
+    let passed = ending-of laws foreign (g.W.Weights.table c.args.table.now) c.args.pattern.now c.args.classes.now c.requires.classes c.args.piece.now c.going_len-len.result len.passes (λ j. (c.type_inv.piece j).fits) c.in-Some.ending is in
     record {
       within = is.room;
       order = omega (arith, is.end);

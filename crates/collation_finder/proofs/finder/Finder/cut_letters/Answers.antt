@@ -1,5 +1,5 @@
 use Rattle.std.proofs.Common.{◌≡◌, ◌∙◌, ℕ, List, [], ◌++◌, length, drop, refl, sym, ap, subst, arith}
-use Rattle.std.proofs.lemmas.List.{append-nil, length-drop}
+use Rattle.std.proofs.lemmas.List.{append-nil, length-drop, nil_from_length}
 use Rattle.std.proofs.lemmas.List.Elements.{All-same, All-drop, All-weaker, All-contains, Contains-append_left}
 use Rattle.unicode_normalization.specs.StreamSafe.{has_short_runs}
 use Rattle.nfd_points.specs.declared.points.Point.{Point}
@@ -14,6 +14,7 @@ use Rattle.collation_finder.specs.declared.finder.Finder.{Finder}
 use Rattle.collation_finder.specs.Apart.{IsDecomposed, AreDecomposed}
 use Rattle.collation_finder.specs.Finding.{FinderStandsFor}
 use Rattle.collation_finder.specs.Matching.{HasMatched}
+use Rattle.collation_finder.proofs.AsciiLemmas.{closed-none, short-none}
 use Rattle.collation_finder.proofs.PointLetters.{left-of, matched-cut}
 use Rattle.collation_finder.proofs.finder.Finder.cut_letters.Goals as goal
 
@@ -87,5 +88,41 @@ returns-then-len-eq0-clause-cut g c =
             points = h.points;
             reordered = h.reordered;
             matched = matched-cut table pattern old.window old.window old.matcher c.walk_points-len.new.matcher n h.points handed e.walked.0 c.requires.open is (e.closed d) (e.walked.2 d) h.matched;
+          },
+    )
+
+-- all points of the window were walked over
+pub invariant_of-self-then-len : goal.invariant_of-self-then-len
+invariant_of-self-then-len g c =
+    let old = c.args.self.now in
+    let none = ap (λ w. w.points) c.clear.ensures.empty in
+    record {
+      capacity = ap (λ w. w.capacity) c.clear.ensures.empty ∙ old.capacity;
+      short = old.short;
+      undecided = let few = ap length none in omega (arith, few);
+      closed = ap is_closed none ∙ closed-none;
+      sound = All-same IsSoundPoint _ _ none (λ k d less. absurd (omega (arith, less)));
+      short_runs = ap (λ (ps : List Point). has_short_runs 0 (code_points ps)) none ∙ short-none;
+      state = let state = c.walk_points-len.ensures.keeps.state in omega (arith, state, c.requires.made.pattern_len);
+      room = c.walk_points-len.ensures.keeps.room ∙ old.room;
+    }
+
+pub returns-then-len-clause-cut : goal.returns-then-len-clause-cut
+returns-then-len-clause-cut g c =
+    let table = g.W.Weights.table c.args.query.now.table.now in
+    let pattern = c.args.query.now.pattern.now in
+    let old = c.args.self.now in
+    let n = c.walk_points-len.result in
+    let e = c.walk_points-len.ensures in
+    let none = ap (λ w. w.points) c.clear.ensures.empty in
+    let left : drop n old.window.points ≡ [] = nil_from_length (drop n old.window.points) (let fewer = length-drop n old.window.points in omega (arith, fewer, c.if-len.true, c.len.ensures.len)) in
+    let is : c.clear.new.self.points ≡ drop n old.window.points = none ∙ sym left in (
+      e.walked.0,
+      e.walked.1,
+      λ taken handed h.
+          let d = decomposed c.laws_of_reordering.ensures.others c.laws_of_points.ensures.decomposed table pattern old taken handed h in record {
+            points = h.points;
+            reordered = h.reordered;
+            matched = matched-cut table pattern old.window c.clear.new.self old.matcher c.walk_points-len.new.matcher n h.points handed e.walked.0 c.requires.open is (e.closed d) (e.walked.2 d) h.matched;
           },
     )
