@@ -1,10 +1,8 @@
 -- Pieces that are read or written one after the other.
-use Rattle.std.proofs.Common.{arith, true, ◌==◌, drop, ◌+◌, ◌-◌, ◌≤◌, length-drop, ◌≡◌, ℕ, List, [], ◌++◌, length, take, refl, sym, ap, ◌∙◌, append_assoc, Option, Some, None, append-nil, length-append}
-use Rattle.std.proofs.Math.Seq.{drop-append_seam}
+use Rattle.std.proofs.Common.{arith, true, ◌==◌, drop, ◌+◌, ◌-◌, ◌≤◌, length-drop, ◌≡◌, ℕ, List, [], ◌++◌, length, take, refl, sym, ap, ◌∙◌, append_assoc, Option, Some, None, append-nil}
 use Rattle.std.proofs.lemmas.List.{take_all, take-append-drop, nil_from_length}
 use Rattle.std.proofs.lemmas.Bool.{eqb-true}
 use Rattle.colfind_io.specs.Devices.{after_piece, with_piece}
-use Rattle.colfind_io.specs.Reading.{ReadsOn}
 use Rattle.colfind_io.specs.Writing.{WritesPrefix}
 
 -- two pieces written in turn are one
@@ -66,25 +64,3 @@ pub prefix-all : (before after : Option (List ℕ)) (bytes rest : List ℕ) (pre
 prefix-all before after bytes rest prefix is_rest test =
     let none = is_rest ∙ nil_from_length rest (eqb-true (length rest) 0 (sym test)) in
     prefix.written ∙ ap (λ xs. with_piece xs before) (sym (prefix.whole ∙ ap (λ xs. prefix.prefix ++ xs) none ∙ append-nil prefix.prefix))
-
--- no bytes read leave all as it was
-pub after_piece-nil : (left : Option (List ℕ)) → left ≡ after_piece [] left
-after_piece-nil None = refl
-after_piece-nil (Some rest) = refl
-
--- one read more
-pub read-step : (before during after : Option (List ℕ)) (kept more : List ℕ)
-    → before ≡ after_piece kept during → ReadsOn during after kept more → before ≡ after_piece more after
-read-step before during after kept more first reads =
-    first ∙ ap (after_piece kept) reads.from ∙ after_piece-then kept reads.piece after
-    ∙ ap (λ xs. after_piece xs after) (sym reads.to)
-
--- what was kept before a read, and what stands after it now, are all that is kept
-pub rest-following : (old new piece d : List ℕ) (n : ℕ) → new ≡ old ++ piece → d ≡ new → n ≡ length old
-    → old ++ take (length d - n) (drop n d) ≡ new
-rest-following old new piece d n whole same counted =
-    let d_is : d ≡ old ++ piece = same ∙ whole in
-    let dropped : drop n d ≡ piece = ap (λ k. drop k d) counted ∙ ap (drop (length old)) d_is ∙ drop-append_seam old piece in
-    let room : length piece ≤ length d - n = omega (arith, ap length d_is, length-append old piece, counted) in
-    ap (λ xs. old ++ take (length d - n) xs) dropped
-    ∙ ap (λ xs. old ++ xs) (take_all (length d - n) piece room) ∙ sym whole

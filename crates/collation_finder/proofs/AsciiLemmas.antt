@@ -2,17 +2,24 @@
 use Rattle.std.specs.Char.{len_utf8}
 use Rattle.std.specs.Str.{IsAscii}
 use Rattle.std.specs.List.{All}
-use Rattle.std.proofs.Common.{◌≡◌, ◌∙◌, ℕ, zero, suc, ◌+◌, ◌<◌, List, [], ◌∷◌, ◌++◌, length, take, get_or, false, true, not, ◌==◌, refl, sym, ap, subst, arith, append_assoc}
+use Rattle.std.proofs.Common.{◌≡◌, ◌∙◌, ℕ, zero, suc, ◌+◌, ◌<◌, ◌≤◌, None, List, [], ◌∷◌, ◌++◌, length, take, get_or, false, true, not, ◌==◌, eq-eqb, refl, sym, ap, subst, arith, append_assoc}
 use Rattle.std.proofs.lemmas.List.{append-nil, length-take-le}
-use Rattle.std.proofs.lemmas.Str.{len_utf8_ascii, IsAscii-append}
+use Rattle.std.proofs.lemmas.Str.{encode_ascii, len_utf8_ascii, IsAscii-append}
 use Rattle.std.proofs.Math.Seq.{take-suc}
+use Rattle.utf8_cut.specs.Sequences.{SpellsCharacter}
 use Rattle.unicode_normalization.specs.Order.{is_nonstarter}
 use Rattle.unicode_normalization.specs.StreamSafe.{has_short_runs}
 use Rattle.nfd_points.specs.declared.points.Point.{Point}
-use Rattle.nfd_points.specs.Points.{ascii_point, byte_len, points_from}
-use Rattle.nfd_points.specs.Reordering.{Waiting, HasReordered, IsSoundPoint, code_points, is_closed}
+use Rattle.nfd_points.specs.Points.{ascii_point, begins_with_starter, byte_len, ordered, points, points_from}
+use Rattle.nfd_points.specs.PointFaults.{point_fault, run_after}
+use Rattle.nfd_points.specs.Reordering.{Waiting, HasReordered, IsHeld, IsSoundPoint, code_points, is_closed}
 use Rattle.nfd_points.specs.Laws.{AsciiIsItself, AsciiIsSound, AsciiIsGiven, BytesOfParts, PointsOfParts}
-use Rattle.nfd_points.proofs.RunLemmas.{short-starter}
+use Rattle.nfd_points.proofs.AfreshLemmas.{afresh}
+use Rattle.nfd_points.proofs.DecompositionLemmas.{ascii-plain}
+use Rattle.nfd_points.proofs.PointsLemmas.{points_of-ascii}
+use Rattle.nfd_points.proofs.PushLemmas.{plain-pushed}
+use Rattle.nfd_points.proofs.ReorderingLemmas.{IsHeld-nil, is_closed-end, take-starter}
+use Rattle.nfd_points.proofs.RunLemmas.{run_after-nil, run_after-starter, short-starter}
 use Rattle.collation_finder.proofs.ApartLemmas.{from_first, from_none, from_one}
 
 pub ascii-len : (bs : List ℕ) → IsAscii bs → byte_len bs ≡ length bs
@@ -55,6 +62,20 @@ unfolding has_short_runs
 short-one sound start b less =
     let starter : is_nonstarter b ≡ false = ap (λ (n : ℕ). not (n == 0)) (sym (sound start b less).class) in short-starter 0 b [] starter
 
+-- the first one and the others together
+given-joined : AsciiIsItself → BytesOfParts → (w : Waiting) (b : ℕ) (bs taken : List ℕ) (given : List Point) → b < 128 →
+    HasReordered w ((taken ++ b ∷ []) ++ bs) ((given ++ ascii_point (byte_len taken) b ∷ []) ++ points_from (byte_len (taken ++ b ∷ [])) bs) →
+    HasReordered w (taken ++ b ∷ bs) (given ++ points_from (byte_len taken) (b ∷ bs))
+given-joined itself bytes w b bs taken given low h =
+    let at = byte_len taken in
+    let one : List Point = ascii_point at b ∷ [] in
+    let behind : byte_len (taken ++ b ∷ []) ≡ at + len_utf8 b = bytes taken (b ∷ []) ∙ ap (λ k. at + k) (one-len b) in
+    let all : (given ++ one) ++ points_from (byte_len (taken ++ b ∷ [])) bs ≡ given ++ points_from at (b ∷ bs) =
+    append_assoc given one (points_from (byte_len (taken ++ b ∷ [])) bs)
+    ∙ ap (λ (ps : List Point). given ++ ps) (ap (λ k. one ++ points_from k bs) behind ∙ sym (from_first at b bs ∙ ap (λ (ps : List Point). ps ++ points_from (at + len_utf8 b) bs) (itself at b low))) in
+    subst (λ (cs : List ℕ). HasReordered w cs (given ++ points_from at (b ∷ bs))) (append_assoc taken (b ∷ []) bs)
+    (subst (λ (ps : List Point). HasReordered w ((taken ++ b ∷ []) ++ bs) ps) all h)
+
 -- all of them are given, and none waits then
 pub given-ascii : AsciiIsGiven → AsciiIsItself → BytesOfParts → (w : Waiting) (bs taken : List ℕ) (given : List Point) → w.held ≡ [] → IsAscii bs → HasReordered w taken given →
     HasReordered w (taken ++ bs) (given ++ points_from (byte_len taken) bs)
@@ -62,15 +83,53 @@ given-ascii law itself bytes w [] taken given none ascii h =
     subst (λ (cs : List ℕ). HasReordered w cs (given ++ points_from (byte_len taken) [])) (sym (append-nil taken))
     (subst (λ (ps : List Point). HasReordered w taken ps) (sym (ap (λ (ps : List Point). given ++ ps) (from_none (byte_len taken)) ∙ append-nil given)) h)
 given-ascii law itself bytes w (b ∷ bs) taken given none ascii h =
-    let at = byte_len taken in
-    let one : List Point = ascii_point at b ∷ [] in
-    let rest = given-ascii law itself bytes w bs (taken ++ b ∷ []) (given ++ one) none (λ i. ascii (suc i)) (law w taken given b h none (ascii 0)) in
-    let behind : byte_len (taken ++ b ∷ []) ≡ at + len_utf8 b = bytes taken (b ∷ []) ∙ ap (λ k. at + k) (one-len b) in
-    let all : (given ++ one) ++ points_from (byte_len (taken ++ b ∷ [])) bs ≡ given ++ points_from at (b ∷ bs) =
-    append_assoc given one (points_from (byte_len (taken ++ b ∷ [])) bs)
-    ∙ ap (λ (ps : List Point). given ++ ps) (ap (λ k. one ++ points_from k bs) behind ∙ sym (from_first at b bs ∙ ap (λ (ps : List Point). ps ++ points_from (at + len_utf8 b) bs) (itself at b (ascii 0)))) in
-    subst (λ (cs : List ℕ). HasReordered w cs (given ++ points_from at (b ∷ bs))) (append_assoc taken (b ∷ []) bs)
-    (subst (λ (ps : List Point). HasReordered w ((taken ++ b ∷ []) ++ bs) ps) all rest)
+    given-joined itself bytes w b bs taken given (ascii 0)
+    (given-ascii law itself bytes w bs (taken ++ b ∷ []) (given ++ ascii_point (byte_len taken) b ∷ []) none (λ i. ascii (suc i)) (law w taken given b h none (ascii 0)))
+
+-- ---- behind a pause
+
+-- the first one is given, whatever waited before
+ascii-afresh : (w : Waiting) (taken : List ℕ) (c : ℕ) → w.held ≡ [] → c < 128 → point_fault taken ≡ None → HasReordered w (taken ++ c ∷ []) (points taken ++ ascii_point (byte_len taken) c ∷ [])
+ascii-afresh w taken c none low good =
+    let p : Point = ascii_point (byte_len taken) c in
+    let starter : is_nonstarter c ≡ false = ap not (eq-eqb _ 0 (ascii-plain c low).starter) in
+    let held : IsHeld w.held = subst IsHeld (sym none) IsHeld-nil in
+    let run : length w.held ≡ run_after (length w.held) (c ∷ []) = ap length none ∙ sym (run_after-starter (length w.held) c [] starter ∙ run_after-nil 0) in
+    let moved : (rest : List Point) → ordered (w.held ++ p ∷ rest) ≡ (p ∷ []) ++ ordered (w.held ++ rest) =
+    λ rest. take-starter w.held p rest held.in_order refl ∙ ap (λ (l : List Point). (l ++ p ∷ []) ++ ordered rest) none ∙ ap (λ (l : List Point). (p ∷ []) ++ ordered (l ++ rest)) (sym none) in
+    afresh w w (p ∷ []) (byte_len taken) c (plain-pushed w.held w.held [] (p ∷ []) (byte_len taken) c (ascii-plain c low) refl held moved (λ _. is_closed-end [] p refl) run)
+    taken none refl (ap begins_with_starter (points_of-ascii (byte_len taken) c low)) good
+
+-- and so are the others
+pub given-afresh : AsciiIsGiven → AsciiIsItself → BytesOfParts → (w : Waiting) (b : ℕ) (bs taken : List ℕ) → w.held ≡ [] → IsAscii (b ∷ bs) → point_fault taken ≡ None →
+    HasReordered w (taken ++ b ∷ bs) (points taken ++ points_from (byte_len taken) (b ∷ bs))
+given-afresh law itself bytes w b bs taken none ascii good =
+    given-joined itself bytes w b bs taken (points taken) (ascii 0)
+    (given-ascii law itself bytes w bs (taken ++ b ∷ []) (points taken ++ ascii_point (byte_len taken) b ∷ []) none (λ i. ascii (suc i)) (ascii-afresh w taken b none (ascii 0) good))
+
+-- the first of some bytes, and the others
+pub first-of : (n : ℕ) (bs : List ℕ) → 0 < n → n ≤ length bs → (others : List ℕ) × (take n bs ≡ get_or bs 0 0 ∷ others)
+first-of zero bs some within = absurd (omega (arith, some))
+first-of (suc n) [] some within = absurd (omega (arith, within))
+first-of (suc n) (b ∷ bs) some within = (take n bs, refl)
+
+first-is : (bs : List ℕ) (c : ℕ) → take 1 bs ≡ c ∷ [] → get_or bs 0 0 ≡ c
+first-is [] c h = cc
+first-is (b ∷ bs) c h = cc
+
+-- a character of ASCII is its byte
+pub ascii-front : (bs : List ℕ) (c : ℕ) → c < 128 → SpellsCharacter (take (len_utf8 c) bs) c → get_or bs 0 0 ≡ c
+ascii-front bs c low spelled = first-is bs c (ap (λ k. take k bs) (sym (len_utf8_ascii c low)) ∙ spelled.1 ∙ encode_ascii c low)
+
+-- bytes at the front of a piece
+pub given-front : AsciiIsGiven → AsciiIsItself → BytesOfParts → (w : Waiting) (piece taken : List ℕ) (n : ℕ) → 0 < n → n ≤ length piece → w.held ≡ [] → IsAscii (take n piece) → point_fault taken ≡ None →
+    HasReordered w (taken ++ take n piece) (points taken ++ points_from (byte_len taken) (take n piece))
+given-front law itself bytes w piece taken n some within none ascii good =
+    let front = first-of n piece some within in
+    subst (λ (bs : List ℕ). HasReordered w (taken ++ bs) (points taken ++ points_from (byte_len taken) bs)) (sym front.1)
+    (given-afresh law itself bytes w (get_or piece 0 0) front.0 taken none (subst IsAscii front.1 ascii) good)
+
+-- ---- of one
 
 pub closed-one : (start b : ℕ) → is_closed (ascii_point start b ∷ []) ≡ true
 unfolding is_closed

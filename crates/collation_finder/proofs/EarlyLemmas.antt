@@ -1,5 +1,5 @@
 -- Which points are left where units may have been cut early: while characters come, and at a pause.
-use Rattle.std.proofs.Common.{◌≡◌, ◌∙◌, ℕ, ◌≤◌, true, List, [], ◌∷◌, ◌++◌, sym, ap, inl, inr, arith, append_assoc}
+use Rattle.std.proofs.Common.{◌≡◌, ◌∙◌, ℕ, ◌≤◌, true, List, ◌∷◌, ◌++◌, sym, ap, inl, inr, arith, append_assoc}
 use Rattle.nfd_points.specs.declared.points.Point.{Point}
 use Rattle.nfd_points.specs.Points.{byte_len, points, is_starter}
 use Rattle.nfd_points.specs.Reordering.{Waiting, HasReordered}
@@ -32,15 +32,15 @@ cut-pushed stay table place taken more out left now final is (inr e) = inr (reco
 })
 
 -- after a pause
-pub cut-afresh : GivenAreFinal → (table : TableMap) (new : Waiting) (before : List ℕ) (next : ℕ) (out later now : List Point) (first : Point) →
-    HasReordered new (before ++ next ∷ []) (points before ++ out) → out ≡ first ∷ later → is_starter first ≡ true → Splits table (points before) first → now ≡ left_points table out →
-    IsCutUpTo table (byte_len before) (before ++ next ∷ []) now
-cut-afresh law table new before next out later now first after begun starter ends is = inr (record {
+pub cut-afresh : GivenAreFinal → (table : TableMap) (new : Waiting) (before more : List ℕ) (out later now : List Point) (first : Point) →
+    HasReordered new (before ++ more) (points before ++ out) → out ≡ first ∷ later → is_starter first ≡ true → Splits table (points before) first → now ≡ left_points table out →
+    IsCutUpTo table (byte_len before) (before ++ more) now
+cut-afresh law table new before more out later now first after begun starter ends is = inr (record {
   before = before;
   first = first;
   later = later;
   early = omega arith;
-  final = sym (law new (before ++ next ∷ []) (points before ++ out) after) ∙ ap (λ ps. points before ++ ps) begun;
+  final = sym (law new (before ++ more) (points before ++ out) after) ∙ ap (λ ps. points before ++ ps) begun;
   starter = starter;
   ends = ends;
   rest = is ∙ ap (left_points table) begun;

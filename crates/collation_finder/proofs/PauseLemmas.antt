@@ -63,9 +63,6 @@ points-on laws table taken cs next h =
 
 -- ---- its units
 
-units_none : (table : TableMap) → units table [] ≡ []
-units_none table = refl
-
 units-on : LetterLaws → (table : TableMap) (ps : List Point) (start first : ℕ) (others cs : List ℕ) (next : ℕ) → cs ++ next ∷ [] ≡ first ∷ others → EndsBefore table ps start first →
     units table (ps ++ points_from start cs) ≡ units table ps ++ units table (points_from start cs)
 units-on laws table ps start first others [] next same ends =

@@ -34,7 +34,7 @@ pub struct Cache {
     pub skip: Skip,
     /// How many bytes are walked over each time before text is passed by: few or none where that was worth it, more where it was not.
     pub hold: usize,
-    /// How many of these are left, counted from the front of what is taken by letters next.
+    /// How many bytes are still walked over before then, counted from the front of what is taken by letters next.
     pub due: usize,
     /// How many bytes more go by steps alone, as long as no piece has more: for one short text letters cost more than the steps that they
     /// save.
@@ -84,6 +84,17 @@ impl Cache {
             },
             alloc,
         })
+    }
+
+    /// Prepares, before its first byte, for one text alone of `len` bytes: `by_steps` of these go by steps at least, and `due` are walked
+    /// over before any are passed by.
+    pub fn prepare(&mut self, by_steps: usize, due: usize, len: usize)
+        ensures { (table : TableMap) (pattern : Compiled)
+            → AreRight table pattern self.old → AreRight table pattern self.new }
+    {
+        self.by_steps = self.by_steps.max(by_steps);
+        self.due = due;
+        self.skip.prepare(len);
     }
 
     /// Passes by text at the front of a piece, which stands at a byte offset, where no key waits. It ends at `reach` or before it.

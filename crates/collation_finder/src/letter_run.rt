@@ -226,7 +226,7 @@ impl Finder {
             ..front
         };
         let len = self.take_to_reach(query, cache, near, found, sink);
-        if len <= front.reach {
+        if len <= front.reach || len == front.piece.len() {
             return len;
         }
         let at = front.offset + len as u64;
@@ -235,7 +235,7 @@ impl Finder {
         len + more
     }
 
-    /// The same without the ASCII behind `reach`. A short piece may be passed by without a pause.
+    /// The same without ASCII behind the first character that it does not take so. A short piece may be passed by without a pause.
     fn take_to_reach<W: Weights, F: FnMut(u64, u64)>(
         &mut self,
         query: &Query<'_, W>,
@@ -332,6 +332,13 @@ impl Finder {
         // these were walked over or passed by: what is left is counted from where letters go on
         cache.due = cache.due.saturating_sub(walked.len);
         let at = front.offset + walked.len as u64;
+        let rest = &front.piece[walked.len..];
+        // so few bytes are left at the end of a piece: no more of it goes by letters, and what is ASCII comes into the window at once
+        if walked.next.is_ascii() && rest.len() < self.longest_key.max(2) {
+            let len = self.take_ascii(query, rest, at, found);
+            hand_out(found.as_slice(), sink);
+            return walked.len + len;
+        }
         found.clear();
         // where no point waits no character is at fault
         let _ = self.take(query.table, query.pattern, walked.next, at, found);

@@ -1,6 +1,6 @@
 //! The end of a piece: characters of ASCII behind its letters, whose points come into the window at
 //! once.
-ghost use Rattle.std.specs.Prelude.{◌≡◌, ◌+◌, ◌≤◌, All, length, take, true};
+ghost use Rattle.std.specs.Prelude.{◌≡◌, ◌+◌, ◌<◌, ◌≤◌, All, length, take, true, slice_index};
 ghost use Rattle.std.specs.Str.{IsAscii};
 ghost use Rattle.unicode_normalization.specs.StreamSafe.{has_short_runs};
 ghost use Rattle.nfd_points.specs.Points.{points_from};
@@ -25,6 +25,7 @@ fn ascii_points(piece: &[u8], offset: u64, points: &mut ArrayVec<Point, MOST_GIV
     ensures ascii { IsAscii (take result piece.now) }
     ensures points { points.new.items ≡ points_from offset (take result piece.now) }
     ensures count { length points.new.items ≡ result }
+    ensures some { 0 < length piece.now → slice_index piece.now 0 < 128 → 0 < result }
     ensures few { result ≤ MOST_GIVEN }
     ensures closed { is_closed points.new.items ≡ true }
     ensures sound { All IsSoundPoint points.new.items }
@@ -50,16 +51,18 @@ fn ascii_points(piece: &[u8], offset: u64, points: &mut ArrayVec<Point, MOST_GIV
 }
 
 impl Finder {
-    ghost use Rattle.std.specs.Prelude.{◌≡◌, ℕ, ◌+◌, ◌≤◌, List, ◌++◌, length, take, false};
+    ghost use Rattle.std.specs.Prelude.{◌≡◌, ℕ, ◌+◌, ◌<◌, ◌≤◌, List, [], ◌++◌, length, take, false, slice_index};
     ghost use Rattle.std.specs.Str.{chars, IsUtf8};
     ghost use Rattle.nfd_points.specs.Points.{byte_len};
     ghost use Rattle.collation_matches.specs.GoodPrefix.{most_bytes};
     ghost use Rattle.collation_finder.specs.Early.{IsCutUpTo};
     ghost use Rattle.collation_finder.specs.Finding.{FinderStandsFor, IsMadeFor, KeepsSetup};
+    ghost use Rattle.collation_finder.specs.Taking.{CutsAfresh, TakesAfresh};
 
     /// Takes characters of ASCII at the front of a piece, which stands at a byte offset: as many as
     /// there is room for, and none where a point waits. It puts the ranges that became known into
-    /// `found`, which is emptied before, and answers how many characters it took.
+    /// `found`, which is emptied before, and answers how many characters it took. It may also go on
+    /// behind a pause.
     pub(crate) fn take_ascii<W: Weights>(
         &mut self,
         query: &Query<'_, W>,
@@ -85,6 +88,14 @@ impl Finder {
             → IsCutUpTo (W.table query.now.table.now) place taken self.old.window.points
             → IsCutUpTo (W.table query.now.table.now) place
             (taken ++ chars (take result piece.now)) self.new.window.points }
+        ensures some { self.old.reorder.held ≡ [] → 0 < length piece.now
+            → slice_index piece.now 0 < 128 → 0 < result }
+        ensures afresh { 0 < result
+            → TakesAfresh (W.table query.now.table.now) query.now.pattern.now self.old self.new
+            (slice_index piece.now 0) offset (take result piece.now) found.new.items }
+        ensures left_afresh { 0 < result
+            → CutsAfresh (W.table query.now.table.now) query.now.pattern.now self.old self.new
+            (slice_index piece.now 0) offset 0 (take result piece.now) }
         ensures open { self.new.window.has_ended ≡ false }
         ensures setup { KeepsSetup self.old self.new }
     {

@@ -144,12 +144,6 @@ apart-begins : (table : TableMap) (ps : List Point) → AreApart table ps → be
 apart-begins table [] h = refl
 apart-begins table (p ∷ ps) h = (h p refl).0
 
-pub letter-apart : (table : TableMap) (pattern : Compiled) (cs : List ℕ) (l : Letter) → l.is_apart ≡ true → IsLetter table pattern cs l → begins_with_starter (points_from 0 cs) ≡ true
-letter-apart table pattern cs l apart h = apart-begins table (points_from 0 cs) (h.apart apart)
-
-pub letter-starter : (table : TableMap) (pattern : Compiled) (cs : List ℕ) (l : Letter) → l.role ≢ Steps → not_mark l.role ≡ true → IsLetter table pattern cs l → begins_with_starter (points_from 0 cs) ≡ true
-letter-starter table pattern cs l known starter h = (h.known known).starter ∙ starter
-
 -- ---- a base that is plain
 
 base-is_known : (r : Role) → r ≡ Base → r ≢ Steps

@@ -1,10 +1,10 @@
 -- Two characters that are one mapped string, with which no longer one begins: what is found of their points is their letter.
-use Rattle.std.proofs.Common.{◌≡◌, ◌∙◌, ℕ, ◌+◌, ◌≤◌, Bool, true, false, cond, not, ◌&&◌, nat_lt, [], ◌∷◌, ◌++◌, length, inl, inr, sym, ap, ap₂, arith, length-append}
+use Rattle.std.proofs.Common.{◌≡◌, ◌∙◌, ℕ, ◌+◌, true, not, ◌&&◌, nat_lt, [], ◌∷◌, ◌++◌, length, sym, ap, ap₂, arith, length-append}
 use Rattle.std.specs.Char.{len_utf8}
-use Rattle.std.proofs.lemmas.Bool.{cases_Bool, cond-false, eqb-true}
+use Rattle.std.proofs.lemmas.Bool.{eqb-true}
 use Rattle.nfd_points.specs.declared.points.Point.{Point}
 use Rattle.nfd_points.specs.Points.{is_in_order, is_reorderable, is_starter, points_from, points_of, shifted}
-use Rattle.collation_table.specs.Table.{TableMap, GoesOnInNoString, is_mapped, longest_prefix, longest_prefix_within}
+use Rattle.collation_table.specs.Table.{TableMap, GoesOnInNoString, is_mapped}
 use Rattle.collation_elements.specs.Units.{units, MappedPairsAreUnits}
 use Rattle.collation_letters.specs.Letters.{AreClosed}
 use Rattle.collation_letters.specs.Finding.{IsLastClass}
@@ -32,20 +32,6 @@ class-pair p q starter (x ∷ y ∷ before) last same =
     absurd (omega (arith, ap length same, length-append before (last ∷ [])))
 
 -- ---- what they are to the table
-
--- where the longest prefix of two code points that is mapped has both
-pub mapped-pair : (T : TableMap) (a b : ℕ) → longest_prefix T (a ∷ b ∷ []) ≡ 2 → is_mapped T (a ∷ b ∷ []) ≡ true
-mapped-pair T a b both =
-    elim (cases_Bool (is_mapped T (a ∷ b ∷ []))) [
-      | inl found ↦ found
-      | inr none ↦
-          let shorter : longest_prefix T (a ∷ b ∷ []) ≡ longest_prefix_within T (a ∷ b ∷ []) 1 = cond-false _ _ _ none in
-          absurd (omega (arith, both, shorter, one-cond (is_mapped T (a ∷ []))))
-    ]
-  where
-    one-cond : (x : Bool) → cond x 1 0 ≤ 1
-    one-cond true = omega arith
-    one-cond false = omega arith
 
 pub closed-pair : MappedPairsAreUnits → (table : TableMap) (p q : Point) → is_mapped table (p.cp ∷ q.cp ∷ []) ≡ true → GoesOnInNoString table (p.cp ∷ q.cp ∷ []) → AreClosed table (p ∷ q ∷ [])
 closed-pair law table p q mapped none = λ start more.

@@ -1,5 +1,5 @@
 -- Where units end between characters, and which characters can be taken by themselves.
-use Rattle.std.specs.Prelude.{◌≡◌, ℕ, ◌+◌, true, None, List, [], ◌∷◌, ◌++◌, slice_get}
+use Rattle.std.specs.Prelude.{◌≡◌, ℕ, ◌+◌, true, None, List, ◌∷◌, ◌++◌, slice_get}
 use Rattle.std.specs.Option.{ForSome}
 use Rattle.collation_table.specs.Table.{TableMap}
 use Rattle.nfd_points.specs.declared.points.Point.{Point}

@@ -183,16 +183,3 @@ pub whole_of_text : (longest : (bytes : List ℕ) (n : ℕ) → n ≤ length byt
 whole_of_text longest good utf8 =
     let all = take_all (length good) good (omega arith) in
     take_all (characters_end good) good (longest good (length good) (omega arith) (subst IsUtf8 (sym all) utf8))
-
-abbrev LongestLaw : Type 0
-LongestLaw = (bytes : List ℕ) (n : ℕ) → n ≤ length bytes → IsUtf8 (take n bytes) → n ≤ characters_end bytes
-
--- what stands before the first fault is its own whole characters, and good
-pub good_part : TextLaw → WithinLaw → LongestLaw → (bytes : List ℕ) (at : TextFault) → fault bytes ≡ Some at →
-    (whole (take at.offset bytes) ≡ take at.offset bytes) × (point_fault (chars (take at.offset bytes)) ≡ None)
-good_part text_law within_law longest bytes at h =
-    let good = good_prefix_found text_law within_law bytes at h in
-    let taken = good.1.taken in (
-      whole_of_text longest (take at.offset bytes) (subst IsUtf8 (sym taken) good.1.text),
-      ap (λ t. point_fault (chars t)) taken ∙ good.1.sound,
-    )

@@ -86,7 +86,3 @@ remembered-one All ranges range h = absurd (other h)
     other : All ≡ Chain → ⊥
     other e = cc
 remembered-one Chain ranges range h = end_after-append 0 ranges (range ∷ [])
-
-pub not_chain : (select : Select) → (select ≡ Chain → ⊥) → select ≡ All
-not_chain All h = refl
-not_chain Chain h = absurd (h refl)

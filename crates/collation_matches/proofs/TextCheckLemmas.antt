@@ -1,7 +1,7 @@
 -- Faults and open texts, from what a cutter of characters and a reorderer represent.
 use Rattle.std.specs.Str.{chars, IsUtf8}
 use Rattle.std.specs.Char.{len_utf8}
-use Rattle.std.proofs.Common.{◌≡◌, ℕ, suc, ◌+◌, ◌-◌, ◌<◌, ◌≤◌, true, false, ◌&&◌, ◌==◌, cond, nat_lt, nat_le, Result, Ok, Err, IfOk, OnOk, OnErr, IfErr, subst, List, [], ◌∷◌, ◌++◌, length, take, drop, get_or, map, Option, Some, None, is_none, inl, inr, sym, ◌∙◌, ap, arith, refl}
+use Rattle.std.proofs.Common.{◌≡◌, ℕ, suc, ◌+◌, ◌-◌, ◌<◌, ◌≤◌, true, false, ◌&&◌, ◌==◌, cond, nat_lt, nat_le, Result, Ok, Err, OnOk, IfErr, subst, List, [], ◌∷◌, ◌++◌, length, take, drop, get_or, map, Option, Some, None, is_none, inl, inr, sym, ◌∙◌, ap, arith, refl}
 use Rattle.std.proofs.lemmas.Bool.{cases_Bool, and_parts, and_right, ltb-false, leb-true, lt-ltb, le-ltb, le-leb, eqb-true, eqb-false}
 use Rattle.std.proofs.lemmas.List.{take_all, map-append, append-nil, length-append, length-take-le, append_assoc}
 use Rattle.std.proofs.lemmas.Str.{encodes-chars}
@@ -202,18 +202,6 @@ cut_end u at o within h = elim (cases_Bool (characters_end u == length u)) [
 
 -- ---- results
 
-pub ok_from : {A E : Type 0} → (r : Result A E) (Q : Type 0) → ((a : A) → r ≡ Ok a → Q) → OnOk r Q
-ok_from (Ok a) Q h = h a refl
-ok_from (Err e) Q h = tt
-
-pub err_from : {A E : Type 0} → (r : Result A E) (Q : E → Type 0) → ((e : E) → r ≡ Err e → Q e) → IfErr r Q
-err_from (Ok a) Q h = tt
-err_from (Err e) Q h = h e refl
-
-pub on_err_from : {A E : Type 0} → (r : Result A E) (Q : Type 0) → ((e : E) → r ≡ Err e → Q) → OnErr r Q
-on_err_from (Ok a) Q h = tt
-on_err_from (Err e) Q h = h e refl
-
 pub at_ok : {A E : Type 0} → (r : Result A E) (Q : Type 0) (a : A) → r ≡ Ok a → OnOk r Q → Q
 at_ok r Q a e h = subst (λ t. OnOk t Q) e h
 
@@ -263,15 +251,6 @@ not_open_ill u b more at short ill =
 -- a piece around one of its bytes, after other bytes
 pub around : (u piece : List ℕ) (i : ℕ) → i < length piece → (u ++ take i piece) ++ get_or piece i 0 ∷ drop (suc i) piece ≡ u ++ piece
 around u piece i h = append_assoc u (take i piece) (get_or piece i 0 ∷ drop (suc i) piece) ∙ ap (λ t. u ++ t) (sym (split_at piece i 0 h))
-
--- and with more bytes after the piece
-pub around_more : (u piece more : List ℕ) (i : ℕ) → i < length piece → (u ++ take i piece) ++ get_or piece i 0 ∷ (drop (suc i) piece ++ more) ≡ (u ++ piece) ++ more
-around_more u piece more i h =
-    sym (append_assoc (u ++ take i piece) (get_or piece i 0 ∷ drop (suc i) piece) more) ∙ ap (λ t. t ++ more) (around u piece i h)
-
-pub if_ok_map : {A E : Type 0} → (r : Result A E) (P Q : A → Type 0) → ((a : A) → P a → Q a) → IfOk r P → IfOk r Q
-if_ok_map (Ok a) P Q f h = f a h
-if_ok_map (Err e) P Q f h = tt
 
 no_some : {X : Type 0} → (x : X) → None ≡ Some x → ⊥
 no_some x h = cc

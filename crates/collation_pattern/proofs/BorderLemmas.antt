@@ -155,14 +155,6 @@ next-below pattern j key h =
 next-at : (pattern : List Key) (j : ℕ) (d : Key) → j < length pattern → IsNext pattern j (get_or pattern j d)
 next-at pattern j d below = take_more pattern j d below
 
-pub next-of_read : (pattern : List Key) (j : ℕ) (key : Key) → j < length pattern → key ≡ get_or pattern j key → IsNext pattern j key
-next-of_read pattern j key below e =
-    next-at pattern j key below ∙ ap (λ (k : Key). take j pattern ++ k ∷ []) (sym e)
-
-pub read-of_next : (pattern : List Key) (j : ℕ) (key : Key) → IsNext pattern j key → key ≡ get_or pattern j key
-read-of_next pattern j key next =
-    (same_from_push (take j pattern) (take j pattern) key (get_or pattern j key) (sym next ∙ next-at pattern j key (next-below pattern j key next))).1
-
 suc_take : (pattern : List Key) (j : ℕ) → take (suc j) pattern ≡ take (j + 1) pattern
 suc_take pattern j = let e : suc j ≡ j + 1 = omega arith in ap (λ n. take n pattern) e
 

@@ -6,7 +6,6 @@ pub mod FirstLemmas
 pub mod PieceLemmas
 pub mod UnderWay
 pub mod WorkedStatesAfterLemmas
-pub mod StatePointLemmas
 pub mod SavedPoints
 pub mod SavingLemmas
 pub mod LastEnds

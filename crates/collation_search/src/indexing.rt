@@ -31,6 +31,18 @@ const FOR_EACH: usize = 7;
 /// costs more than it saves.
 const LONGEST_WALKED: usize = 256;
 
+/// The same of a text with many different bytes, since more is found anew then.
+const LONGEST_WALKED_OF_MANY: usize = 2_048;
+
+/// How many bytes such a text has at most for each different byte at its front.
+const WALKED_FOR_EACH: usize = 16;
+
+/// How many bytes these are of which the different ones are counted, and how many times one past ASCII counts: for a character of several
+/// bytes several moves are found.
+const FRONT: usize = 128;
+
+const TIMES_PAST_ASCII: usize = 3;
+
 /// The first range of the answer to a text, if there is one, though a fault may stand after it: its start and its end, in
 /// bytes from the beginning of the text, the end not included. The pattern was compiled with this table.
 ///
@@ -109,10 +121,8 @@ impl<'a, W: Weights> Search<'a, W> {
     fn is_for_one_text(&mut self, text: &[u8])
         ensures sought { sought self.new ≡ sought self.old }
     {
-        self.cache.by_steps = self.cache.by_steps.max(bytes_by_steps(text));
-        if text.len() <= LONGEST_WALKED {
-            self.cache.due = LONGEST_WALKED;
-        }
+        let by_steps = bytes_by_steps(text);
+        self.cache.prepare(by_steps, walked_len(text), text.len());
     }
 
     /// The first range of the answer to a text, if there is one, though a fault may stand after it: its start and its end, in
@@ -227,21 +237,53 @@ fn bytes_by_steps(text: &[u8]) -> usize {
     if text.len() > SHORT_TEXT {
         return 0;
     }
-    // one bit for each byte
-    let mut there = [0u64; 4];
-    let mut characters = 0usize;
-    for byte in text {
-        there[usize::from(*byte / 64)] |= 1u64.wrapping_shl(u32::from(*byte));
-        characters = characters.wrapping_add(usize::from(*byte < 0x80 || *byte >= 0xC0));
-    }
-    let mut different = 0usize;
-    for bits in &there {
-        different = different.wrapping_add(bits.count_ones() as usize);
-    }
-    if characters.saturating_add(text.len()) > different.saturating_mul(FOR_EACH) {
+    let (ascii, others) = different_bytes(text);
+    let count = characters(text).saturating_add(text.len());
+    if count > ascii.saturating_add(others).saturating_mul(FOR_EACH) {
         return 0;
     }
     text.len()
+}
+
+/// How many bytes of a text are walked over before any are passed by, as far as its length and its front say: all or none.
+fn walked_len(text: &[u8]) -> usize {
+    let len = text.len();
+    if len <= LONGEST_WALKED {
+        return len;
+    }
+    if len > LONGEST_WALKED_OF_MANY {
+        return 0;
+    }
+    let (ascii, others) = different_bytes(&text[..FRONT.min(len)]);
+    let count = others
+        .saturating_mul(TIMES_PAST_ASCII)
+        .saturating_add(ascii);
+    if len <= count.saturating_mul(WALKED_FOR_EACH) {
+        len
+    } else {
+        0
+    }
+}
+
+/// How many characters a text has, if it is UTF-8.
+fn characters(text: &[u8]) -> usize {
+    let mut count = 0usize;
+    for byte in text {
+        count = count.wrapping_add(usize::from(*byte < 0x80 || *byte >= 0xC0));
+    }
+    count
+}
+
+/// How many different bytes of ASCII a text has, and how many others.
+fn different_bytes(text: &[u8]) -> (usize, usize) {
+    // one bit for each byte
+    let mut there = [0u64; 4];
+    for byte in text {
+        there[usize::from(*byte / 64)] |= 1u64.wrapping_shl(u32::from(*byte));
+    }
+    let ascii = there[0].count_ones().wrapping_add(there[1].count_ones());
+    let others = there[2].count_ones().wrapping_add(there[3].count_ones());
+    (ascii as usize, others as usize)
 }
 
 /// What was found in the rest of a text from this offset on, its offsets counted from the beginning

@@ -13,7 +13,7 @@ use Rattle.collation_elements.specs.Units.{units}
 use Rattle.collation_pattern.specs.Border.{border}
 use Rattle.collation_pattern.specs.Compiled.{Compiled}
 use Rattle.collation_letters.specs.declared.letter.Letter.{Letter}
-use Rattle.collation_letters.specs.declared.letter.Role.TheVariants.{Plain, Steps}
+use Rattle.collation_letters.specs.declared.letter.Role.TheVariants.{Steps}
 use Rattle.collation_letters.specs.declared.symbols.TheConstants.{NO_SYMBOL}
 use Rattle.collation_letters.specs.Letters.{AreApart, AreClosed, IsClean, IsLetter, IsPossible, is_mark}
 use Rattle.collation_letters.specs.Symbols.{IsSymbol}

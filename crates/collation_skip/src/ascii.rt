@@ -1,5 +1,5 @@
 //! The blocks of ASCII of a search: a place of the pattern is chosen for them by the first long text that comes, or where as much
-//! came in short ones.
+//! came in short ones. For one short text alone none is.
 use crate::blocks::pass_blocks;
 use crate::classes::{Classes, SAMPLE, classes_for};
 use crate::passed::Passed;
@@ -10,13 +10,17 @@ use collation_table::Weights;
 /// The fewest bytes of a short text by which a place is chosen.
 const SHORTEST: usize = 33;
 
+/// The most bytes of one text alone for which no place is chosen.
+const LONGEST_WITHOUT_PLACE: usize = 6_000;
+
 /// What passes text of ASCII in blocks, for one table and one pattern. Takes no memory.
 #[derive(Clone, Copy, Debug)]
 pub struct AsciiBlocks {
     pub(crate) classes: Option<Classes>,
-    /// How many bytes the text had by which the place was chosen; 0 before one was. Nothing passes before.
-    sample: usize,
-    /// How many bytes came until then, counted again where they came again.
+    /// The fewest bytes of a text that is looked at for a choice of a place: 0 before one was chosen, and twice as many as the text had by
+    /// which one was, if that was short. Behind the choice by a long one, and for one short text alone, no text has as many.
+    wanted: usize,
+    /// How many bytes the texts had that were looked at, counted again where they came again.
     seen: usize,
     /// How many bytes were looked over the last time that none were passed by.
     pub(crate) looked: usize,
@@ -36,7 +40,7 @@ impl AsciiBlocks {
     {
         AsciiBlocks {
             classes: None,
-            sample: 0,
+            wanted: 0,
             seen: 0,
             looked: 0,
         }
@@ -60,7 +64,7 @@ impl AsciiBlocks {
         ensures passes { IfSome result
             (PassesTo (W.table table.now) pattern.now piece.now reach) }
     {
-        if self.sample < SAMPLE && piece.len() / 2 >= self.sample {
+        if piece.len() >= self.wanted {
             self.choose(table, pattern, letters, piece);
         }
         let Some(classes) = &self.classes else {
@@ -75,6 +79,17 @@ impl AsciiBlocks {
             reach,
             &mut self.looked,
         )
+    }
+
+    /// Prepares, before its first byte, for one text alone of so many bytes: for a short one no place is chosen, since that costs more than
+    /// it saves.
+    pub fn prepare(&mut self, len: usize)
+        ensures { (table : TableMap) (pattern : Compiled)
+            → AreBlocksRight table pattern self.old → AreBlocksRight table pattern self.new }
+    {
+        if len <= LONGEST_WITHOUT_PLACE {
+            self.wanted = usize::MAX;
+        }
     }
 
     /// Chooses a place by a text, where it is due.
@@ -93,7 +108,7 @@ impl AsciiBlocks {
     {
         self.seen = self.seen.saturating_add(text.len());
         if self.is_due(text.len()) {
-            self.sample = text.len();
+            self.wanted = wanted_after(text.len());
             self.looked = 0;
             self.classes = classes_for(table, pattern, letters, text);
         }
@@ -102,5 +117,14 @@ impl AsciiBlocks {
     /// Whether a place is chosen by a text of so many bytes: a long one, or where as many came in short ones.
     fn is_due(&self, len: usize) -> bool {
         len >= SAMPLE || (self.seen >= SAMPLE && len >= SHORTEST)
+    }
+}
+
+/// The fewest bytes of a text that is looked at for a choice, behind the choice by a text of so many.
+fn wanted_after(len: usize) -> usize {
+    if len < SAMPLE {
+        len.saturating_mul(2)
+    } else {
+        usize::MAX
     }
 }

@@ -92,6 +92,14 @@ impl Skip {
         self.pace.has_long_rest()
     }
 
+    /// Prepares, before its first byte, for one text alone of so many bytes: of a short one less is found out.
+    pub fn prepare(&mut self, len: usize)
+        ensures { (table : TableMap) (pattern : Compiled)
+            → IsSkipRight table pattern self.old → IsSkipRight table pattern self.new }
+    {
+        self.blocks.prepare(len);
+    }
+
     /// How many bytes at least the last `pass` looked over in vain, in blocks, where it passed nothing by.
     pub fn looked_over(&self) -> usize {
         self.blocks.looked.max(self.looked_by_sets)

@@ -1,6 +1,6 @@
 -- The forms of the lines so far and of those that are left, with the table and the fault that they make; the fault of two files.
-use Rattle.std.proofs.Common.{◌≡◌, ℕ, ◌+◌, ◌<◌, ◌≤◌, List, [], ◌∷◌, ◌++◌, length, take, drop, get_or, map, Option, Some, None, Ok, Err, Result, MatchResult, IfOk, IfErr, OnOk, refl, sym, ap, ◌∙◌, subst, inl, inr, arith, length-drop, append_assoc, append-nil, option_map}
-use Rattle.std.proofs.lemmas.List.{drop_more, take_more, take_all}
+use Rattle.std.proofs.Common.{◌≡◌, ℕ, ◌+◌, ◌<◌, List, [], ◌∷◌, ◌++◌, length, take, drop, get_or, map, Option, Some, None, Ok, Err, Result, MatchResult, IfOk, IfErr, OnOk, refl, sym, ap, ◌∙◌, subst, inl, inr, arith, length-drop, append_assoc, option_map}
+use Rattle.std.proofs.lemmas.List.{drop_more, take_more}
 use Rattle.std.specs.List.{filter_map, cons_option, range_with_len}
 use Rattle.collation_table.specs.declared.faults.TableFault.{TableFault}
 use Rattle.collation_table.specs.Table.{TableMap, row_of, longest_mapped, most_elements}
@@ -8,7 +8,7 @@ use Rattle.std.specs.Option.{option_or}
 use Rattle.std.specs.Str.Lines.{lines}
 use Rattle.collation_table.specs.Spelling.{Form, line_form}
 use Rattle.collation_table.specs.declared.ranges.ImplicitRange.{ImplicitRange}
-use Rattle.collation_table.specs.declared.reader.TableFile.TheVariants.{Base, Tailor}
+use Rattle.collation_table.specs.declared.reader.TableFile.TheVariants.{Tailor}
 use Rattle.collation_table.specs.Overlay.{overlay}
 use Rattle.collation_table.specs.Reading.{reported}
 use Rattle.collation_table.specs.WellFormed.{IsWellFormed, map_fault}
@@ -21,13 +21,6 @@ pub record AfterLines (earlier : List ImplicitRange) (forms left : List (Option 
   pub left_are : drop n forms ≡ left
   pub table_is : T ≡ map_after earlier (take n forms)
   pub fault_is : first_some (fault_of_line earlier forms) (range_with_len n (length left)) ≡ first_line_fault earlier forms
-
-pub AfterLines-none : (T : TableMap) (forms : List (Option Form)) → T.rows ≡ [] → AfterLines T.ranges forms forms 0 T
-AfterLines-none T forms none = record {
-  left_are = refl;
-  table_is = λ i. record { rows = none i; ranges = sym (append-nil T.ranges) i };
-  fault_is = refl;
-}
 
 -- what one more line leaves
 cons_option-append : {Y : Type 0} (o : Option Y) (ys zs : List Y) → cons_option o (ys ++ zs) ≡ cons_option o ys ++ zs
@@ -81,15 +74,6 @@ AfterLines-more earlier forms more n form T so e =
           (fault_here earlier forms more n form T so.table_is so.left_are ∙ ap (fault_at_line (n + 1)) e)) ∙ so.fault_is;
     }
 
--- with nothing left, no line is at fault, and the table is that of all
-pub first_line_fault-none : (earlier : List ImplicitRange) (forms : List (Option Form)) (n : ℕ) (T : TableMap) → AfterLines earlier forms [] n T → first_line_fault earlier forms ≡ None
-first_line_fault-none earlier forms n T so = sym so.fault_is
-
-pub table_of_all : (earlier : List ImplicitRange) (forms : List (Option Form)) (n : ℕ) (T : TableMap) → AfterLines earlier forms [] n T → T ≡ map_after earlier forms
-table_of_all earlier forms n T so =
-    let past : length forms ≤ n = omega (arith, length-drop n forms, ap length so.left_are) in
-    so.table_is ∙ ap (map_after earlier) (take_all n forms past)
-
 -- the same, where the next line was cut off what is left of a file
 next_line : (earlier : List ImplicitRange) (bytes rest text following : List ℕ) (n : ℕ) (T : TableMap) → lines rest ≡ text ∷ lines following → AfterLines earlier (forms_of bytes) (forms_of rest) n T
     → AfterLines earlier (forms_of bytes) (line_form text ∷ forms_of following) n T
@@ -101,31 +85,7 @@ AfterLines-line earlier count bytes rest text following n T U many e so right is
     subst (λ V. AfterLines earlier (forms_of bytes) (forms_of following) (n + 1) V) (sym is)
     (AfterLines-more earlier (forms_of bytes) (forms_of following) n (line_form text) T (next_line earlier bytes rest text following n T e so) (sym (ap (λ k. line_kind k T (line_form text)) many) ∙ right))
 
-pub line_at_fault : (report : TableFault → TableFault) (earlier : List ImplicitRange) (count : ℕ) (bytes rest text following : List ℕ) (n : ℕ) (T : TableMap) (fault : TableFault) → count ≡ length earlier
-    → lines rest ≡ text ∷ lines following → AfterLines earlier (forms_of bytes) (forms_of rest) n T → IsFaultOrAllocationRefused (option_map report (fault_at_line (n + 1) (line_kind count T (line_form text)))) fault
-    → IsFaultOrAllocationRefused (option_map report (first_line_fault earlier (forms_of bytes))) fault
-line_at_fault report earlier count bytes rest text following n T fault many e so (inl there) =
-    by (fault_at_line (n + 1) (line_kind (length earlier) T (line_form text))) refl (ap (λ k. option_map report (fault_at_line (n + 1) (line_kind k T (line_form text)))) (sym many) ∙ there)
-  where
-    by : (o : Option TableFault) → fault_at_line (n + 1) (line_kind (length earlier) T (line_form text)) ≡ o → option_map report o ≡ Some fault
-        → IsFaultOrAllocationRefused (option_map report (first_line_fault earlier (forms_of bytes))) fault
-    by None is none = cc
-    by (Some found) is reported =
-        inl (ap (option_map report) (first_fault earlier (forms_of bytes) (forms_of following) n (line_form text) T found (next_line earlier bytes rest text following n T e so) is) ∙ reported)
-line_at_fault report earlier count bytes rest text following n T fault many e so (inr memory) = inr memory
-
 -- ---- two files
-
--- a fault of a line of the first file comes before all others
-base_by : (base tailor : List ℕ) (fault : TableFault) (o : Option TableFault) → first_line_fault [] (forms_of base) ≡ o → option_map (reported Base) o ≡ Some fault → IsFaultOrAllocationRefused (tailored_fault base tailor) fault
-base_by base tailor fault None is none = cc
-base_by base tailor fault (Some found) is reported =
-    inl (ap (λ o. option_or o (option_or (option_map in_tailor (first_line_fault (map_of (forms_of base)).ranges (forms_of tailor))) (fault_at_line 0 (map_fault (tailored_map base tailor))))) is ∙ reported)
-
-pub base_at_fault : (base tailor : List ℕ) (none : TableMap) (fault : TableFault) → none ≡ record { rows = []; ranges = [] } → IsFaultOrAllocationRefused (option_map (reported Base) (first_line_fault none.ranges (forms_of base))) fault
-    → IsFaultOrAllocationRefused (tailored_fault base tailor) fault
-base_at_fault base tailor none fault start (inl there) = base_by base tailor fault (first_line_fault none.ranges (forms_of base)) (ap (λ (T : TableMap). first_line_fault T.ranges (forms_of base)) (sym start)) there
-base_at_fault base tailor none fault start (inr memory) = inr memory
 
 -- what is known once the lines of the first file were read: none is at fault, and its ranges are those before the tailor's
 record BaseIsRead (base : List ℕ) (B R : TableMap) : Type 0 where

@@ -4,15 +4,6 @@ use Rattle.std.proofs.lemmas.List.{get_or-set_same, get_or-set_other}
 use Rattle.collation_table.specs.declared.pages.PageEntry.{PageEntry}
 use Rattle.collation_table.specs.Trie.{in_page, page_entry, no_page_entry}
 
-in_page-push : {A : Type 0} (pages : List (Vec PageEntry A)) (v : Vec PageEntry A) → v.items ≡ [] → (k i : ℕ) → in_page (slice_get (pages ++ v ∷ []) k) i ≡ in_page (slice_get pages k) i
-in_page-push [] v empty zero i = ap (λ l. get_or l i no_page_entry) empty
-in_page-push [] v empty (suc k) i = refl
-in_page-push (p ∷ pages) v empty zero i = refl
-in_page-push (p ∷ pages) v empty (suc k) i = in_page-push pages v empty k i
-
-pub page_entry-push : {A : Type 0} (pages : List (Vec PageEntry A)) (v : Vec PageEntry A) → v.items ≡ [] → (cp : ℕ) → page_entry (pages ++ v ∷ []) cp ≡ page_entry pages cp
-page_entry-push pages v empty cp = in_page-push pages v empty (cp / 256) (cp % 256)
-
 replicated : (n i : ℕ) → get_or (replicate n no_page_entry) i no_page_entry ≡ no_page_entry
 replicated zero i = refl
 replicated (suc n) zero = refl

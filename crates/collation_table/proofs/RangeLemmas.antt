@@ -1,10 +1,10 @@
 -- Lemmas on lists of implicit ranges.
-use Rattle.std.proofs.Common.{◌≡◌, ℕ, zero, suc, ◌+◌, ◌-◌, ◌<◌, ◌≤◌, Bool, true, false, not, ◌||◌, nat_eq, nat_lt, nat_le, cond, List, [], ◌∷◌, take, map, Some, slice_get, refl, sym, ap, ◌∙◌, arith, eq-eqb, if◌then◌else◌, find, ◌⊎◌, inl, inr, lit≤}
+use Rattle.std.proofs.Common.{◌≡◌, ℕ, zero, suc, ◌+◌, ◌-◌, ◌<◌, ◌≤◌, Bool, true, false, not, ◌||◌, nat_eq, nat_lt, nat_le, cond, List, [], ◌∷◌, take, map, Some, slice_get, refl, sym, ap, ◌∙◌, arith, eq-eqb, if◌then◌else◌, find, ◌⊎◌, inl, inr}
 use Rattle.std.specs.Int.{is_in_range}
 use Rattle.std.proofs.lemmas.Bool.{ltb-false, leb-true, eqb-true, cases_lt, and_parts, or_parts}
 use Rattle.std.specs.List.{list_any}
 use Rattle.collation_table.specs.declared.ranges.ImplicitRange.{ImplicitRange}
-use Rattle.collation_table.specs.Table.{is_core_ideograph, is_other_ideograph, implicit_base, first_with_base, greatest, is_in}
+use Rattle.collation_table.specs.Table.{first_with_base, greatest, is_in}
 use Rattle.collation_table.specs.WellFormed.{breaks_ranges, overlaps, with_base, AreRangesSound}
 
 pub first_with_base-le : (base cp : ℕ) (rs : List ImplicitRange) → first_with_base base cp rs ≤ cp
@@ -109,10 +109,3 @@ offset_le ranges cp r sound found =
     let low : cp - 0x7FFF ≤ first_with_base r.base cp ranges =
     first_with_base-ge r.base cp (cp - 0x7FFF) ranges (omega arith) (λ k s at same. omega (arith, AreRangesSound-spread ranges place.0 k r s sound place.1 at same)) in
     omega (arith, low)
-
-cond_le : (b : Bool) (x y z : ℕ) → x ≤ z → y ≤ z → cond b x y ≤ z
-cond_le true x y z p q = p
-cond_le false x y z p q = q
-
-pub implicit_base-le : (cp : ℕ) → implicit_base cp ≤ 0xFBC0
-implicit_base-le cp = cond_le (is_core_ideograph cp) 0xFB40 _ 0xFBC0 (lit≤ tt) (cond_le (is_other_ideograph cp) 0xFB80 0xFBC0 0xFBC0 (lit≤ tt) (lit≤ tt))

@@ -227,10 +227,6 @@ place_from-put_here E F s c e set node prefix leads =
 
 -- ---- code points that lead nowhere
 
--- after a first code point without a node no mapped string goes on
-pub no_longer_string : (E : ℕ → ℕ → Entry) (c d : ℕ) (cs : List ℕ) → (E 0 c).node ≡ None → place_from E 0 (c ∷ d ∷ cs) ≡ None
-no_longer_string E c d cs none = ap (λ (o : Option ℕ). o >>= λ n. seek E (E n d) cs) none
-
 -- no mapped string has a code point after its first place with which no step is taken
 pub no_string_with : (E : ℕ → ℕ → Entry) (count : ℕ) → IsTrieOf E count → (c : ℕ) → ((s : ℕ) → 0 < s → E s c ≡ no_entry) → (prefix : List ℕ) (s d : ℕ) (cs : List ℕ) → seek E (E s d) (prefix ++ c ∷ cs) ≡ None
 no_string_with E count trie c none [] s d cs =

@@ -1,5 +1,5 @@
 -- The first word of bytes, and the words after it.
-use Rattle.std.proofs.Common.{◌≡◌, ℕ, ◌+◌, ◌<◌, Bool, true, false, not, cond, ltb, eqb, List, [], ◌∷◌, ◌++◌, length, take, drop, get_or, Option, Some, None, option_map, refl, sym, ap, ◌∙◌, arith, suc, add-one, drop-cons, append-nil}
+use Rattle.std.proofs.Common.{◌≡◌, ℕ, ◌+◌, ◌<◌, Bool, true, false, not, cond, ltb, eqb, List, [], ◌∷◌, ◌++◌, length, take, drop, get_or, Option, Some, None, option_map, refl, sym, ap, ◌∙◌, arith, suc, add-one, drop-cons}
 use Rattle.std.specs.List.{position_or_len}
 use Rattle.std.proofs.lemmas.Bool.{ltb-true, ltb-false, ne_eqb, true≢false}
 use Rattle.std.proofs.lemmas.Option.{none-some}
@@ -79,7 +79,3 @@ pub points_none : (string text bytes : List ℕ) → 0 < length bytes → begins
 points_none string text bytes some blank none before =
     let w = first_word bytes in
     ap (λ o. o >>= λ string. some_of string) (sym before ∙ ap (joined string) (ap points_in w.pieces_are ∙ points_in-none w.rest (take (place bytes) bytes) (full_word bytes some blank) none))
-
--- each word is
-pub points_all : (string text : List ℕ) → joined string (points_in (pieces [])) ≡ points_in (pieces text) → string_of text ≡ some_of string
-points_all string text before = ap (λ o. o >>= λ string. some_of string) (sym before) ∙ ap (λ string. some_of string) (append-nil string)

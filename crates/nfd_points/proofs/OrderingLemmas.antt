@@ -79,11 +79,6 @@ unfoldable pub sink_all : List Point → List Point → List Point
 sink_all [] zs = zs
 sink_all (x ∷ xs) zs = sink x (sink_all xs zs)
 
-pub sink_all-append : (xs ys zs : List Point) → sink_all (xs ++ ys) zs ≡ sink_all xs (sink_all ys zs)
-unfolding sink_all
-sink_all-append [] ys zs = refl
-sink_all-append (x ∷ xs) ys zs = ap (sink x) (sink_all-append xs ys zs)
-
 pub ordered-cons : (c : Point) (cs : List Point) → ordered (c ∷ cs) ≡ sink c (ordered cs)
 unfolding ordered
 ordered-cons c cs = refl
@@ -160,10 +155,6 @@ is_in_order-one a = refl
 pub is_in_order-tail : (a : Point) (cs : List Point) → is_in_order (a ∷ cs) ≡ true → is_in_order cs ≡ true
 is_in_order-tail a [] h = is_in_order-nil
 is_in_order-tail a (b ∷ cs) h = (is_in_order-parts a b cs h).1
-
-pub is_in_order-starter : (s : Point) (cs : List Point) → s.ccc ≤ 0 → is_in_order cs ≡ true → is_in_order (s ∷ cs) ≡ true
-is_in_order-starter s [] h rest = is_in_order-one s
-is_in_order-starter s (c ∷ cs) h rest = is_in_order-cons s c cs (not_reorderable_rising s c (omega arith)) rest
 
 pub sink-ordered : (c : Point) (cs : List Point) → is_in_order (c ∷ cs) ≡ true → sink c cs ≡ c ∷ cs
 sink-ordered c [] h = sink-nil c

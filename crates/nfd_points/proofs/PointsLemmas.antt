@@ -94,9 +94,6 @@ HasClass-points_from start [] = All-nil HasClass
 HasClass-points_from start (c ∷ cs) =
     All-append HasClass _ _ (HasClass-points_at start true (decomposition c)) (HasClass-points_from (start + len_utf8 c) cs)
 
-pub HasClass-points : (cs : List ℕ) → All HasClass (points cs)
-HasClass-points cs = All-ordered HasClass _ (HasClass-points_from 0 cs)
-
 -- ---- the code points of the points are the NFD of the text
 
 code_points-points_from : (start : ℕ) (cs : List ℕ) → code_points (points_from start cs) ≡ flat_map (decompose Nfd) cs

@@ -136,10 +136,6 @@ mark-moved out held held' p at h here ne inserted rest =
     ap (λ l. out ++ l)
     (take-mark held p rest ∙ ap (λ l. ordered (l ++ rest)) (sym (mark-inserted held p at h here ne) ∙ sym inserted))
 
-pub length-insert_one : (held : List Point) (p : Point) (at : ℕ) → IsHeld held → at ≡ length (take_while (λ q. nat_le q.ccc p.ccc) held) → p.ccc ≢ 0 → length (insert held at p) ≡ length held + 1
-length-insert_one held p at h here ne =
-    ap length (mark-inserted held p at h here ne) ∙ length-ordered (held ++ p ∷ []) ∙ length-append held (p ∷ []) ∙ omega arith
-
 -- ---- what was given
 
 pub given-all : (w : Waiting) (taken : List ℕ) (given : List Point) → HasReordered w taken given → points taken ≡ given ++ w.held

@@ -101,6 +101,6 @@ returns-clause-left_afresh g c = λ taken ranges p offset begins.
     let ends = ends_here table (points taken) at c.args.c b (subst (λ k. EndsBefore table (points taken) k c.args.c) (sym offset) p.ends) in
     let held = ap (λ w. w.points) c.push_points.ensures.points ∙ ap (λ (ps : List Point). ps ++ c.as_slice.result.now) p.paused.none_left ∙ c.as_slice.ensures.value in
     let open_window = ap (λ w. w.has_ended) c.push_points.ensures.points ∙ c.requires.open in
-    cut-afresh c.laws_of_reordering.ensures.last table c.push.new.self taken c.args.c out given.0 c.cut_units.new.window.points b.first
+    cut-afresh c.laws_of_reordering.ensures.last table c.push.new.self taken (c.args.c ∷ []) out given.0 c.cut_units.new.window.points b.first
     (c.in_ok-push.ensures.afresh taken p.paused.none_waits offset begins p.paused.good) given.1 starter ends
     (c.cut_units.ensures.left open_window ∙ ap (left_points table) held)
