@@ -1,15 +1,17 @@
-"""How long colfind takes over texts aimed at the ways that a search takes, beside builds that take fewer of them.
+"""How many instructions colfind takes over texts aimed at the ways that a search takes, beside builds that take fewer of them.
 
     python3 ways.py COLFIND LETTERS STEPS
 
-LETTERS takes letters and passes nothing by; STEPS goes by steps alone. Both are made by `steps`. Each figure is processor time over
-4 MB, the best of five runs, one program after the other, with the time of an empty text taken off. Two numbers of matches are compared,
-that of the pattern and that of two characters of the text itself. A line that begins with `wrong` is an answer, or memory, that is not
-what it must be.
+LETTERS takes letters and passes nothing by; STEPS goes by steps alone. Both are made by `steps`. Each figure is millions of instructions
+a megabyte, counted by callgrind over 2 MB, with those of an empty text taken off: it is the same however loud the machine is. Two numbers
+of matches are compared, that of the pattern and that of two characters of the text itself. A line that begins with `wrong` is an answer, or
+memory, that is not what it must be.
 """
 
+import concurrent.futures
 import os
 import random
+import re
 import subprocess
 import sys
 import tempfile
@@ -18,8 +20,7 @@ import unicodedata
 from figures import MEGABYTE, Bench, plain_text
 
 CLDR = "/usr/share/unicode/cldr/common/uca/allkeys_CLDR.txt"
-ROUNDS = 5
-SIZE = 4 * MEGABYTE
+MEGABYTES = 2  # of each text
 MOST_MEMORY = 15  # megabytes
 PIECE = 4096  # the bytes that the program reads at once
 SHIFTED = "--variable", "shifted"
@@ -153,11 +154,20 @@ def matches(bench, name, words, text, others):
     return f"{int(answer[1]):,}" if answer[1] else answer[2].decode().strip()
 
 
-def best_seconds(benches, words, text, none):
-    """The best time of each program, which run one after the other."""
-    runs = [[(bench.once(words, text)[1], bench.once(words, none)[1]) for bench in benches] for _ in range(ROUNDS)]
-    bests = [[min(times) for times in zip(*of_one)] for of_one in zip(*runs)]
-    return [max(whole - empty, 1e-4) for whole, empty in bests]
+def instructions(bench, words, text):
+    """How many instructions a run takes."""
+    with open(text, "rb") as data, tempfile.NamedTemporaryFile() as counts:
+        words = ["valgrind", "--tool=callgrind", f"--callgrind-out-file={counts.name}", bench.colfind, *words]
+        ran = subprocess.run(words, stdin=data, capture_output=True, check=False)
+    return int(re.search(rb"Collected : (\d+)", ran.stderr)[1])
+
+
+def millions(benches, words, text, none):
+    """The millions of instructions a megabyte of each program, which run at once."""
+    with concurrent.futures.ThreadPoolExecutor() as runs:
+        whole = runs.map(lambda bench: instructions(bench, words, text), benches)
+        empty = runs.map(lambda bench: instructions(bench, words, none), benches)
+        return [(all_of - start) / MEGABYTES / 1e6 for all_of, start in zip(whole, empty)]
 
 
 def megabytes(bench, words, text):
@@ -168,18 +178,19 @@ def megabytes(bench, words, text):
 
 
 def row(benches, name, pattern, part, front="", options=()):
-    """Measures and prints a row: the seconds beside each of the other programs, and the megabytes."""
+    """Measures and prints a row: the instructions beside each of the other programs, and the megabytes."""
     bench, others = benches[0], benches[1:]
-    text, none = bench.file("text", front.encode() + repeated(part, SIZE - len(front.encode()))), bench.file("none", b"")
+    size = MEGABYTES * MEGABYTE - len(front.encode())
+    text, none = bench.file("text", front.encode() + repeated(part, size)), bench.file("none", b"")
     words = ["--table", CLDR, "--strength", "1", "--output", "count", *options, "--"]
     numbers = [matches(bench, name, words + [sought], text, others) for sought in (pattern, own_pattern(part))]
-    seconds, memory = best_seconds(benches, words + [pattern], text, none), megabytes(bench, words + [pattern], text)
+    counts, memory = millions(benches, words + [pattern], text, none), megabytes(bench, words + [pattern], text)
     if memory > MOST_MEMORY:
         bench.wrong += 1
         print(f"wrong: {name}: {memory:.1f} MB")
-    beside = [seconds[0] / other for other in seconds[1:]]
+    beside = [counts[0] / other for other in counts[1:]]
     sought = f"`{pattern}`" if len(pattern) < 20 else f"{len(pattern):,} letters"
-    figures = [f"{figure:.4f}" for figure in seconds] + [f"{ratio:.2f}" for ratio in beside] + [f"{memory:.1f}"]
+    figures = [f"{count:.1f}" for count in counts] + [f"{ratio:.2f}" for ratio in beside] + [f"{memory:.1f}"]
     print("| " + " | ".join([name, sought, *numbers, *figures]) + " |", flush=True)
     return [*beside, memory]
 
@@ -187,14 +198,14 @@ def row(benches, name, pattern, part, front="", options=()):
 def main():
     if len(sys.argv) != 4:
         sys.exit(__doc__)
-    headings = ["text", "pattern", "matches", "of two of its characters", "seconds, 4 MB", "by letters alone", "by steps alone"]
+    headings = ["text", "pattern", "matches", "of two of its characters", "millions a MB", "by letters alone", "by steps alone"]
     headings += ["beside letters", "beside steps", "MB"]
     print("| " + " | ".join(headings) + " |\n|" + "---|" * len(headings))
     with tempfile.TemporaryDirectory() as folder:
         benches = [Bench(os.path.abspath(path), folder) for path in sys.argv[1:]]
         rows = [row(benches, *case) for case in cases()]
     letters, steps, memory = map(max, zip(*rows))
-    print(f"\nAt most {letters:.2f} times as long as by letters alone, {steps:.2f} times as by steps alone; {memory:.1f} MB")
+    print(f"\nAt most {letters:.2f} times as many as by letters alone, {steps:.2f} times as by steps alone; {memory:.1f} MB")
     print(f"\n{benches[0].wrong} wrong answers")
     sys.exit(1 if benches[0].wrong else 0)
 

@@ -1,5 +1,5 @@
 -- Which bytes are in a set.
-use Rattle.std.specs.Prelude.{ℕ, ◌/◌, ◌%◌, List, slice_index, bit_and, bit_or}
+use Rattle.std.specs.Prelude.{◌≡◌, ◌<◌, ◌≤◌, ℕ, ◌/◌, ◌%◌, List, slice_index, bit_and, bit_or}
 use Rattle.byte_blocks.specs.declared.sets.ByteSet.{ByteSet}
 use Rattle.byte_blocks.specs.declared.sets.TheConstants.{COLUMNS, HIGH_COLUMNS, LEADS, TRAILS}
 
@@ -19,3 +19,7 @@ leads byte = slice_index LEADS (byte / 16)
 -- not 0 where a byte stands behind the first one of a character
 abbrev pub trails : ℕ → ℕ
 trails byte = slice_index TRAILS (byte / 16)
+
+-- none of the bytes from one place on, up to another, is in a set of ASCII
+abbrev pub HasNone : List ℕ → List ℕ → ℕ → ℕ → Type 0
+HasNone set bytes from to = (i : ℕ) → from ≤ i → i < to → in_set set (slice_index bytes i) ≡ 0

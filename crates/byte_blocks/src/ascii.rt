@@ -4,7 +4,7 @@ ghost use Rattle.byte_blocks.specs.Ascii.{DoesNotPass, EndsAt, HaltsDecide, Keys
 ghost use Rattle.byte_blocks.specs.Sets.{in_set as in_set_of};
 
 use crate::lanes::{
-    halts_decide, halts_of, is_zero, key_stops, keys_behind, keys_decide, keys_of, load, stops,
+    halts_decide, halts_of, is_zero, key_stops, keys_behind, keys_decide, load, members_of, stops,
     zeros_in_front, zeros_in_front_of_two,
 };
 use crate::sets::in_set;
@@ -198,8 +198,8 @@ fn two_blocks_len_by_keys(
 {
     let first = load(bytes, at);
     let second = load(bytes, at + 16);
-    let middle = keys_of(sets, first);
-    let last = keys_of(sets, second);
+    let middle = members_of(&sets.key, first);
+    let last = members_of(&sets.key, second);
     let stops_first = key_stops(sets, before, middle, first);
     let stops_second = key_stops(sets, middle, last, second);
     (zeros_in_front_of_two(stops_first, stops_second), last)

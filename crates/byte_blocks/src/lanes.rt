@@ -52,12 +52,12 @@ pub(crate) fn key_stops(sets: &AsciiSets, before: u8x16, keys: u8x16, here: u8x1
     either(least(one_back(before, keys), later), high_bits(here))
 }
 
-/// Not 0 in the lanes of bytes that may have the pattern's key.
+/// Not 0 in the lanes of bytes that are in a set of ASCII.
 #[inline(always)]
-pub(crate) fn keys_of(sets: &AsciiSets, here: u8x16) -> u8x16
-    ensures { HasLanes result (λ k. in_set sets.now.key (slice_index here k)) }
+pub(crate) fn members_of(set: &[u8; 16], here: u8x16) -> u8x16
+    ensures { HasLanes result (λ k. in_set set.now (slice_index here k)) }
 {
-    members(&sets.key, here, columns(here))
+    members(set, here, columns(here))
 }
 
 /// The keys of sixteen bytes, of which the last one is given.

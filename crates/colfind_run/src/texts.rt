@@ -7,7 +7,7 @@ ghost use Rattle.collation_search.specs.Search.{HasSearched, sought};
 ghost use Rattle.collation_search.specs.Feeding.{Feeds};
 
 use colfind_io::{DeviceFault, Lines, PIECE_BYTES, Source, Target};
-use collation_search::{Search, TextFault};
+use collation_search::{Found, Search, TextFault};
 use collation_table::Weights;
 
 /// How the reading of a text has ended.
@@ -21,23 +21,24 @@ pub enum Ending {
     Unread(u64),
 }
 
-/// Searches one piece, and writes the lines of the ranges that became known. None waits afterwards.
+/// Searches one piece, and writes the lines of the ranges that became known. None waits afterwards. `found` is room that it uses.
 fn search_piece<'a, W: Weights, O: Target>(
     search: &mut Search<'a, W>,
     piece: &[u8],
+    found: &mut Found,
     lines: &mut Lines,
     out: &mut O,
 ) -> Result<(), TextFault>
     requires { lines.old.failed ≡ false → O.failures out.old < 2 ^ 63 }
-    ensures fed { (found : List (ℕ × ℕ)) × Feeds search.old piece.now result found search.new
+    ensures fed { (known : List (ℕ × ℕ)) × Feeds search.old piece.now result known search.new
         × ((form : Output) (ranges : List (ℕ × ℕ)) (before : Option (List ℕ)) (failures : ℕ)
         → Prints form lines.old ranges before (O.held out.old) failures (O.failures out.old)
-        → Prints form lines.new (ranges ++ found) before (O.held out.new) failures
+        → Prints form lines.new (ranges ++ known) before (O.held out.new) failures
         (O.failures out.new)) }
     ensures sent { lines.new.waiting.bytes ≡ [] }
     ensures ready { lines.new.failed ≡ false → O.failures out.new < 2 ^ 63 }
 {
-    let answer = search.feed(piece, &mut |start, end| lines.put(out, start, end));
+    let answer = search.feed_with(piece, found, &mut |start, end| lines.put(out, start, end));
     lines.send(out);
     answer
 }
@@ -67,13 +68,14 @@ pub fn search_text<'a, W: Weights, R: Source, O: Target>(
     ensures err { OnErr result (R.failures reader.new ≡ R.failures reader.old) }
 {
     let mut piece = [0u8; PIECE_BYTES];
+    let mut found = Found::new();
     let mut taken = 0u64;
     loop {
         match reader.read(&mut piece) {
             Err(_) => return Ok(Ending::Unread(taken)),
             Ok(0) => return Ok(Ending::End),
             Ok(count) => {
-                let answer = search_piece(search, &piece[..count], lines, out);
+                let answer = search_piece(search, &piece[..count], &mut found, lines, out);
                 if lines.has_failed() {
                     search.has_handed_out();
                     return Err(DeviceFault);

@@ -8,14 +8,9 @@ use collation_table::Weights;
 use collation_walk::Query;
 use std::alloc::{AllocError, Global};
 
-/// The most bytes that are walked over before text is passed by again, once some were not worth it.
+/// The most bytes that are walked over before text is passed by again, once some were not worth it: more only where more were looked over
+/// in vain.
 const MOST_HELD: usize = 256;
-
-/// The same where much of what was left of a piece was looked over in vain.
-const MOST_HELD_IN_VAIN: usize = 32_768;
-
-/// How many times as many bytes are walked over then, at most, as were looked over.
-const TIMES_LOOKED: usize = 8;
 
 /// How many bytes that were passed by are so much that none are walked over next.
 const MUCH: usize = 24;
@@ -157,13 +152,9 @@ fn held_after(hold: usize, passed: usize, was_worth_it: bool) -> usize {
     held.min(MOST_HELD)
 }
 
-/// The same where nothing was passed by: twice as many, up to eight times as many as were looked over in vain, or `MOST_HELD`; and at least
-/// as many as these.
+/// The same where nothing was passed by: twice as many, up to `MOST_HELD`, and at least as many as were looked over in vain.
 pub(crate) fn held_in_vain(hold: usize, looked: usize) -> usize {
-    let most = looked
-        .saturating_mul(TIMES_LOOKED)
-        .clamp(MOST_HELD, MOST_HELD_IN_VAIN);
-    twice(hold).max(looked).min(most)
+    twice(hold).min(MOST_HELD).max(looked)
 }
 
 /// Twice as many bytes. Where it is none or one, one letter is walked over: so two come next.

@@ -112,19 +112,6 @@ impl Letter {
     ghost use Rattle.collation_letters.specs.Symbols.{listed};
     ghost use Rattle.collation_letters.specs.declared.letter.Role.TheVariants.{Base};
 
-    /// Whether its role says that its characters begin with a starter.
-    #[inline(always)]
-    pub fn has_starter(&self) -> bool
-        ensures { result ≡ true → (table : TableMap) (pattern : Compiled) (cs : List ℕ)
-            → IsLetter table pattern cs self.now
-            → begins_with_starter (points_from 0 cs) ≡ true }
-    {
-        match self.role {
-            Role::Plain | Role::Base | Role::VariableBase | Role::Silent => true,
-            Role::Steps | Role::PrimaryMark | Role::Mark => false,
-        }
-    }
-
     /// Whether its characters are known to begin with a starter.
     #[inline(always)]
     pub fn is_starter(&self) -> bool

@@ -1,5 +1,5 @@
 -- Text of ASCII that a search passes in blocks of bytes: the classes of bytes, and what they say of their characters.
-use Rattle.std.specs.Prelude.{◌≡◌, ◌≢◌, ℕ, suc, ◌-◌, ◌<◌, ◌≤◌, min, Bool, false, List, [], ◌∷◌, ◌++◌, length, slice_get, slice_index, Some}
+use Rattle.std.specs.Prelude.{◌≡◌, ◌≢◌, ℕ, suc, ◌-◌, ◌<◌, ◌≤◌, min, Bool, false, List, [], ◌∷◌, ◌++◌, length, slice_get, Some}
 use Rattle.std.specs.Option.{ForSome}
 use Rattle.nfd_points.specs.Points.{points_from}
 use Rattle.byte_blocks.specs.Sets.{in_set}
@@ -83,18 +83,17 @@ abbrev pub IsOfKind : TableMap → Compiled → ℕ → ℕ → Kind → Type 0
 IsOfKind table pattern place c kind =
     Says table pattern place c (kind.halt ≡ false) (kind.key ≡ false) (kind.later ≡ false) (kind.joins ≡ false) (kind.inner ≡ false)
 
--- the classes of all characters of ASCII are right, for a place of the pattern
+-- a character is a cluster with a key that the pattern does not have
+abbrev pub IsCleanCharacter : TableMap → Compiled → ℕ → Type 0
+IsCleanCharacter table pattern c = (letter : Letter) × IsLetter table pattern (c ∷ []) letter × IsClean letter
+
+-- The classes of all characters of ASCII are right, for a place of the pattern. That a character is clean is said to be merely so, so that
+-- this is a proposition.
 pub record AreClassesRight (table : TableMap) (pattern : Compiled) (classes : Classes) : Type 0 where
   pub place : classes.place < length pattern.keys
   pub each : (c : ℕ) → c < 128 → IsClassRight table pattern classes c
+  pub clean : (c : ℕ) → c < 128 → in_set classes.clean c ≢ 0 → ∥ IsCleanCharacter table pattern c ∥₁
 
 -- so are those that were chosen, if any were
 abbrev pub AreBlocksRight : TableMap → Compiled → AsciiBlocks → Type 0
 AreBlocksRight table pattern blocks = ForSome blocks.classes (AreClassesRight table pattern)
-
--- ---- where the text may be left
-
--- the character of ASCII that ends the first bytes of a piece, so many, is a cluster with a key that the pattern does not have
-abbrev pub EndsClean : TableMap → Compiled → List ℕ → ℕ → Type 0
-EndsClean table pattern piece end =
-    (letter : Letter) × IsLetter table pattern (slice_index piece (end - 1) ∷ []) letter × IsClean letter

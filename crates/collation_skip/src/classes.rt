@@ -1,7 +1,7 @@
 //! The classes of the bytes of ASCII: what a search has to know of their characters to pass them in blocks.
-ghost use Rattle.std.specs.Prelude.{◌≡◌, ◌<◌, ◌≤◌, ◌∷◌, [], length, false, true, IfSome};
+ghost use Rattle.std.specs.Prelude.{◌≡◌, ◌≢◌, ◌<◌, ◌≤◌, ◌∷◌, [], length, false, true, IfSome};
 ghost use Rattle.collation_table.specs.Table.{TableMap};
-ghost use Rattle.collation_letters.specs.Letters.{IsLetter};
+ghost use Rattle.collation_letters.specs.Letters.{IsClean, IsLetter};
 ghost use Rattle.collation_letters.specs.Store.{AreLetters};
 ghost use Rattle.byte_blocks.specs.Sets.{in_set};
 ghost use Rattle.collation_skip.specs.Blocks.{AreClassesRight, IsClassRight};
@@ -20,10 +20,12 @@ pub(crate) const SAMPLE: usize = 1_024;
 
 /// A place of a pattern, and sets of bytes of ASCII for it: those that can't be passed halt; the last key of `key` may be the pattern's at
 /// the place; `later` have no key, or their last one may be the pattern's behind the place; out of `joins` a unit may reach, and into `inner`.
+/// Behind one of `clean`, a cluster with a key that the pattern does not have, the text may be left.
 #[derive(Clone, Copy, Debug)]
 pub(crate) struct Classes {
     pub(crate) place: usize,
     pub(crate) sets: AsciiSets,
+    pub(crate) clean: [u8; 16],
 }
 
 /// How many bytes of a short text are counted.
@@ -56,13 +58,28 @@ pub(crate) fn classes_for<W: Weights>(
             fewest = expected;
         }
     }
+    best.clean = clean_bytes(table, pattern, letters);
     if are_right(table, pattern, letters, &best) {
         return Some(best);
     }
     None
 }
 
-/// The classes for a place of the pattern.
+/// The set of the bytes behind which a text may be left.
+fn clean_bytes<W: Weights>(table: &W, pattern: &Pattern, letters: &mut Letters) -> [u8; 16]
+    requires { AreLetters (W.table table.now) pattern.now letters.old }
+    ensures { AreLetters (W.table table.now) pattern.now letters.new }
+{
+    let mut clean = [0; 16];
+    for byte in 0..128u8 {
+        if letters.letter(table, pattern, byte as char).is_clean() {
+            put(&mut clean, byte);
+        }
+    }
+    clean
+}
+
+/// The classes for a place of the pattern, without the bytes behind which a text may be left.
 fn classes_at<W: Weights>(
     table: &W,
     pattern: &Pattern,
@@ -83,6 +100,7 @@ fn classes_at<W: Weights>(
             joins: [0; 16],
             inner: [0; 16],
         },
+        clean: [0; 16],
     };
     for byte in 0..128u8 {
         let letter = letters.letter(table, pattern, byte as char);
@@ -176,9 +194,10 @@ fn are_right<W: Weights>(
 /// Whether the classes are right for a byte whose character has this letter.
 fn is_right(pattern: &Pattern, classes: &Classes, byte: u8, letter: &Letter) -> bool
     requires { classes.now.place < length pattern.now.keys }
-    ensures { result ≡ true → (table : TableMap)
+    ensures class { result ≡ true → (table : TableMap)
         → IsLetter table pattern.now (byte ∷ []) letter.now
         → IsClassRight table pattern.now classes.now byte }
+    ensures clean { result ≡ true → in_set classes.now.clean byte ≢ 0 → IsClean letter.now }
 {
     let kind = kind_of(pattern, letter, classes.place);
     if !has(&classes.sets.halt, byte, kind.halt) {
@@ -193,6 +212,9 @@ fn is_right(pattern: &Pattern, classes: &Classes, byte: u8, letter: &Letter) -> 
     if !has(&classes.sets.joins, byte, kind.joins) {
         return false;
     }
+    if !has_only_if(&classes.clean, byte, letter.is_clean()) {
+        return false;
+    }
     has(&classes.sets.inner, byte, kind.inner)
 }
 
@@ -201,4 +223,11 @@ fn has(set: &[u8; 16], byte: u8, must: bool) -> bool
     ensures { result ≡ true → in_set set.now byte ≡ 0 → must ≡ false }
 {
     !must || in_ascii(set, byte) != 0
+}
+
+/// Whether a byte is in a set only if it may be.
+fn has_only_if(set: &[u8; 16], byte: u8, may: bool) -> bool
+    ensures { result ≡ true → in_set set.now byte ≢ 0 → may ≡ true }
+{
+    may || in_ascii(set, byte) == 0
 }

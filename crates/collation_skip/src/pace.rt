@@ -108,17 +108,17 @@ impl Pace {
         most
     }
 
-    /// The automaton passed by so many bytes of those that it was asked. Where that was not worth while, it is not asked one time, then
-    /// 3, 7, and so on.
-    pub(crate) fn after_moves(&mut self, asked: usize, passed: usize) {
+    /// The automaton passed by so many bytes of those that it was asked, and blocks by so many. Where that was not worth while, it is not
+    /// asked one time, then 3, 7, and so on. Where it passed no more than blocks did, that says nothing.
+    pub(crate) fn after_moves(&mut self, asked: usize, passed: usize, in_blocks: usize) {
         if asked >= MUCH {
             self.is_calm = passed >= asked - LITTLE;
         }
-        self.last_rest = if passed >= WORTH_MOVES {
-            0
-        } else {
-            next_rest(self.last_rest)
-        };
+        if passed < WORTH_MOVES {
+            self.last_rest = next_rest(self.last_rest);
+        } else if passed > in_blocks {
+            self.last_rest = 0;
+        }
         self.rest = self.last_rest;
     }
 

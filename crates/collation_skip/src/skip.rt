@@ -80,8 +80,9 @@ impl Skip {
         if by_sets.is_some() {
             return by_sets;
         }
-        let by_moves = self.pass_by_moves(table, pattern, letters, piece, reach);
-        if by_moves.is_some() {
+        let in_blocks = len_of(&by_blocks);
+        let by_moves = self.pass_by_moves(table, pattern, letters, piece, reach, in_blocks);
+        if len_of(&by_moves) > in_blocks {
             return by_moves;
         }
         by_blocks
@@ -151,7 +152,7 @@ impl Skip {
         Some(passed)
     }
 
-    /// Passes by text by the automaton, and chooses sets by the piece where these are due.
+    /// Passes by text by the automaton, beside blocks, which passed by `in_blocks` bytes. Chooses sets by the piece where these are due.
     fn pass_by_moves<W: Weights>(
         &mut self,
         table: &W,
@@ -159,6 +160,7 @@ impl Skip {
         letters: &mut Letters,
         piece: &[u8],
         reach: usize,
+        in_blocks: usize,
     ) -> Option<Passed>
         requires right { IsSkipRight (W.table table.now) pattern.now self.old }
         requires letters { AreLetters (W.table table.now) pattern.now letters.old }
@@ -173,7 +175,8 @@ impl Skip {
             .automaton
             .pass(table, pattern, letters, piece, reach, is_calm);
         let passed = len_of(&by_moves);
-        self.pace.after_moves(piece.len().min(reach), passed);
+        self.pace
+            .after_moves(piece.len().min(reach), passed, in_blocks);
         if self.pace.are_sets_due(passed, piece.len()) {
             self.sets = sets_for(table, pattern, letters, piece);
         }

@@ -44,20 +44,17 @@ const MIDDLE: usize = 200;
 
 const LONG: usize = 600;
 
-/// In how many of the bytes that pass, the last ones, a text may be left.
-const WAY_BACK: usize = 4_096;
-
-/// By what that number is divided for each further part, where more bytes pass.
-const PARTS: [usize; 5] = [1, 2, 4, 8, 16];
-
 /// How many bytes a text has that may be left behind one place alone.
-const IN_VAIN: usize = 2 * WAY_BACK + 8;
+const IN_VAIN: usize = 8_200;
 
-/// These places: the first and the last that are looked at in each part, and those beside them.
+/// These places, among them those at the ends of blocks that are looked at from the end on.
 const PLACES: [usize; 18] = [
-    0, 255, 256, 511, 512, 1_023, 1_024, 1_025, 2_048, 2_049, 2_050, 2_051, 4_098, 4_099, 4_102,
-    4_103, 8_198, 8_199,
+    0, 1, 6, 7, 8, 22, 23, 255, 1_025, 2_050, 4_102, 8_166, 8_167, 8_182, 8_183, 8_197, 8_198,
+    8_199,
 ];
+
+/// The room of a shorter one, which may be left behind its first letter alone.
+const FEW_IN_VAIN: usize = 48;
 
 /// How far one from the other stops are in calm texts, where they have any.
 const RATES: [usize; 4] = [50, 100, 200, 0];
@@ -166,26 +163,12 @@ fn is_clean(letter: &Letter) -> bool {
     }
 }
 
-/// The last of the bytes of a piece from `first` on up to `end` whose character is a cluster with a key that the pattern does not have.
-fn last_clean_near(ways: &mut Ways<'_>, piece: &[u8], first: usize, end: usize) -> Option<usize> {
-    for at in (first..end).rev() {
+/// The last of the first `len` bytes of a piece whose character is a cluster with a key that the pattern does not have.
+fn last_clean(ways: &mut Ways<'_>, piece: &[u8], len: usize) -> Option<usize> {
+    for at in (0..len).rev() {
         if is_clean(&ways.letter(byte_at(piece, at) as char)) {
             return Some(at);
         }
-    }
-    None
-}
-
-/// The same of the first `len` bytes: where these are more than `WAY_BACK`, looked for in each part until one is found.
-fn last_clean(ways: &mut Ways<'_>, piece: &[u8], len: usize) -> Option<usize> {
-    let mut end = len;
-    for part in PARTS {
-        let first = end.saturating_sub(WAY_BACK / part);
-        let near = last_clean_near(ways, piece, first, end);
-        if near.is_some() || len <= WAY_BACK {
-            return near;
-        }
-        end = first.min(end / 2);
     }
     None
 }
@@ -349,9 +332,9 @@ fn blocks_pass_as_much_as_before(rt: HostRuntime) {
 
 /// A text that ends in letters behind which it can't be left: more and more of them.
 fn compare_in_vain(rt: &impl Abort, ways: &mut Ways<'_>) {
-    let mut text = [b'a'; WAY_BACK + 8];
+    let mut text = [b'a'; FEW_IN_VAIN];
     put_byte(&mut text, 0, b'm');
-    for len in WAY_BACK - 8..WAY_BACK + 8 {
+    for len in 1..FEW_IN_VAIN {
         let piece = text.get(..len).unwrap_or(b"");
         let passed = compare(rt, ways, &TWO, piece, len);
         same_at(rt, &passed, &len, &len);

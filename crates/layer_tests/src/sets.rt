@@ -1,7 +1,7 @@
 //! How many bytes pass by `byte_blocks`, by sets that are made here: the clauses say which, these rows say so of worked pieces.
 
 use crate::calls::same_at;
-use byte_blocks::{AsciiSets, NO_BYTES, TwoByteSets, going_len, passed_len, put};
+use byte_blocks::{AsciiSets, NO_BYTES, TwoByteSets, going_len, len_to_last, passed_len, put};
 
 /// Sets in which `x` halts, and `b` does not pass behind `a`.
 fn ascii_sets() -> AsciiSets {
@@ -56,5 +56,24 @@ fn bytes_pass_up_to_one_that_does_not(rt: HostRuntime) {
         ("the door of the жb", (16, 18)),
     ] {
         same_at(&rt, &lengths(*piece), lengths_of_piece, piece);
+    }
+}
+
+/// In front of a whole block, in it, at its ends, and nowhere; a byte past ASCII is in no set.
+#[test]
+fn the_last_byte_of_a_set_is_found(rt: HostRuntime) {
+    let set = ascii_sets().halt;
+    for (text, len) in &[
+        ("", 0),
+        ("an axe", 5),
+        ("a cat beside the door of a barn", 0),
+        ("x cat beside the door of a barn", 1),
+        ("an axe beside the door of the barn", 5),
+        ("an axe beside the box of the barn", 21),
+        ("the door of the дом and of a box", 35),
+        ("an ax behind the шум of the barn", 5),
+    ] {
+        let bytes = text.as_bytes();
+        same_at(&rt, &len_to_last(&set, bytes, bytes.len()), len, text);
     }
 }

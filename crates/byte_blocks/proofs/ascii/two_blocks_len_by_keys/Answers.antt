@@ -12,8 +12,8 @@ returns-clause-passes c =
     let behind = c.requires.behind in
     let first = c.load-first.result in
     let second = c.load-second.result in
-    let keys_last : in_set sets.key (slice_index bytes (at + 16 - 1)) ≡ slice_index c.keys_of-middle.result 15 =
-    ap (λ (j : ℕ). in_set sets.key (slice_index bytes j)) (omega arith) ∙ ap (in_set sets.key) (sym (c.load-first.ensures.each 15 (omega arith))) ∙ sym (c.keys_of-middle.ensures.each 15 (omega arith)) in
+    let keys_last : in_set sets.key (slice_index bytes (at + 16 - 1)) ≡ slice_index c.members_of-middle.result 15 =
+    ap (λ (j : ℕ). in_set sets.key (slice_index bytes j)) (omega arith) ∙ ap (in_set sets.key) (sym (c.load-first.ensures.each 15 (omega arith))) ∙ sym (c.members_of-middle.ensures.each 15 (omega arith)) in
     two_pass sets bytes (slice_index bytes (at - 1) ∷ first) first (slice_index bytes (at + 16 - 1) ∷ second) second at _ behind zeros.within
     (behind-one bytes first at behind c.load-first.ensures.each) c.load-first.ensures.each
     (λ k less. behind-one bytes second (at + 16) (omega arith) c.load-second.ensures.each k less ∙ ap (λ (j : ℕ). slice_index bytes j) (omega arith)) c.load-second.ensures.each
@@ -30,8 +30,8 @@ returns-clause-stop c = λ few.
     let behind = c.requires.behind in
     let first = c.load-first.result in
     let second = c.load-second.result in
-    let keys_last : in_set sets.key (slice_index bytes (at + 16 - 1)) ≡ slice_index c.keys_of-middle.result 15 =
-    ap (λ (j : ℕ). in_set sets.key (slice_index bytes j)) (omega arith) ∙ ap (in_set sets.key) (sym (c.load-first.ensures.each 15 (omega arith))) ∙ sym (c.keys_of-middle.ensures.each 15 (omega arith)) in
+    let keys_last : in_set sets.key (slice_index bytes (at + 16 - 1)) ≡ slice_index c.members_of-middle.result 15 =
+    ap (λ (j : ℕ). in_set sets.key (slice_index bytes j)) (omega arith) ∙ ap (in_set sets.key) (sym (c.load-first.ensures.each 15 (omega arith))) ∙ sym (c.members_of-middle.ensures.each 15 (omega arith)) in
     two_stop sets bytes (slice_index bytes (at - 1) ∷ first) first (slice_index bytes (at + 16 - 1) ∷ second) second at n behind few
     (behind-one bytes first at behind c.load-first.ensures.each) c.load-first.ensures.each
     (λ k less. behind-one bytes second (at + 16) (omega arith) c.load-second.ensures.each k less ∙ ap (λ (j : ℕ). slice_index bytes j) (omega arith)) c.load-second.ensures.each
@@ -42,4 +42,4 @@ pub returns-clause-last : goal.returns-clause-last
 returns-clause-last c =
     let sets = c.args.sets.now in
     let bytes = c.args.bytes.now in
-    ap (λ (j : ℕ). in_set sets.key (slice_index bytes j)) (omega arith) ∙ ap (in_set sets.key) (sym (c.load-second.ensures.each 15 (omega arith))) ∙ sym (c.keys_of-last.ensures.each 15 (omega arith))
+    ap (λ (j : ℕ). in_set sets.key (slice_index bytes j)) (omega arith) ∙ ap (in_set sets.key) (sym (c.load-second.ensures.each 15 (omega arith))) ∙ sym (c.members_of-last.ensures.each 15 (omega arith))

@@ -1,11 +1,13 @@
 use Rattle.std.specs.Char.{len_utf8}
 use Rattle.std.proofs.Common.{◌≡◌, ℕ, suc, ◌+◌, ◌-◌, ◌<◌, ◌≤◌, List, length, take, get_or, inl, inr, sym, subst, arith}
+use Rattle.std.proofs.Math.Logic.{∥∥₁_map}
 use Rattle.std.proofs.lemmas.Bool.{cases_lt}
 use Rattle.std.proofs.lemmas.Str.{len_utf8_ascii, IsUtf8-from_ascii, chars-IsAscii}
 use Rattle.collation_skip.specs.declared.classes.Classes.{Classes}
 use Rattle.byte_blocks.specs.Ascii.{Passes}
 use Rattle.collation_skip.specs.Passed.{IsPassed}
 use Rattle.collation_skip.proofs.BlockLemmas.{ascii-take, passed-of, spells-ascii}
+use Rattle.collation_skip.proofs.PassedLemmas.{passed-had}
 use Rattle.collation_skip.proofs.AsciiLemmas.{RunLaws, ascii-at}
 use Rattle.collation_skip.proofs.blocks.pass_blocks.Goals as goal
 
@@ -24,17 +26,17 @@ pub returns-clause-passes : goal.returns-clause-passes
 returns-clause-passes g c =
     let p = c.passed_len-len.ensures.passes in
     let most = c.followed_len.ensures.within in
-    let end = c.last_clean-end.result in
+    let end = c.len_to_last-end.result in
     let some : 0 < end = omega (arith, c.if-end-eq0.false) in
     let start = end - 1 in
     let next : suc start ≡ end = omega (arith, some) in
-    let here = c.last_clean-end.ensures.within in
-    let clean = c.last_clean-end.ensures.clean some in
+    let here = c.len_to_last-end.ensures.within in
     let len = c.passed_len-len.result in
     let within : start < len = omega (arith, some, here, most) in
     let long = p.within in
     let classes = c.args.classes.now in
     let piece = c.args.piece.now in
+    let clean = c.requires.classes.clean (get_or piece start 0) (ascii-at classes piece len start p within) (c.len_to_last-end.ensures.member some) in
     let behind = followed classes piece len c.followed_len.result end p most c.followed_len.ensures.followed some here in
     let table = g.W.Weights.table c.args.table.now in
     let pattern = c.args.pattern.now in
@@ -56,5 +58,7 @@ returns-clause-passes g c =
       letter = c.letter-letter.ensures.letter;
       text = IsUtf8-from_ascii (take end piece) ascii;
       passed = λ at. subst (λ (cs : List ℕ). IsPassed table pattern at (at + start) cs (get_or piece end 0)) (sym (chars-IsAscii (take end piece) ascii))
-          (subst (λ n. IsPassed table pattern at (at + start) (take n piece) (get_or piece n 0)) next (passed-of laws c.laws_of_symbols.ensures.listed table pattern classes c.requires.classes piece len start p within room last clean.0 clean.1 clean.2 at));
+          (subst (λ n. IsPassed table pattern at (at + start) (take n piece) (get_or piece n 0)) next
+          (passed-had table pattern at (at + start) (take (suc start) piece) (get_or piece (suc start) 0)
+          (∥∥₁_map clean (λ it. passed-of laws c.laws_of_symbols.ensures.listed table pattern classes c.requires.classes piece len start p within room last it.0 it.1 it.2 at))));
     }

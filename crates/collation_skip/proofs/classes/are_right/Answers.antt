@@ -1,22 +1,25 @@
-use Rattle.std.proofs.Common.{◌≡◌, ℕ, ◌+◌, ◌<◌, subst, arith, inl, inr}
+use Rattle.std.proofs.Common.{◌≡◌, ◌≢◌, ℕ, ◌+◌, ◌<◌, subst, arith, inl, inr}
 use Rattle.std.proofs.lemmas.Bool.{cases_lt}
-use Rattle.collation_table.specs.Table.{TableMap}
-use Rattle.collation_pattern.specs.Compiled.{Compiled}
-use Rattle.collation_skip.specs.declared.classes.Classes.{Classes}
-use Rattle.collation_skip.specs.Blocks.{IsClassRight}
+use Rattle.byte_blocks.specs.Sets.{in_set}
+use Rattle.collation_skip.specs.Blocks.{IsClassRight, IsCleanCharacter}
 use Rattle.collation_skip.proofs.classes.are_right.Goals as goal
 
 -- one byte more
-one-more : (table : TableMap) (pattern : Compiled) (classes : Classes) (byte : ℕ) → ((c : ℕ) → c < byte → IsClassRight table pattern classes c) → IsClassRight table pattern classes byte →
-    (c : ℕ) → c < byte + 1 → IsClassRight table pattern classes c
-one-more table pattern classes byte before right c less = elim (cases_lt c byte) [
+one-more : (P : ℕ → Type 0) (byte : ℕ) → ((c : ℕ) → c < byte → P c) → P byte → (c : ℕ) → c < byte + 1 → P c
+one-more P byte before here c less = elim (cases_lt c byte) [
   | inl lower ↦ before c lower
-  | inr not_lower ↦ (let same : byte ≡ c = omega (arith, less, not_lower) in subst (IsClassRight table pattern classes) same right)
+  | inr not_lower ↦ (let same : byte ≡ c = omega (arith, less, not_lower) in subst P same here)
 ]
 
 pub loop-byte-preserved : goal.loop-byte-preserved
-loop-byte-preserved g c = record {
-  right = c.letter-letter.ensures.right;
-  each = one-more (g.W.Weights.table c.args.table.now) c.args.pattern.now c.args.classes.now c.loop-byte.byte c.loop-byte.invariant.each
-      (c.is_right.ensures c.if-not-is_right.false (g.W.Weights.table c.args.table.now) c.letter-letter.ensures.letter);
-}
+loop-byte-preserved g c =
+    let table = g.W.Weights.table c.args.table.now in
+    let pattern = c.args.pattern.now in
+    let classes = c.args.classes.now in
+    let said = c.is_right.ensures in
+    let right = c.if-not-is_right.false in
+    record {
+      right = c.letter-letter.ensures.right;
+      each = one-more (IsClassRight table pattern classes) c.loop-byte.byte c.loop-byte.invariant.each (said.class right table c.letter-letter.ensures.letter);
+      clean = one-more (λ b. in_set classes.clean b ≢ 0 → ∥ IsCleanCharacter table pattern b ∥₁) c.loop-byte.byte c.loop-byte.invariant.clean (λ some. ∣ (c.letter-letter.result, c.letter-letter.ensures.letter, said.clean right some) ∣₁);
+    }

@@ -1,7 +1,7 @@
 use Rattle.collation_skip.proofs.classes.is_right.Goals as goal
 
-pub returns : goal.returns
-returns c = λ yes table h.
+pub returns-clause-class : goal.returns-clause-class
+returns-clause-class c = λ yes table h.
     let says = c.kind_of-kind.ensures table c.args.byte h in
     let halt = c.has.ensures c.if-not-has.false in
     let key = c.has-2.ensures c.if-not-has-2.false in

@@ -1,8 +1,0 @@
-use Rattle.byte_blocks.proofs.PassLemmas.{member}
-use Rattle.byte_blocks.proofs.lanes.keys_of.Goals as goal
-
-pub returns : goal.returns
-returns c = record {
-  long = c.members.ensures.long;
-  each = λ k less. member c.args.sets.now.key c.args.here c.columns.result c.members.result c.columns.ensures c.members.ensures k less;
-}
