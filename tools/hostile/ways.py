@@ -111,6 +111,8 @@ def cases():
     yield "a unit left to the steps at each second character", "zz", "a\u0f71\u0f72"
     yield "zero bytes", "zz", "\0"
     yield "the second key at each character", "ba", "a"
+    yield "the second key 1,020 times, a match, 32 others, in turn", "ba", "a" * 1020 + "ba" + "m" * 32
+    yield "25,000 bytes of plain text, 40,000 zero bytes, in turn", "zz", repeated(prose, 25000).decode() + "\0" * 40000
     yield "the first key at each character", "ab", "a"
     yield "the first eight keys at each character", "a" * 9 + "b", "a"
     yield "a match at each character", "a", "a"
