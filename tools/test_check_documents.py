@@ -77,9 +77,13 @@ class CheckDocumentsTest(unittest.TestCase):
         self.runs("```console\n$ printf 'e\\314\\201'\n\u00e9\n```\n")
         self.runs("```sh\n$ echo no\n```\n")
 
+    def leaves_out(self, count, readme):
+        skipped = f"skipped: {count} examples, for there is no /usr/share/none/none.txt"
+        self.assertEqual(self.complaints(readme, "--colfind", "built"), ([skipped], 0))
+
     def test_examples_that_are_left_out(self):
-        self.runs("```console\n$ cat /usr/share/none/none.txt\nno\n$ echo yes\nyes\n```\n")
-        self.runs("```console\n$ alias cat-it='cat /usr/share/none/none.txt'\n$ cat-it | cat\nno\n$ echo yes > cat-it-not\n```\n")
+        self.leaves_out(1, "```console\n$ cat /usr/share/none/none.txt\nno\n$ echo yes\nyes\n```\n")
+        self.leaves_out(2, "```console\n$ alias cat-it='cat /usr/share/none/none.txt'\n$ cat-it | cat\nno\n$ echo yes > cat-it-not\n```\n")
         self.runs("```console\n$ alias say='echo yes'\n$ say && say\nyes\nyes\n```\n")
 
     def test_example_that_prints_something_else(self):

@@ -1,10 +1,14 @@
 """Tests of files over the built program, whose path COLFIND may say:  python3 tools/test_files.py"""
 
+import contextlib
 import os
+import signal
 import subprocess
 import sys
 import tempfile
 import unittest
+
+from stream_tests import CLOSED, SIGNALS, StreamTests, default_signals
 
 TOOLS = os.path.dirname(os.path.abspath(__file__))
 TOP = os.path.dirname(TOOLS)
@@ -15,7 +19,19 @@ TABLE = ["--table", LETTERS, "--strength", "1"]
 NOBODY = 65534
 
 
-class FilesTest(unittest.TestCase):
+class FilesTest(StreamTests, unittest.TestCase):
+    script = FILES
+    usages = ["    colfind-files [OPTION..]", "| colfind-files --from0", "as colfind-show does"]
+    environment = {**os.environ, "COLFIND": COLFIND}
+
+    def printing(self):
+        path = self.write("printing", "resume\n" * 1_000)
+        words = [FILES, *TABLE]
+        return [
+            ([*words, "resume", path], b""), ([*words, "--show", "-j2", "resume", path, path], b""),
+            ([*words, "--from0", "--output=count", "resume"], path + b"\0" + path),
+        ]
+
     def setUp(self):
         folder = tempfile.TemporaryDirectory()
         self.addCleanup(folder.cleanup)
@@ -150,6 +166,117 @@ class FilesTest(unittest.TestCase):
             self.assertEqual(ran.stdout.readline(), b"a:0:1\n")
             ran.stdout.close()
             self.assertNotIn(ran.wait(60), (0, 1))
+
+    def test_input_that_fails(self):
+        complaint = self.complaint(f"standard input: {CLOSED}")
+        for options in [], ["--show"], ["-j9"]:
+            words = [FILES, *TABLE, *options, "--from0", "resume"]
+            self.assertEqual(self.redirected(words, "<&-"), (2, b"", complaint))
+            self.assertEqual(self.redirected(words, "0> /dev/null"), (2, b"", complaint))
+            self.assertEqual(self.redirected(words, "<&- >&-"), (2, b"", complaint))
+            self.assertEqual(self.redirected(words, "<&- >&- 2>&-"), (2, b"", b""))
+
+    def test_input_that_fails_behind_some_names(self):
+        path = self.write("one", "resume")
+        for options in [], ["-j9"]:
+            answer = self.ran_on_failing_input([FILES, *TABLE, *options, "--from0", "resume"], path + b"\0" + path + b"\0" + path)
+            self.assertEqual(answer, (2, (path + b":0:6\n") * 2, self.complaint("standard input: Input/output error")))
+
+    def test_closed_streams_that_are_not_used(self):
+        path = self.write("one", "my resume")
+        for options, printed in ([], b":3:9\n"), (["--show", "-j2"], b":my [resume]\n"):
+            self.assertEqual(self.redirected([FILES, *TABLE, *options, "resume", path], "<&- 2>&-"), (0, path + printed, b""))
+            self.assertEqual(self.redirected([FILES, *TABLE, *options, "missing", path], "<&- >&-"), (1, b"", b""))
+
+    def test_text_that_is_a_closed_stream(self):
+        """It is no empty text."""
+        status, printed, complained = self.redirected([FILES, *TABLE, "resume", "/dev/stdin"], "<&-")
+        self.assertEqual((status, printed, complained[:33]), (2, b"", b"/dev/stdin: colfind: fault 41 at "))
+
+    def test_complaints_that_fail(self):
+        """The other files are searched, and the status tells."""
+        path, bad = self.write("one", "resume"), self.write("bad", b"\xff")
+        for redirection in "2>&-", "2> /dev/full":
+            for options, printed in ([], b":0:6\n"), (["--show", "-j2"], b":[resume]\n"):
+                words = [FILES, *TABLE, *options, "resume", "/none", bad, path]
+                self.assertEqual(self.redirected(words, redirection), (2, path + printed, b""))
+                self.assertEqual(self.redirected([FILES, *options, "--table=/none", "resume", path], redirection), (2, b"", b""))
+
+    def test_lines_longer_than_a_piece(self):
+        """Each has the name before it once, and its end is where it was."""
+        text = "a" * 100_000 + "\n" + "b" * 200_000 + "\na"
+        self.write("long", text)
+        marked = "".join("[a]" if letter == "a" else letter for letter in text).encode()
+        wanted = b"".join(b"long:" + line + b"\n" for line in marked.split(b"\n") if b"a" in line)
+        self.assertEqual(self.answer(*TABLE, "--show", "a", "long"), (0, wanted, b""))
+
+    @contextlib.contextmanager
+    def held(self, lines, *options, jobs=1, **extra):
+        """A search by programs that stand for colfind: each prints a number of lines and then sleeps. Behind the `with` they have ended."""
+        stream = os.path.join(self.folder, b"stream")
+        os.mkfifo(stream)
+        program = self.write("program", (
+            f"#!/bin/sh\nexec 9> '{os.fsdecode(stream)}'\necho begun >&9\nyes 0:6 | head -n {lines}\nexec sleep 90\n"))
+        os.chmod(program, 0o755)
+        words = [FILES, *TABLE, f"--jobs={jobs}", *options, "resume", *[self.write("one", "resume")] * 9]
+        extra = {"stdin": subprocess.DEVNULL, "stderr": subprocess.PIPE, "preexec_fn": default_signals, **extra}
+        with open(os.open(stream, os.O_RDONLY | os.O_NONBLOCK), "rb", buffering=0) as alive:
+            with subprocess.Popen(words, env={**os.environ, "COLFIND": os.fsdecode(program)}, **extra) as child:
+                try:
+                    begun = 0
+                    while begun < jobs and (lines := self.line_of(alive)):  # there are none where it has already ended them
+                        begun += lines.count(b"\n")
+                    yield child
+                finally:
+                    child.kill()
+            self.assertEqual(self.line_of(alive), b"")
+        os.unlink(stream)
+
+    def test_interrupt_ends_all_processes(self):
+        for number in SIGNALS:
+            for options, jobs in ([], 1), (["--show"], 1), (["--show"], 3):
+                with self.held(0, *options, jobs=jobs) as child:
+                    self.interrupted(child, number)
+
+    def test_signals_that_are_ignored(self):
+        """As nohup has SIGHUP ignored, and a shell SIGINT for what it starts in the background."""
+        program = self.write("program", "#!/bin/sh\nkill -INT $PPID\nkill -TERM $PPID\nkill -HUP $PPID\necho 0:6\n")
+        os.chmod(program, 0o755)
+        path = self.write("one", "resume")
+        answer = self.ran(
+            [FILES, *TABLE, "resume", path], env={**os.environ, "COLFIND": os.fsdecode(program)},
+            preexec_fn=lambda: [signal.signal(number, signal.SIG_IGN) for number in SIGNALS])
+        self.assertEqual(answer, (0, path + b":0:6\n", b""))
+
+    def test_output_that_fails_ends_all_processes(self):
+        with open("/dev/full", "wb") as full:
+            for jobs in 1, 2:
+                with self.held(50_000, jobs=jobs, stdout=full) as child:
+                    complaint = self.complaint("standard output: No space left on device")
+                    self.assertEqual((child.wait(60), child.stderr.read()), (2, complaint))
+
+    def test_reader_that_has_ended_ends_all_processes(self):
+        with self.held(50_000, jobs=2, stdout=subprocess.PIPE) as child:
+            child.stdout.close()
+            self.assertEqual((child.wait(60), child.stderr.read()), (-signal.SIGPIPE, b""))
+
+    def test_interrupt_while_a_process_is_started(self):
+        """A Popen that answers late: the process is known only behind the signal. Output that stays open would end no read."""
+        script = f"""
+import importlib.machinery, importlib.util, os, signal, subprocess
+loader = importlib.machinery.SourceFileLoader("files", {FILES!r})
+files = importlib.util.module_from_spec(importlib.util.spec_from_loader("files", loader))
+loader.exec_module(files)
+class Late(subprocess.Popen):
+    def __init__(self, *words, **extra):
+        super().__init__(*words, **extra)
+        os.kill(os.getpid(), signal.SIGINT)
+        print("known late", flush=True)
+subprocess.Popen = Late
+files.Children().start(["sleep", "90"])
+print("not ended", flush=True)
+"""
+        self.assertEqual(self.ran([sys.executable, "-c", script], preexec_fn=default_signals), (-signal.SIGINT, b"known late\n", b""))
 
 
 if __name__ == "__main__":

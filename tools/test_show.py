@@ -1,15 +1,43 @@
 """Tests of show, run over the script itself:  python3 tools/test_show.py"""
 
+import importlib.machinery
+import importlib.util
 import os
 import pty
+import signal
 import subprocess
 import tempfile
 import unittest
+from unittest import mock
 
-SHOW = os.path.join(os.path.dirname(os.path.abspath(__file__)), "show")
+from stream_tests import CLOSED, StreamTests, default_signals
+
+TOOLS = os.path.dirname(os.path.abspath(__file__))
+SHOW = os.path.join(TOOLS, "show")
 
 
-class ShowTest(unittest.TestCase):
+def module():
+    """The script as a module."""
+    loader = importlib.machinery.SourceFileLoader("show", SHOW)
+    made = importlib.util.module_from_spec(importlib.util.spec_from_loader("show", loader))
+    loader.exec_module(made)
+    return made
+
+
+def common_lines(name):
+    """The lines that show, files and tailor have in common."""
+    with open(os.path.join(TOOLS, name), encoding="utf-8") as script:
+        return script.read().split("# ----")[1]
+
+
+class ShowTest(StreamTests, unittest.TestCase):
+    script = SHOW
+    usages = ["usage: colfind-show", "PATTERN FILE | colfind-show FILE\n"]
+
+    def printing(self):
+        path = self.file("ab\ncd\n" + "e" * 10_000)
+        return [([SHOW, path], b"0:1\n"), ([SHOW, "-nH", path], b"0:1\n3:4\n10:20\n")]
+
     def setUp(self):
         self.folder = tempfile.TemporaryDirectory()
         self.addCleanup(self.folder.cleanup)
@@ -49,6 +77,9 @@ class ShowTest(unittest.TestCase):
 
     def test_line_of_two_ranges_that_span_lines(self):
         self.prints("ab\ncd\nef\ngh\n", "1:4\n4:7\n9:10\n", "a[b\nc][d\ne]f\n[g]h\n")
+
+    def test_empty_ranges(self):
+        self.prints("ab\ncd", "0:0\n1:1\n1:2\n5:5\n", "[]a[][b]\ncd[]\n")
 
     def test_range_that_ends_with_the_newline(self):
         self.prints("ab\ncd\n", "1:3\n", "a[b]\n")
@@ -118,6 +149,126 @@ class ShowTest(unittest.TestCase):
         os.close(terminal)
         self.assertIn(b"\x1b[1;31ma\x1b[m", os.read(main, 1000))
         os.close(main)
+
+    def test_input_that_fails(self):
+        path = self.file("ab\n")
+        complaint = self.complaint(f"standard input: {CLOSED}")
+        self.assertEqual(self.redirected([SHOW, path], "<&-"), (2, b"", complaint))
+        self.assertEqual(self.redirected([SHOW, path], "0> /dev/null"), (2, b"", complaint))
+        self.assertEqual(self.redirected([SHOW, path], "<&- >&- 2>&-"), (2, b"", b""))
+        self.assertEqual(self.redirected([SHOW, path], "<&- >&-"), (2, b"", complaint))
+        complaint = self.complaint("standard input: Input/output error")
+        self.assertEqual(self.ran_on_failing_input([SHOW, path], b"0:1\n"), (2, b"[a]b\n", complaint))
+
+    def test_complaint_without_a_stream_is_not_printed(self):
+        path = self.file("ab\n")
+        self.assertEqual(self.redirected([SHOW, path], "2>&-", b"0:1\n3\n"), (2, b"[a]b\n", b""))
+
+    def test_closed_output_that_is_not_used(self):
+        self.assertEqual(self.redirected([SHOW, self.file("ab\n")], ">&-"), (1, b"", b""))
+
+    def test_files_that_are_not_read(self):
+        folder = self.folder.name
+        self.assertEqual(self.ran([SHOW, folder], b"0:1\n"), (2, b"", self.complaint(f"{folder}: Is a directory")))
+        self.assertEqual(self.ran([SHOW, "/none"], b"0:1\n"), (2, b"", self.complaint("/none: No such file or directory")))
+
+    def test_file_that_gets_shorter(self):
+        path = self.file("ab\n" + "x" * 500_000)
+        with subprocess.Popen([SHOW, path], stdin=subprocess.PIPE, stdout=subprocess.PIPE, stderr=subprocess.PIPE) as child:
+            child.stdin.write(b"0:1\n100000:500000\n")
+            child.stdin.flush()
+            self.assertEqual(child.stdout.readline(), b"[a]b\n")
+            os.truncate(path, 100)
+            child.stdin.close()
+            self.assertEqual((child.wait(60), child.stderr.read()), (2, self.complaint(f"{path}: has got shorter")))
+
+    def test_lines_that_are_no_ranges(self):
+        for line in "9" * 5000 + ":1\n", "1:" + "9" * 5000, "x" * 300_000, "1:2:3", "-1:2", "1:2 ":
+            self.assertEqual(self.shown("abcd\n", line), (2, b"", self.complaint("not a range: " + line.strip("\n")[:80])))
+
+    def test_line_that_does_not_end(self):
+        """It is complained of once it is longer than a range, and no more of it is held."""
+        pipes = {"stdin": subprocess.PIPE, "stdout": subprocess.PIPE, "stderr": subprocess.PIPE}
+        with subprocess.Popen([SHOW, self.file("ab\n")], **pipes) as child:
+            child.stdin.write(b"9" * 100)
+            child.stdin.flush()
+            self.assertEqual((child.wait(60), child.stderr.read()), (2, self.complaint("not a range: " + "9" * 80)))
+
+    def start(self, preexec_fn):
+        """The script, which has begun and waits for ranges."""
+        pipes = {"stdin": subprocess.PIPE, "stdout": subprocess.PIPE, "stderr": subprocess.PIPE}
+        child = subprocess.Popen([SHOW, self.file("ab\n")], **pipes, preexec_fn=preexec_fn)
+        child.stdin.write(b"0:1\n")
+        child.stdin.flush()
+        self.assertEqual(self.line_of(child.stdout), b"[a]b\n")
+        return child
+
+    def test_interrupt(self):
+        with self.start(default_signals) as child:
+            self.interrupted(child)
+
+    def test_interrupt_that_is_ignored(self):
+        with self.start(lambda: signal.signal(signal.SIGINT, signal.SIG_IGN)) as child:
+            child.send_signal(signal.SIGINT)
+            child.stdin.write(b"1:2\n")
+            child.stdin.close()
+            self.assertEqual((child.wait(60), child.stdout.read(), child.stderr.read()), (0, b"a[b]\n", b""))
+
+    def test_lines_longer_than_a_block(self):
+        first, second = "ä" * 100_000, "b" * 70_000
+        ranges = "".join(f"{place}:{place + 2}\n" for place in range(0, 200_000, 20_000)) + "199998:200003\n"
+        wanted = "".join("[ä]" + "ä" * 9_999 for _ in range(10))[:-1] + "[ä\n2:bb]" + "b" * 69_998 + "\n"
+        self.prints(f"{first}\n{second}\nc", ranges, "1:" + wanted, "-n")
+        self.prints(f"{first}\n{second}\nc", ranges.replace("199998:", "200001:"), wanted.replace("[ä\n2:bb]", "ä\n[bb]"))
+
+    def test_lines_of_the_three_scripts_are_the_same(self):
+        self.assertIn("def run(work):", common_lines("show"))
+        self.assertEqual(common_lines("show"), common_lines("files"))
+        self.assertEqual(common_lines("show"), common_lines("tailor"))
+
+    def test_steps_of_a_long_line(self):
+        """Each byte of a line is looked at some times, however many ranges the line has."""
+        show = module()
+        length, count = 40 * show.BLOCK, 2_000
+        looked, written = [], []
+
+        class Text(show.Text):
+            def line_start(self, place):
+                looked.append(place - (found := super().line_start(place)))
+                return found
+
+            def line_end(self, place):
+                looked.append((found := super().line_end(place)) - place)
+                return found
+
+        def read(*words, pread=os.pread):
+            looked.append(len(block := pread(*words)))
+            return block
+
+        text = Text(self.file("x\n" + "a" * length + "\ny\n"))
+        shower = show.Shower(text, (b"", b""), b"", False)
+        shower.write = written.append
+        with mock.patch("os.pread", read):
+            for place in range(count):
+                start = place * (length // count) + 2
+                shower.take(b"%d:%d" % (start, start + 3))
+            shower.print()
+        text.file.close()
+        self.assertEqual(b"".join(written), b"a" * length + b"\n")
+        self.assertLess(sum(looked), 6 * length)
+
+    def test_memory_for_a_long_line(self):
+        """What the man page says: some 20 MB, and 16 bytes a range."""
+        length = 200_000_000
+        path = self.file("")
+        os.truncate(path, length)
+        with subprocess.Popen([SHOW, path], stdin=subprocess.PIPE, stdout=subprocess.DEVNULL) as child:
+            child.stdin.write(b"".join(b"%d:%d\n" % (place, place + 1) for place in range(0, length, length // 100)))
+            child.stdin.close()
+            _, status, used = os.wait4(child.pid, 0)
+            child.returncode = os.waitstatus_to_exitcode(status)
+        self.assertEqual(child.returncode, 0)
+        self.assertLess(used.ru_maxrss, 60_000)  # with what the process has of this one, from which it is made
 
 
 if __name__ == "__main__":

@@ -6,6 +6,8 @@ import sys
 import tempfile
 import unittest
 
+from stream_tests import StreamTests, default_signals
+
 TOOLS = os.path.dirname(os.path.abspath(__file__))
 TOP = os.path.dirname(TOOLS)
 TAILOR = os.environ.get("TAILOR", os.path.join(TOOLS, "tailor"))
@@ -18,7 +20,13 @@ PUBLISHED = {
 PREFIXES = ["\u0fb2\u0f71 = \u0fb2\u0f71", "\u0fb3\u0f71 = \u0fb3\u0f71"]
 
 
-class TailorTest(unittest.TestCase):
+class TailorTest(StreamTests, unittest.TestCase):
+    script = TAILOR
+    usages = ["usage: colfind-tailor", "    colfind-tailor TABLE RULE"]
+
+    def printing(self):
+        return [([TAILOR, LETTERS, "ä = ae", "A\u0308=Ae"], b"")]
+
     def setUp(self):
         folder = tempfile.TemporaryDirectory()
         self.addCleanup(folder.cleanup)
@@ -106,6 +114,24 @@ class TailorTest(unittest.TestCase):
         if not os.path.exists(table):
             self.skipTest("the DUCET is not installed")
         self.assertEqual(self.found(table, ["ä = ae", *PREFIXES], "baer", "bär baer", 1), ["bär", "baer"])
+
+    def test_files_that_are_not_read(self):
+        for path, cause in (self.folder, "Is a directory"), ("/none", "No such file or directory"):
+            self.assertEqual(self.ran([TAILOR, path, "ä = ae"]), (2, b"", self.complaint(f"{path}: {cause}")))
+            self.assertEqual(self.redirected([TAILOR, path, "ä = ae"], "<&- >&-"), (2, b"", self.complaint(f"{path}: {cause}")))
+
+    def test_closed_streams_that_are_not_used(self):
+        wanted = self.ran([TAILOR, LETTERS, "ä = ae"])
+        self.assertEqual(wanted[0], 0)
+        self.assertEqual(self.redirected([TAILOR, LETTERS, "ä = ae"], "<&- 2>&-"), wanted)
+
+    def test_interrupt(self):
+        """While it reads the table."""
+        table = os.path.join(self.folder, "held")
+        os.mkfifo(table)
+        with subprocess.Popen([TAILOR, table, "ä = ae"], stderr=subprocess.PIPE, preexec_fn=default_signals) as child:
+            with open(table, "wb"):
+                self.interrupted(child)
 
 
 if __name__ == "__main__":

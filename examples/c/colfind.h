@@ -2,7 +2,7 @@
  *
  * What C upholds:
  * - A handle begins as {0}, is never copied, and is given to one call at a time, and once to each call. Two threads may be in calls with
- *   two handles, but not with handles that were made of one another: a table, its patterns and their searches belong together.
+ *   two handles, whatever these were made of: threads that want one table or one pattern have a handle each, by colfind_share.
  * - Each pointer is valid for the length beside it, and not null, not even where the length is 0. Buffers that are written overlap nothing
  *   else that the call is given.
  * - malloc, realloc and free are those of one allocator. No call is made from a signal handler.
@@ -14,7 +14,7 @@
  * Offsets are in bytes from the beginning of the text; the end of a range is not part of it. */
 #ifndef COLFIND_H
 #define COLFIND_H
-#define COLFIND_VERSION "1.0.0"
+#define COLFIND_VERSION "1.1.0"
 #include <stddef.h>
 #include <stdint.h>
 #ifdef __cplusplus
@@ -74,7 +74,7 @@ enum colfind_kind {
     COLFIND_NO_MEMORY = 81,    /* of colfind_feed `at` says how many bytes of the piece were taken: go on with the others */
     COLFIND_WRONG_HANDLE = 82, /* a handle holds something else, or nothing */
     COLFIND_ENDED = 83,        /* the search was finished or stopped */
-    COLFIND_SMALL_BUFFER = 84, /* `at` says how many words are needed */
+    COLFIND_SMALL_BUFFER = 84, /* `at` says how many words, or ranges, need room */
     COLFIND_BAD_ARGUMENT = 85  /* a number that is none of the ones below, a pattern that is no UTF-8, or an offset behind the text */
 };
 /* With 14, 24, 36, 53 and 81 memory was refused: all handles are as they were, and the call can be made again. So they are with each other
@@ -89,6 +89,9 @@ colfind_status colfind_table(colfind_handle *out, const uint8_t *base, size_t n,
 /* A pattern of UTF-8, compiled at strength 1, 2 or 3. */
 colfind_status colfind_pattern(colfind_handle *table, colfind_handle *out, const uint8_t *text, size_t n, uint8_t strength,
                                uint8_t variable);
+
+/* A second handle for the table or the pattern that a handle holds. What they hold is there once, and stays until both are freed. */
+colfind_status colfind_share(colfind_handle *handle, colfind_handle *out);
 
 /* A search at the beginning of a text. */
 colfind_status colfind_search(colfind_handle *pattern, colfind_handle *out, uint8_t select);
@@ -132,6 +135,16 @@ colfind_first colfind_index_from(colfind_handle *pattern, const uint8_t *text, s
 /* The same with a search that was made before, for many texts. It needs no memory: where some is refused for what a search keeps of
  * characters, it goes on without. What the search was fed is given up, with the ranges that wait; then it is at the beginning of a text. */
 colfind_first colfind_first_in(colfind_handle *search, const uint8_t *text, size_t n, size_t from);
+
+/* Whether a text in memory has a range, by a search that was made before: 1 or 0, or the number of the fault before it. */
+uint32_t colfind_has(colfind_handle *search, const uint8_t *text, size_t n);
+
+/* All ranges of a text in memory, by a search that was made before, for many texts; of one for a chain, the chain. With a fault of the text
+ * they are those before it. Where there are more than have room, the first of them are written, and 84 and `count` say how many there are.
+ * Memory is asked for as by colfind_feed; where it is refused, 81, nothing is written. What the search was fed is given up, with the ranges
+ * that wait; then it is at the beginning of a text. */
+typedef struct { colfind_status status; size_t count; } colfind_all;
+colfind_all colfind_all_in(colfind_handle *search, const uint8_t *text, size_t n, colfind_range *out, size_t room);
 
 /* Writes what a status says as `fault K at N: words`, ended by a zero byte, or as much of it as has room: how many bytes it has without
  * the zero byte, so that a greater number than room - 1 says that it was cut. No text is longer than 160 bytes. */

@@ -156,6 +156,29 @@ static int same_first(colfind_first first, const answer *all, uint64_t from) {
     return !first.is_found && first.status.kind == all->fault.kind && first.status.at == all->fault.at + (all->fault.kind ? from : 0);
 }
 
+/* All ranges by one call, with a search that is in the midst of another text, and whether there is one. */
+static void all_at_once(colfind_handle *pattern, const uint8_t *text, size_t n, int chain, const answer *wanted) {
+    static answer got;
+    colfind_handle search = {0};
+    colfind_status status;
+    colfind_all all;
+    size_t rooms[] = {MOST, wanted->count, wanted->count ? wanted->count - 1 : 0, 0};
+    assert(colfind_search(pattern, &search, chain).kind == 0 && colfind_feed(&search, BYTES("resume aa res")).kind == 0);
+    for (int i = 0; i < 4; i++) {
+        size_t written = wanted->count < rooms[i] ? wanted->count : rooms[i];
+        memset(&got, 0x5a, sizeof got);
+        IN_TURN(status, search, (all = colfind_all_in(&search, text, n, got.ranges, rooms[i])).status);
+        assert(all.count == wanted->count && colfind_pending(&search) == 0);
+        if (wanted->count > rooms[i]) assert(is(status, COLFIND_SMALL_BUFFER, wanted->count));
+        else assert(status.kind == wanted->fault.kind && status.at == wanted->fault.at);
+        assert(memcmp(got.ranges, wanted->ranges, written * sizeof *got.ranges) == 0 && got.ranges[written].start == 0x5a5a5a5a5a5a5a5a);
+        assert(colfind_has(&search, text, n) == (wanted->count ? 1 : wanted->fault.kind));
+    }
+    assert(colfind_finish(&search).kind == 0 && colfind_pending(&search) == 0);
+    assert(is(colfind_all_in(&search, text, n, got.ranges, MOST).status, COLFIND_ENDED, 0) && colfind_has(&search, text, n) == COLFIND_ENDED);
+    colfind_free(&search);
+}
+
 static void random_round(const char *table_name, const char *program, colfind_handle *table, int refuses) {
     colfind_handle pattern = {0}, search = {0};
     colfind_status status;
@@ -170,6 +193,7 @@ static void random_round(const char *table_name, const char *program, colfind_ha
     by_library(&pattern, text, n, chain, refuses, &got);
     assert(got.fault.kind == wanted.fault.kind && got.fault.at == wanted.fault.at && got.count == wanted.count);
     assert(memcmp(got.ranges, wanted.ranges, got.count * sizeof *got.ranges) == 0);
+    all_at_once(&pattern, text, n, chain, &wanted);
     /* the first range, with a new search each time and with one for all */
     assert(colfind_search(&pattern, &search, COLFIND_ALL).kind == 0 && colfind_feed(&search, BYTES("resume aa res")).kind == 0);
     for (int twice = 0; twice < 2; twice++) {
@@ -258,10 +282,13 @@ static void statuses_of_calls(colfind_handle *table) {
             assert(is(colfind_index(wrong[i], BYTES("a")).status, COLFIND_WRONG_HANDLE, 0));
             assert(is(colfind_index_from(wrong[i], BYTES("a"), 0).status, COLFIND_WRONG_HANDLE, 0));
         }
+        if (wrong[i] == &empty || wrong[i] == &search) assert(is(colfind_share(wrong[i], &out), COLFIND_WRONG_HANDLE, 0));
         if (wrong[i] != &search) {
             assert(is(colfind_feed(wrong[i], BYTES("a")), COLFIND_WRONG_HANDLE, 0) && is(colfind_finish(wrong[i]), COLFIND_WRONG_HANDLE, 0));
             assert(is(colfind_stop(wrong[i]), COLFIND_WRONG_HANDLE, 0) && is(colfind_save(wrong[i], words, 1).status, COLFIND_WRONG_HANDLE, 0));
             assert(is(colfind_first_in(wrong[i], BYTES("a"), 0).status, COLFIND_WRONG_HANDLE, 0));
+            assert(is(colfind_all_in(wrong[i], BYTES("a"), &range, 1).status, COLFIND_WRONG_HANDLE, 0));
+            assert(colfind_has(wrong[i], BYTES("a")) == COLFIND_WRONG_HANDLE);
             assert(colfind_pending(wrong[i]) == 0 && colfind_take(wrong[i], &range, 1) == 0);
         }
         assert(wrong[i]->at == before && !out.at);
@@ -295,15 +322,19 @@ static colfind_status save_into(colfind_handle *search, uint64_t *words, size_t 
 }
 
 static void refusals_in_turn(const uint8_t *base, size_t n) {
-    colfind_handle table = {0}, pattern = {0}, search = {0};
+    colfind_handle table = {0}, pattern = {0}, search = {0}, other = {0};
     colfind_status status;
     uint64_t words[MOST];
     size_t count = 0;
     for (int twice = 0; twice < 2; twice++) { /* the second time each handle has something */
         IN_TURN(status, table, colfind_table(&table, base, n, BYTES("0062 ; [.1C10.0020.0002]\n")));
         assert(status.kind == 0);
-        IN_TURN(status, pattern, colfind_pattern(&table, &pattern, BYTES("resume"), 1, 0));
+        IN_TURN(status, other, colfind_share(&table, &other));
         assert(status.kind == 0);
+        IN_TURN(status, pattern, colfind_pattern(&other, &pattern, BYTES("resume"), 1, 0));
+        assert(status.kind == 0);
+        IN_TURN(status, other, colfind_share(&pattern, &other));
+        assert(status.kind == 0 && colfind_index(&other, BYTES("a resume")).is_found);
         IN_TURN(status, search, colfind_search(&pattern, &search, COLFIND_ALL));
         assert(status.kind == 0);
         ONCE_IN_TURN(status, search, colfind_feed(&search, BYTES("a resume, res")));
@@ -319,7 +350,7 @@ static void refusals_in_turn(const uint8_t *base, size_t n) {
         ONCE_IN_TURN(status, search, twice ? colfind_finish(&search) : colfind_stop(&search));
         assert(status.kind == 0);
     }
-    colfind_free(&search), colfind_free(&pattern), colfind_free(&table);
+    colfind_free(&search), colfind_free(&pattern), colfind_free(&table), colfind_free(&other);
 }
 
 /* A piece of several parts: the call is made again with the bytes that were not taken, and no range is lost. */

@@ -5,6 +5,7 @@ import random
 import sqlite3
 import sys
 import time
+from collections.abc import Sequence
 from pathlib import Path
 
 from colfind import Pattern, Table
@@ -20,12 +21,16 @@ def made_titles(count: int) -> list[str]:
     return [" ".join(rng.choices(WORDS, k=rng.randint(3, 7))) for _ in range(count)]
 
 
-def catalogue(titles: list[str], pattern: Pattern) -> sqlite3.Connection:
-    """A database of books with these titles, and the function `found(title)`."""
+def catalogue(titles: Sequence[str | None], pattern: Pattern) -> sqlite3.Connection:
+    """A database of books with these titles, and the function `found(title)`, which is NULL of a title that is NULL."""
+
+    def found(title: str | None) -> bool | None:
+        return None if title is None else pattern.index(title.encode()) is not None
+
     database = sqlite3.connect(":memory:")
     database.execute("CREATE TABLE books (title TEXT)")
     database.executemany("INSERT INTO books VALUES (?)", ((title,) for title in titles))
-    database.create_function("found", 1, lambda title: pattern.index(title.encode()) is not None, deterministic=True)
+    database.create_function("found", 1, found, deterministic=True)
     return database
 
 

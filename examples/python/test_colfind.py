@@ -4,19 +4,25 @@ import copy
 import gc
 import io
 import mmap
+import multiprocessing
+import operator
 import os
 import pickle
 import random
+import re
 import subprocess
+import sys
 import tempfile
 import tracemalloc
 import unittest
 from array import array
+from concurrent.futures import ThreadPoolExecutor
 from pathlib import Path
+from unittest.mock import patch
 
 import colfind
 from catalogue import catalogue, made_titles
-from colfind import Fault, Pattern, Search, Table
+from colfind import Fault, Kind, Pattern, Search, Table
 
 ROOT = Path(os.environ.get("REPOSITORY", Path(__file__).absolute().parents[2]))
 LETTERS = ROOT / "docs" / "example" / "letters.txt"
@@ -46,6 +52,13 @@ def all_of(ranges) -> tuple[list[tuple[int, int]], str]:
     return found, ""
 
 
+def times_seen(pattern: Pattern) -> int:
+    """How often this process was sent the table of a pattern, if it is the one that it was sent before."""
+    table = pattern._made_of[0]
+    table.seen = getattr(table, "seen", 0) + 1
+    return table.seen
+
+
 class Tests(unittest.TestCase):
     def setUp(self) -> None:
         self.table = Table(LETTERS.read_bytes())
@@ -66,7 +79,8 @@ class Tests(unittest.TestCase):
             text = "".join(rng.choice(PARTS[:-1] if rng.random() < 0.8 else PARTS) for _ in range(rng.randrange(30)))
             data = text.encode("utf-8", "surrogatepass")
             sought, strength, chain = rng.choice(["resume", "aa", "e", "a", "\u6f22"]), rng.randrange(1, 4), rng.random() < 0.5
-            with Pattern(self.table, sought, strength) as pattern:
+            least, most = (rng.randrange(1, 9), rng.randrange(1, 9)) if rng.random() < 0.8 else (4096, 65536)
+            with Pattern(self.table, sought, strength) as pattern, patch.multiple(colfind, _LEAST=least, _MOST=most):
                 expected, fault = by_program(data, sought, strength, chain)
                 self.assertEqual(all_of(pattern.search(data, chain)), (expected, fault))
                 self.assertEqual(all_of(self.in_pieces(rng, pattern, data, chain)), (expected, fault))
@@ -112,6 +126,21 @@ class Tests(unittest.TestCase):
             self.assertTrue(str(fault.exception).startswith(words), str(fault.exception))
             again = pickle.loads(pickle.dumps(fault.exception))
             self.assertEqual((again.kind, again.at, str(again)), (kind, at, str(fault.exception)))
+            self.assertIs(again.kind, Kind(kind))
+
+    def test_kinds(self) -> None:
+        header = re.search(r"enum colfind_kind \{(.*?)\};", (ROOT / "examples" / "c" / "colfind.h").read_text(), re.S)[1]
+        named = {name: int(number) for name, number in re.findall(r"COLFIND_(\w+) = (\d+)", header)}
+        self.assertEqual(named.pop("GOOD"), 0)
+        self.assertEqual({kind.name: kind.value for kind in Kind}, named)
+        with self.assertRaises(Fault) as fault:
+            Table(b"nonsense\n")
+        kind = fault.exception.kind
+        self.assertIs(kind, Kind.TABLE_MALFORMED_LINE)
+        self.assertEqual((kind, str(kind), f"{kind:3}", {1: "one"}[kind]), (1, "1", "  1", "one"))
+        newer = Fault(99, 0).kind
+        self.assertEqual((newer, newer.name, newer.value), (99, "FAULT_99", 99))
+        self.assertRaises(ValueError, Kind, "31")
 
     def test_arguments_that_are_none(self) -> None:
         """Each gives an error that begins with the name of the argument."""
@@ -194,28 +223,165 @@ class Tests(unittest.TestCase):
         self.assertLess(tracemalloc.get_traced_memory()[1], 1 << 20)
         tracemalloc.stop()
 
-    def test_handles_are_not_copied(self) -> None:
-        pattern = Pattern(self.table, "a")
-        for owner in (self.table, pattern, Search(pattern)):
-            for call in (copy.copy, copy.deepcopy, pickle.dumps):
-                self.assertRaisesRegex(TypeError, f"a {type(owner).__name__} can't be copied", call, owner)
-        gc.collect()
-        self.assertEqual(pattern.index("a"), (0, 1))
+    def test_search_is_lazy(self) -> None:
+        """Memory grows neither with the text nor with the number of ranges."""
+        pattern = Pattern(self.table, "e", 1)
+        for unit, count in [(b"e", 1 << 15), ("e", 1 << 15), (bytearray(b"e"), 1 << 15), ("\u00e9", 1 << 13), ("e\u6f22", 1 << 13)]:
+            text, wanted = unit * count, [(start, start + 1) for start in range(0, count * len(unit), len(unit))]
+            self.assertEqual(list(pattern.search(text)), wanted)
+            with patch.multiple(colfind, _LEAST=64, _MOST=64):
+                tracemalloc.start()
+                self.assertTrue(all(map(operator.eq, pattern.search(text), wanted)))
+                self.assertLess(tracemalloc.get_traced_memory()[1], 12_000)
+                tracemalloc.stop()
+
+    def test_faults_far_behind(self) -> None:
+        pattern = Pattern(self.table, "resume", 1)
+        for text, fault in [("r\u00e9sum\u00e9" + "\u6f22" * 70_000 + "resume, \ud800", 70_014), ("\udc00" * 9, 0),
+                            ("a" * 65_536 + "\ud800", 65_536)]:
+            expected, message = by_program(text.encode("utf-8", "surrogatepass"), "resume", 1)
+            found, wanted = pattern.search(text), [(0, 6), (70_006, 70_012)] if "\u6f22" in text else []
+            self.assertEqual([next(found) for _ in wanted], wanted)
+            with self.assertRaises(Fault) as raised:
+                next(found)
+            self.assertEqual((raised.exception.kind, raised.exception.at), (Kind.TEXT_ILL_FORMED, fault))
+            self.assertEqual(all_of(pattern.search(text.encode("utf-8", "surrogatepass"))), (expected, message))
+
+    def test_index_reads_the_way_to_the_match(self) -> None:
+        """No more than twice of it and the first part, wherever it stands, and the matches before cost nothing."""
+        pattern, encoded = Pattern(self.table, "resume", 1), []
+        text = "r\u00e9sum\u00e9 " + "\u6f22" * 1_000_000
+        text = text + text + "re\u0301sume\u0301"
+        with patch.object(colfind, "_encoded", lambda part: encoded.append(len(part)) or part.encode()):
+            for start, wanted, most in [(0, (0, 6), 16_000), (1, (1_000_007, 1_000_013), 4_000_000), (1_000_006, (1_000_007, 1_000_013), 16_000),
+                                        (1_999_999, (2_000_014, 2_000_022), 70_000), (2_000_015, None, 100)]:
+                encoded.clear()
+                self.assertEqual(pattern.index(text, start), wanted)
+                self.assertLess(sum(encoded), most)
+        self.assertEqual(pattern.index("a" * 100_000 + "resume, \ud800", 9), (100_000, 100_006))
+        for _ in range(2):
+            with self.assertRaises(Fault) as fault:
+                pattern.index("\u6f22" * 100_000 + "\ud800resume", 9)
+            self.assertEqual((fault.exception.kind, fault.exception.at), (Kind.TEXT_ILL_FORMED, 100_000))
+            self.assertEqual(pattern.index(text), (0, 6))
+
+    def test_threads_that_index(self) -> None:
+        """A pattern serves them all, whatever the length of the texts."""
+        pattern, texts = Pattern(self.table, "resume", 1), ["\u6f22" * count + "resume" for count in (9, 70_000, 80_000, 90_000)]
+        with ThreadPoolExecutor(4) as pool:
+            for found, text in zip(pool.map(pattern.index, texts * 20), texts * 20):
+                self.assertEqual(found, (len(text) - 6, len(text)))
+
+    def test_a_search_that_is_dropped(self) -> None:
+        """It holds neither the bytes nor a handle, and another one goes on."""
+        pattern, data = Pattern(self.table, "a"), bytearray(b"a" * 100_000)
+        found, other, handles = pattern.search(data), pattern.search("\u00e9a" * 100_000), []
+        self.assertEqual((next(found), next(found), next(other)), ((0, 1), (1, 2), (1, 2)))
+        data.clear()  # which nothing holds
+        with patch.object(colfind._C, "colfind_free", handles.append):
+            found.close()
+            self.assertEqual(len(handles), 1)
+            pattern.search(data)
+            self.assertEqual(len(handles), 2)
+        for handle in handles:
+            colfind._C.colfind_free(handle)
+        self.assertEqual((next(other), list(found)), ((3, 4), []))
+
+    def test_a_search_is_not_copied(self) -> None:
+        search = Search(Pattern(self.table, "a"))
+        for call in (copy.copy, copy.deepcopy, pickle.dumps):
+            self.assertRaisesRegex(TypeError, "a Search can't be copied or pickled: save it", call, search)
+        self.assertEqual(list(search.feed(b"a bb")), [(0, 1)])
+
+    def test_copies(self) -> None:
+        """Of a table they are the table; of a pattern they are another one, which goes on where that is freed."""
+        tailored = Table(bytearray(LETTERS.read_bytes()), b"0061 ; [.1C40.0020.0002]\n")
+        for table, found in (self.table, None), (tailored, (0, 1)):
+            for protocol in range(pickle.HIGHEST_PROTOCOL + 1):
+                self.assertIs(pickle.loads(pickle.dumps(table, protocol)), table)
+            self.assertIs(copy.copy(table), table)
+            pattern = Pattern(table, memoryview(b"e"), 1, True)
+            for one in (copy.copy(pattern), copy.deepcopy(pattern), pickle.loads(pickle.dumps(pattern))):
+                self.assertIsNot(one, pattern)
+                with one:
+                    self.assertEqual((one.index("ae"), one.index("\u00e9")), (found or (1, 2), (0, 1)))
+            self.assertEqual(pattern.index("\u00e9"), (0, 1))
+        for shifted, found in (True, (1, 4)), (False, None):  # whether the hyphen counts
+            self.assertEqual(copy.copy(Pattern(self.table, "ee", 1, shifted)).index(" e-e"), found)
+
+    def test_a_hundred_pickles_read_one_table(self) -> None:
+        """Also where the process has none, and where each pattern goes before the next one comes. One that was freed is read again."""
+        pickles = [pickle.dumps(Pattern(Table(LETTERS.read_bytes(), b"#%d\n" % i), "a")) for i in range(6)]
+        with patch.object(colfind, "_TABLES", colfind.WeakValueDictionary()), patch.object(colfind, "_SENT", colfind.deque(maxlen=4)):
+            with patch.object(colfind._C, "colfind_table", wraps=colfind._C.colfind_table) as read:
+                for i in range(100):
+                    self.assertEqual(pickle.loads(pickles[i % 4]).index("ba"), (1, 2))
+                self.assertEqual(read.call_count, 4)
+                kept = pickle.loads(pickles[0])
+                for one in pickles[4:] + pickles[:1]:
+                    self.assertEqual(pickle.loads(one).index("ba"), (1, 2))
+                self.assertEqual(read.call_count, 6)
+                with kept._made_of[0]:
+                    pass
+                self.assertEqual(kept.index("ba"), (1, 2))
+                for one in pickles[0], pickle.dumps(kept):
+                    self.assertEqual(pickle.loads(one).index("ba"), (1, 2))
+                self.assertEqual(read.call_count, 7)
+            del kept
+            gc.collect()
+            self.assertEqual(len(colfind._TABLES), 4)
+
+    def test_processes(self) -> None:
+        """Of `spawn`: each is sent the table with a pattern, and reads it once."""
+        pattern, texts = Pattern(self.table, "r\u00e9sum\u00e9", 1), ["my resume", "re\u0301sume\u0301", "", "a"]
+        with multiprocessing.get_context("spawn").Pool(1) as pool:
+            self.assertEqual(pool.map(pattern.index, texts, 1), [(3, 9), (0, 8), None, None])
+            self.assertEqual([pool.apply(times_seen, (pattern,)) for _ in range(20)], list(range(1, 21)))
+            with self.assertRaises(Fault) as fault:
+                pool.apply(pattern.index, ("\ud800",))
+            self.assertIs(fault.exception.kind, Kind.TEXT_ILL_FORMED)
 
     def test_names(self) -> None:
-        self.assertEqual(colfind.__all__, ["Fault", "Pattern", "Search", "Table"])
+        self.assertEqual(colfind.__all__, ["Fault", "Kind", "Pattern", "Search", "Table"])
         for name in colfind.__all__:
             for one in (getattr(colfind, name), *vars(getattr(colfind, name)).values()):
-                if getattr(one, "__module__", "") == "colfind" and not one.__name__.startswith("_"):
+                if getattr(one, "__module__", "") == "colfind" and not getattr(one, "__name__", "_").startswith("_"):
                     self.assertTrue(one.__doc__, one)
 
     def test_freed(self) -> None:
         with Search(Pattern(self.table, "a")) as search:
             self.assertEqual(list(search.feed(b"a bb")), [(0, 1)])
-        for call in (search.finish, search.save, lambda: search.feed(b"a")):
-            with self.assertRaises(Fault) as fault:
+        with Table(LETTERS.read_bytes()) as table, Pattern(table, "a") as pattern:
+            self.assertEqual(pattern.index("ba"), (1, 2))
+            going_on = pattern.search(b"aba")
+            self.assertEqual(next(going_on), (0, 1))
+        for call in (search.finish, search.save, lambda: search.feed(b"a"), lambda: search.first_in(b"a"), lambda: Pattern(table, "a"),
+                     lambda: pattern.index("a"), lambda: pattern.index(b"a"), lambda: pattern.search("a"), lambda: pattern.resume([])):
+            with self.assertRaisesRegex(Fault, "^fault 82 at 0: it was freed") as fault:
                 call()
-            self.assertEqual(fault.exception.kind, 82)
+            self.assertIs(fault.exception.kind, Kind.WRONG_HANDLE)
+        self.assertEqual(list(going_on), [(2, 3)])
+        pattern.__exit__()  # once more
+
+    def test_a_wrong_call_has_one_error(self) -> None:
+        """What was not made is let go without a word on standard error."""
+        code = """if True:
+            import colfind
+            for call in (lambda: colfind.Pattern(1, "a", strenght=1), lambda: colfind.Pattern(1, "a"), lambda: colfind.Table(1),
+                         lambda: colfind.Search(1, cain=True), lambda: colfind.Table(b"nonsense"), lambda: colfind.Table()):
+                try:
+                    call()
+                except (TypeError, colfind.Fault):
+                    print("error")
+            """
+        done = subprocess.run([sys.executable, "-c", code], cwd=Path(colfind.__file__).parent, capture_output=True, text=True)
+        self.assertEqual((done.stdout, done.stderr, done.returncode), ("error\n" * 6, "", 0))
+
+    def test_both_types_of_a_text_are_named(self) -> None:
+        pattern = Pattern(self.table, "a")
+        for call in (pattern.index, pattern.search, lambda text: Pattern(self.table, text)):
+            self.assertRaisesRegex(TypeError, "^text is a str, bytes, or an object .*, not NoneType$", call, None)
+        self.assertRaisesRegex(TypeError, "^text is bytes, or an object .*, not str$", Search(pattern).first_in, "a")
 
     def test_catalogue(self) -> None:
         titles = made_titles(2_000)
@@ -227,6 +393,17 @@ class Tests(unittest.TestCase):
                 expected.append(title)
         rows = catalogue(titles, Pattern(self.table, "resume", 1)).execute("SELECT title FROM books WHERE found(title)")
         self.assertEqual([title for title, in rows], expected)
+
+    def test_title_that_is_null(self) -> None:
+        """It is found neither by the function nor by its opposite, as SQL has it of each comparison with NULL."""
+        database = catalogue(["resume", None, "a"], Pattern(self.table, "resume", 1))
+        for sql, rows in [
+            ("SELECT found(title) FROM books", [(1,), (None,), (0,)]),
+            ("SELECT title FROM books WHERE found(title)", [("resume",)]),
+            ("SELECT title FROM books WHERE NOT found(title)", [("a",)]),
+            ("SELECT title FROM books WHERE found(title) IS NULL", [(None,)]),
+        ]:
+            self.assertEqual(database.execute(sql).fetchall(), rows, sql)
 
 
 if __name__ == "__main__":

@@ -1,11 +1,10 @@
 """Compares the ranges that colfind prints with the matches that ICU finds, in the first megabyte of texts of several languages, at each
-strength and both weightings.
+strength and both weightings; and in short texts where the two differ, each with what the definitions say of it.
 
     python3 icu.py COLFIND TABLE
 
 TABLE is allkeys_CLDR.txt, whose weights are those of ICU's root locale. The texts and the program over ICU are those of tools/bench.
-Left out are words where the two differ: ICU takes no match that begins or ends inside a grapheme cluster, and none of its matches takes
-in the ignorable marks behind it; under shifted weighting it takes some ideographs for others, as 4E01 for 4E00.
+The long texts have no word of which it is known that the two differ. DIFFERENCES has such words, and README.md says why they differ.
 """
 
 import os
@@ -29,6 +28,32 @@ PATTERNS = {
     "source code": ["example", "self.", "not in"],
 }
 NOT_SHIFTED = {"一"}
+# A pattern, a text, strengths, whether weighting is shifted, and the ranges of colfind and of ICU.
+DIFFERENCES = [
+    # a non-starter with a primary weight of its own belongs to the letter before it
+    ("विद", "विद्यालय", (1, 2, 3), False, [], ["0:9"]),
+    ("क", "क्या", (1, 2, 3), False, [], ["0:3"]),
+    ("கோவில", "கோவில்", (1, 2, 3), False, [], ["0:15"]),
+    ("မြန", "မြန်မာ", (1, 2, 3), False, [], ["0:9"]),
+    ("ស", "ស្រី", (1, 2, 3), False, [], ["0:3"]),
+    ("ค", "คุณ", (1, 2, 3), False, [], ["0:3"]),
+    ("ຄ", "ຄຸນ", (1, 2, 3), False, [], ["0:3"]),
+    ("བ", "བོད", (1, 2, 3), False, [], ["0:3"]),
+    # ICU takes no match that begins inside a grapheme cluster
+    ("या", "विद्यालय", (1, 2, 3), False, ["12:18"], []),
+    ("\U0001f1ea\U0001f1eb", "\U0001f1e9\U0001f1ea\U0001f1eb\U0001f1f7", (1, 2, 3), False, ["4:12"], []),
+    ("\U0001f4bb", "\U0001f469\u200d\U0001f4bb", (1, 2, 3), False, ["7:11"], []),
+    # a match takes in the marks behind it
+    ("မျာ", "များ", (1,), False, ["0:12"], ["0:9"]),
+    ("မျာ", "များ", (2, 3), False, [], ["0:9"]),
+    # ICU takes some ideographs for others
+    ("一", "丁", (1, 2, 3), True, [], ["0:3"]),
+    # the same text, as one code point and as three: no match ends inside a code point
+    ("가", "각", (1, 2, 3), False, [], []),
+    ("\u1100\u1161", "\u1100\u1161\u11a8", (1, 2, 3), False, ["0:6"], ["0:6"]),
+    ("\u0f42", "\u0f43", (1, 2, 3), False, [], []),
+    ("\u0f42", "\u0f42\u0fb7", (1, 2, 3), False, ["0:3"], ["0:3"]),
+]
 
 
 def cases(patterns):
@@ -48,18 +73,37 @@ def lines_of(words):
     return ran.stdout.decode().splitlines()
 
 
-def compare(colfind, table, icu, path, pattern, strength, is_shifted):
-    """How many matches ICU finds, and whether colfind prints the same."""
+def ranges(colfind, table, icu, path, pattern, strength, is_shifted):
+    """What colfind prints, and what ICU finds."""
     weighting = "shifted" if is_shifted else "non-ignorable"
     words = ["--table", table, "--strength", str(strength), "--variable", weighting, "--", pattern, path]
-    got = lines_of([colfind, *words])
-    wanted = lines_of([icu, *(["-s"] if is_shifted else []), str(strength), pattern, path])
+    return lines_of([colfind, *words]), lines_of([icu, *(["-s"] if is_shifted else []), str(strength), pattern, path])
+
+
+def compare(colfind, table, icu, path, pattern, strength, is_shifted):
+    """How many matches ICU finds, and whether colfind prints the same."""
+    got, wanted = ranges(colfind, table, icu, path, pattern, strength, is_shifted)
     if got == wanted:
         return len(wanted), True
-    print(f"different: {pattern}, strength {strength}, {weighting}, {path}: {len(got)} by colfind, {len(wanted)} by ICU")
+    print(f"different: {pattern}, strength {strength}, shifted {is_shifted}, {path}: {len(got)} by colfind, {len(wanted)} by ICU")
     print("  colfind alone:", *sorted(set(got) - set(wanted))[:5])
     print("  ICU alone:", *sorted(set(wanted) - set(got))[:5])
     return len(wanted), False
+
+
+def other_than_known(colfind, table, icu, path):
+    """How many searches of DIFFERENCES there are, and how many of them have other ranges."""
+    searches = different = 0
+    for pattern, text, strengths, is_shifted, of_colfind, of_icu in DIFFERENCES:
+        with open(path, "w", encoding="utf-8") as file:
+            file.write(text)
+        for strength in strengths:
+            searches += 1
+            got = ranges(colfind, table, icu, path, pattern, strength, is_shifted)
+            if got != (of_colfind, of_icu):
+                different += 1
+                print(f"other than known: {pattern} in {text}, strength {strength}: {got[0]} by colfind, {got[1]} by ICU")
+    return searches, different
 
 
 def main():
@@ -78,8 +122,9 @@ def main():
             for case in cases(patterns):
                 found, is_same = compare(colfind, table, icu, path, *case)
                 searches, matches, different = searches + 1, matches + found, different + (not is_same)
-    print(f"ICU: {searches} searches, {matches} matches, {different} different")
-    sys.exit(1 if different else 0)
+        known, other = other_than_known(colfind, table, icu, os.path.join(given, "short"))
+    print(f"ICU: {searches} searches, {matches} matches, {different} different; {known} of known differences, {other} other than known")
+    sys.exit(1 if different or other else 0)
 
 
 main()

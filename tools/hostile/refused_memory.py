@@ -191,7 +191,7 @@ def sweep_places(refuser, program):
 
 
 def is_made_for_refusals(test):
-    return test.startswith("table::") or "::refused_" in test or test.endswith("ask_for_no_memory")
+    return test.startswith("table::") or "::refused_" in test
 
 
 def sweep_tests(refuser, program):

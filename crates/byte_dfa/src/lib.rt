@@ -6,7 +6,8 @@
 //!
 //! A move waits for the one before it, and that is what a run costs. [`Cells::run_to_end`] goes by windows, each begun in a guessed row,
 //! and [`Cells::run_by_four`] makes four runs at once. Both come where single moves come: that is their clause, `Follows` of
-//! `specs/Moves.antt`. How far they go no clause says. [`Guesses`] cost time alone where they are wrong.
+//! `specs/Moves.antt`. How far one run goes its clause `end` says; how far four go none says. [`Guesses`] cost time alone where they are
+//! wrong.
 //!
 //! It stands on the standard library alone. `Cells` and `Guesses` take memory where their rows and guesses are made.
 #![tactic(auto)]

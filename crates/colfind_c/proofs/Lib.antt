@@ -1,3 +1,4 @@
+pub mod AllLemmas
 pub mod Calls
 pub mod ExportLemmas
 pub mod FewFound

@@ -25,21 +25,27 @@ pub on_ok : {A E P Q : Type 0} (r : Result A E) → (P → Q) → OnOk r P → O
 on_ok (Ok a) f p = f p
 on_ok (Err e) f p = tt
 
+-- what follows from a fault
+pub on_err : {A E : Type 0} {P Q : E → Type 0} (r : Result A E) → ((e : E) → P e → Q e) → IfErr r P → IfErr r Q
+on_err (Ok a) f p = tt
+on_err (Err e) f p = f e p
+
 module _ {W : Type 0} {G : Ghosts W} (s : Sought) (old : Parked) (before : Search W G) (same : sought before ≡ s)
     (into : (u : List ℕ) (handed : List (ℕ × ℕ)) → HasParked (sought before) old u handed → HasSearched before u handed) where
   pub taken_up : (u : List ℕ) (handed : List (ℕ × ℕ)) → HasParked s old u handed → HasSearched before u handed
   taken_up u handed h = into u handed (subst (λ t. HasParked t old u handed) (sym same) h)
 
   pub fed : (new : Parked) (after : Search W G) (piece : List ℕ) (result : Result (Unit {0}) TextFault) (found : List (ℕ × ℕ))
-      → before.fault ≡ parked_fault old → GoesOn before piece result found after
+      → before.fault ≡ parked_fault old → parked_fault new ≡ after.fault → GoesOn before piece result found after
       → ((text u : List ℕ) (handed : List (ℕ × ℕ)) → IsCompiledFrom (sought before) text → HasSearched before u handed → length found ≤ length piece + most_found_late)
       → ((u : List ℕ) (handed : List (ℕ × ℕ)) → HasSearched after u handed → HasParked (sought after) new u handed)
       → FeedsParked s old piece result found new
-  fed new after piece result found told feeds few out = record {
+  fed new after piece result found told kept feeds few out = record {
     stands = λ u handed h. on_ok result (λ k. subst (λ t. HasParked t new (u ++ piece) (handed ++ found)) (feeds.same_sought ∙ same) (out (u ++ piece) (handed ++ found) k)) (feeds.stands u handed (taken_up u handed h));
     answer = λ text u more handed compiled h. subst (λ t. IfErr result (λ f. answer_to t text ((u ++ piece) ++ more) ≡ record { ranges = handed ++ found; fault = Some f })) same
         (feeds.answer text u more handed (subst (λ t. IsCompiledFrom t text) (sym same) compiled) (taken_up u handed h));
     again = λ f is. feeds.again f (told ∙ is);
+    reported = on_err result (λ f r. kept ∙ r) feeds.reported;
     few = λ text u handed compiled h. few text u handed (subst (λ t. IsCompiledFrom t text) (sym same) compiled) (taken_up u handed h);
   }
 
@@ -113,6 +119,7 @@ module _ {W : Type 0} {G : Ghosts W} (old here new : Search W G) (done chunk : L
     answer = λ text u more handed compiled h.
         subst (λ xs. answer_to (sought old) text ((u ++ xs) ++ more) ≡ record { ranges = handed ++ (found1 ++ found2); fault = Some f }) (sym is) (answered_so f later fed text u more handed compiled h);
     again = again_so (Err f) fed;
+    reported = fed.reported;
     same_sought = fed.same_sought ∙ before.same_sought;
   }
 
@@ -122,6 +129,7 @@ module _ {W : Type 0} {G : Ghosts W} (old here new : Search W G) (done chunk : L
     stands = λ u handed h. subst (λ xs. HasSearched new (u ++ xs) (handed ++ (found1 ++ found2))) (sym is) (gone.stands u handed h);
     answer = λ text u more handed compiled h. tt;
     again = again_so (Ok a) fed;
+    reported = tt;
     same_sought = gone.same_sought;
   }
   goes_to_the_end (Err f) piece is fed = goes_wrong f [] piece (is ∙ ap (λ xs. done ++ xs) (sym (append-nil chunk))) fed

@@ -1,6 +1,7 @@
 -- Ranges that were taken from the front of a queue, and those that are left.
-use Rattle.std.proofs.Common.{◌≡◌, ℕ, ◌+◌, List, [], ◌++◌, length, take, drop, sym, ap, subst, ◌∙◌, arith, append_assoc, append-nil, length-append}
-use Rattle.std.proofs.lemmas.List.{take-append-drop, drop-drop, map-append, take-append-le, take_all}
+use Rattle.std.proofs.Common.{◌≡◌, ℕ, ◌+◌, ◌≤◌, List, [], ◌∷◌, ◌++◌, length, min, take, drop, refl, sym, ap, subst, ◌∙◌, arith, append_assoc, append-nil, length-append}
+use Rattle.std.proofs.Math.Nat.{min-eq_right}
+use Rattle.std.proofs.lemmas.List.{take-append-drop, drop-drop, length-map, length-take-le, map-append, take-append-le, take_all}
 use Rattle.std.proofs.Math.ListN.{drop_of_length-le}
 use Rattle.colfind_c.specs.declared.queue.Range.{Range}
 use Rattle.colfind_c.specs.declared.queue.Queue.{Queue}
@@ -19,6 +20,20 @@ pub taken_and_none : (items out written rest : List Range) (at n : ℕ) → leng
     → pairs (drop at items) ≡ pairs (take n (written ++ drop n out)) ++ pairs rest
 taken_and_none items out written rest at n len is all none = taken_and_left items out written at n len is
     ∙ ap (λ xs. pairs (take n (written ++ drop n out)) ++ pairs xs) (drop_of_length-le items (omega (arith, all)) ∙ sym none)
+
+nil_of : {A : Type 0} (xs : List A) → length xs ≡ 0 → xs ≡ []
+nil_of [] e = refl
+nil_of (x ∷ xs) e = absurd (omega (arith, e))
+
+-- where all have room, all were taken
+pub all_taken : (xs ys : List (ℕ × ℕ)) (out : List Range) (n room k : ℕ) → n ≡ length xs → n ≤ room → k ≡ min room (length xs) → room ≤ length out
+    → xs ≡ pairs (take k out) ++ ys → pairs (take n out) ≡ xs
+all_taken xs ys out n room k size le most fits is =
+    let same : k ≡ n = most ∙ min-eq_right (subst (λ z. z ≤ room) size le) ∙ sym size in
+    let len : length (pairs (take k out)) ≡ k = length-map (take k out) (λ r. (r.start, r.end)) ∙ length-take-le k out (omega (arith, same, le, fits)) in
+    let sum : length xs ≡ length (pairs (take k out)) + length ys = ap length is ∙ length-append (pairs (take k out)) ys in
+    let none : ys ≡ [] = nil_of ys (omega (arith, sum, len, same, size)) in
+    ap (λ j. pairs (take j out)) (sym same) ∙ sym (append-nil (pairs (take k out))) ∙ ap (λ zs. pairs (take k out) ++ zs) (sym none) ∙ sym is
 
 -- ---- ranges that are put at the end
 

@@ -11,7 +11,8 @@ use Rattle.collation_states.specs.declared.faults.StateFault.{StateFault}
 use Rattle.collation_matches.specs.Sought.{Sought, IsCompiledFrom, answer_to, settled_in}
 use Rattle.collation_matches.specs.GoodPrefix.{whole}
 use Rattle.collation_search.specs.declared.parking.Parked.{Parked}
-use Rattle.collation_search.specs.Parking.{IsFor, HasParked, parked_select, parked_words}
+use Rattle.collation_search.specs.Parking.{IsFor, HasParked, parked_fault, parked_select, parked_words}
+use Rattle.collation_search.specs.Saving.{HasRecords, most_records}
 use Rattle.colfind_c.specs.declared.owned.Query.{Query}
 use Rattle.colfind_c.specs.declared.owned.Session.{Session}
 use Rattle.colfind_c.specs.declared.queue.Queue.{Queue}
@@ -23,11 +24,33 @@ use Rattle.colfind_c.specs.Queues.{pairs, waiting, HasRoom, Gets}
 use Rattle.colfind_c.specs.Parkings.{FeedsParked, FinishesParked, most_found_late}
 use Rattle.collation_matches.specs.Offsets.{answer_from}
 use Rattle.collation_search.specs.Indexing.{first_range}
-use Rattle.colfind_c.specs.Sessions.{sought_of, HasFed, KeepsFed, HasBegunAgain, FeedsSession, FeedsPart, FinishesSession, StopsSession, FirstInSession, SavesSession, TakesRanges}
+use Rattle.colfind_c.specs.Sessions.{sought_of, HasFed, KeepsFed, HasBegunAgain, HasMet, FeedsSession, FeedsPart, FinishesSession, StopsSession, EndsSession, FirstInSession, SavesSession, TakesRanges}
 
 abbrev value_or : Parked → Option Parked → Parked
 value_or p None = p
 value_or p (Some x) = x
+
+abbrev pub is_some_parked : Option Parked → Type 0
+is_some_parked None = ⊥
+is_some_parked (Some x) = Unit {0}
+
+-- a search that has ended has met no fault
+pub met_none : (s : Session) (f : TextFault) → s.parked ≡ None → HasMet s f → ⊥
+met_none s f none met = subst is_some_parked (sym met.1 ∙ none) tt
+
+abbrev fault_or : TextFault → Result (Unit {0}) TextFault → TextFault
+fault_or f (Ok a) = f
+fault_or f (Err g) = g
+
+pub same_fault : (f g : TextFault) → (let r : Result (Unit {0}) TextFault = Err f in r) ≡ Err g → f ≡ g
+same_fault f g e = ap (fault_or f) e
+
+abbrev is_fault : Result (Unit {0}) TextFault → Type 0
+is_fault (Ok a) = ⊥
+is_fault (Err g) = Unit {0}
+
+pub no_fault : (a : Unit {0}) (g : TextFault) → (let r : Result (Unit {0}) TextFault = Ok a in r) ≡ Err g → ⊥
+no_fault a g e = subst is_fault (sym e) tt
 
 pub same_value : (p x : Parked) → Some p ≡ Some x → p ≡ x
 same_value p x e = ap (value_or p) e
@@ -62,13 +85,13 @@ module _ (old new : Session) (eq : new.query ≡ old.query) (es : new.select ≡
   }
 
   pub finish_refused : new.parked ≡ old.parked → (new.queue.lost ≡ old.queue.lost) × (waiting new.queue ≡ waiting old.queue) → FinishesSession old NoMemory new
-  finish_refused ep kept = record { finished = still_fed ep kept; same = same_sought }
+  finish_refused ep kept = record { finished = still_fed ep kept; again = λ f m. (tt, kept.1); same = same_sought }
 
   pub stop_refused : new.parked ≡ old.parked → (new.queue.lost ≡ old.queue.lost) × (waiting new.queue ≡ waiting old.queue) → StopsSession old NoMemory new
   stop_refused ep kept = record { stopped = still_fed ep kept; same = same_sought }
 
   pub part_refused : (part : List ℕ) (before : ℕ) → new.parked ≡ old.parked → (new.queue.lost ≡ old.queue.lost) × (waiting new.queue ≡ waiting old.queue) → FeedsPart old part before (Partly before) new
-  part_refused part before ep kept = record { fed = (refl, still_fed ep kept); same = same_sought }
+  part_refused part before ep kept = record { fed = (refl, still_fed ep kept); again = λ f m. (refl, (m.0, ep ∙ m.1, m.2), kept.1); met = tt; same = same_sought }
 
   -- ranges were taken from the front of its queue
   pub taken : (room count : ℕ) (out : List Range) → new.parked ≡ old.parked → new.queue.lost ≡ old.queue.lost → count ≡ min room (length (waiting old.queue))
@@ -111,6 +134,10 @@ module _ (s : Session) (p : Parked) (q : Query) (t : Table) (is : s.parked ≡ S
   parked_has u given h = subst (λ z. HasParked z p u (given ++ waiting s.queue)) (sym seen_is)
       (subst (λ x. HasParked (sought_of s) x u (given ++ waiting s.queue)) (same_value h.parked p (sym h.held ∙ is)) h.stands)
 
+  -- a fault that was met is the one of its search
+  fault_at : (f : TextFault) → HasMet s f → parked_fault p ≡ Some f
+  fault_at f met = ap parked_fault (same_value p met.0 (sym is ∙ met.1)) ∙ met.2
+
   module _ (queue1 queue2 : Queue) (found : List (ℕ × ℕ)) (kept : (queue1.lost ≡ s.queue.lost) × (waiting queue1 ≡ waiting s.queue))
       (gets : Gets queue1 found queue2) where
     -- all found room
@@ -131,12 +158,20 @@ module _ (s : Session) (p : Parked) (q : Query) (t : Table) (is : s.parked ≡ S
             let few = fed.few text u (given ++ waiting s.queue) (subst (λ z. IsCompiledFrom z text) (sym seen_is) compiled) (parked_has u given h) in
             let clash : true ≡ false = sym lost ∙ all_kept (length part + most_found_late) room few in cc,
       );
+      again = λ g met.
+          let none : found ≡ [] = (fed.again g (fault_at g met)).1 in
+          let few : length found ≤ length part + most_found_late = subst (λ xs. length xs ≤ length part + most_found_late) (sym none) (omega arith) in
+          let clash : true ≡ false = sym lost ∙ all_kept (length part + most_found_late) room few in cc;
+      met = tt;
       same = same_sought s new eq es;
     }
 
     module _ (good : queue2.lost ≡ false) where
       waits_after : (given : List (ℕ × ℕ)) → (given ++ waiting s.queue) ++ found ≡ given ++ waiting queue2
       waits_after given = append_assoc given (waiting s.queue) found ∙ ap (λ xs. given ++ xs) (sym ((gets.waits (waiting s.queue) (record { kept = λ _. kept.1 })).kept good))
+
+      waits_same : found ≡ [] → waiting queue2 ≡ waiting s.queue
+      waits_same none = sym (waits_after []) ∙ ap (λ xs. waiting s.queue ++ xs) none ∙ append-nil (waiting s.queue)
 
       pub session_fed : (part : List ℕ) (before : ℕ) (r : Result (Unit {0}) TextFault) (p2 : Parked) (new : Session) → FeedsParked seen p part r found p2
           → new.query ≡ s.query → new.select ≡ s.select → new.parked ≡ Some p2 → new.queue ≡ queue2
@@ -152,6 +187,8 @@ module _ (s : Session) (p : Parked) (q : Query) (t : Table) (is : s.parked ≡ S
                 (subst (λ xs. HasParked seen p2 (u ++ part) xs) (waits_after given ∙ ap (λ x. given ++ waiting x) (sym e2)) (fed.stands u (given ++ waiting s.queue) (parked_has u given h)));
           },
         );
+        again = λ g met. absurd (no_fault a g (fed.again g (fault_at g met)).0);
+        met = tt;
         same = same;
       }
       session_fed part before (Err f) p2 new fed eq es ep e2 = record {
@@ -160,6 +197,11 @@ module _ (s : Session) (p : Parked) (q : Query) (t : Table) (is : s.parked ≡ S
             (subst (λ z. answer_to z text ((u ++ part) ++ more) ≡ record { ranges = given ++ waiting new.queue; fault = Some f }) seen_is
             (subst (λ xs. answer_to seen text ((u ++ part) ++ more) ≡ record { ranges = xs; fault = Some f }) (waits_after given ∙ ap (λ x. given ++ waiting x) (sym e2))
             (fed.answer text u more (given ++ waiting s.queue) (subst (λ z. IsCompiledFrom z text) (sym seen_is) compiled) (parked_has u given h))));
+        again = λ g met.
+            let told = fed.again g (fault_at g met) in
+            let one = same_fault f g told.0 in
+            (one, (p2, ep, fed.reported ∙ ap Some one), ap waiting e2 ∙ waits_same told.1);
+        met = (p2, ep, fed.reported);
         same = same_sought s new eq es;
       }
 
@@ -180,6 +222,7 @@ module _ (s : Session) (p : Parked) (q : Query) (t : Table) (is : s.parked ≡ S
           λ text u given compiled h. answered None new text u given e2
               (done.good text u (given ++ waiting s.queue) (subst (λ z. IsCompiledFrom z text) (sym seen_is) compiled) (parked_has u given h)),
         );
+        again = λ g met. absurd (no_fault a g (done.again g (fault_at g met)).0);
         same = same_sought s new eq es;
       }
       session_finished (Err f) new done eq es ep e2 = record {
@@ -188,6 +231,23 @@ module _ (s : Session) (p : Parked) (q : Query) (t : Table) (is : s.parked ≡ S
           λ text u given compiled h. answered (Some f) new text u given e2
               (done.bad text u (given ++ waiting s.queue) (subst (λ z. IsCompiledFrom z text) (sym seen_is) compiled) (parked_has u given h)),
         );
+        again = λ g met. let told = done.again g (fault_at g met) in (same_fault f g told.0, ap waiting e2 ∙ waits_same told.1);
+        same = same_sought s new eq es;
+      }
+
+      pub session_ended : (r : Result (Unit {0}) TextFault) (p2 : Parked) (new : Session) → FinishesParked seen p r found
+          → new.query ≡ s.query → new.select ≡ s.select → new.parked ≡ Some p2 → new.queue ≡ queue2
+          → MatchResult r (λ _. EndsSession s Good new) (λ f. EndsSession s (Text f) new)
+      session_ended (Ok a) p2 new done eq es ep e2 = record {
+        ended = λ text u given compiled h. answered None new text u given e2
+            (done.good text u (given ++ waiting s.queue) (subst (λ z. IsCompiledFrom z text) (sym seen_is) compiled) (parked_has u given h));
+        going = ap is_some ep;
+        same = same_sought s new eq es;
+      }
+      session_ended (Err f) p2 new done eq es ep e2 = record {
+        ended = λ text u given compiled h. answered (Some f) new text u given e2
+            (done.bad text u (given ++ waiting s.queue) (subst (λ z. IsCompiledFrom z text) (sym seen_is) compiled) (parked_has u given h));
+        going = ap is_some ep;
         same = same_sought s new eq es;
       }
 
@@ -205,21 +265,26 @@ module _ (s : Session) (p : Parked) (q : Query) (t : Table) (is : s.parked ≡ S
         same = same_sought s new eq es;
       }
 
+  -- a search that has begun again, and whose ranges were dropped
+  pub begun_session : (p2 : Parked) (new : Session) → HasParked seen p2 [] [] → new.query ≡ s.query → new.select ≡ s.select → new.parked ≡ Some p2
+      → new.queue.lost ≡ s.queue.lost → waiting new.queue ≡ [] → HasBegunAgain new
+  begun_session p2 new stands eq2 es2 ep lost none = (
+    record {
+      parked = p2;
+      held = ep;
+      kept = lost ∙ s.kept p is;
+      stands = subst (λ xs. HasParked (sought_of new) p2 [] xs) (sym none) (subst (λ z. HasParked z p2 [] []) (seen_is ∙ sym (same_sought s new eq2 es2)) stands);
+    },
+    none,
+  )
+
   -- a search that looked for the first range is at the beginning of a text
   module _ (text : List ℕ) (from : ℕ) (result : Result (Option (ℕ × ℕ)) TextFault) (p2 : Parked) (new : Session)
       (first : (t : List ℕ) → IsCompiledFrom seen t → result ≡ first_range (answer_from seen t text from).ranges (answer_from seen t text from).fault)
       (stands : HasParked seen p2 [] []) (within : from ≤ length text)
       (eq2 : new.query ≡ s.query) (es2 : new.select ≡ s.select) (ep : new.parked ≡ Some p2) (lost : new.queue.lost ≡ s.queue.lost) (none : waiting new.queue ≡ []) where
     begun_again : HasBegunAgain new
-    begun_again = (
-      record {
-        parked = p2;
-        held = ep;
-        kept = lost ∙ s.kept p is;
-        stands = subst (λ xs. HasParked (sought_of new) p2 [] xs) (sym none) (subst (λ z. HasParked z p2 [] []) (seen_is ∙ sym (same_sought s new eq2 es2)) stands);
-      },
-      none,
-    )
+    begun_again = begun_session p2 new stands eq2 es2 ep lost none
 
     answered_first : (t : List ℕ) → IsCompiledFrom (sought_of s) t → result ≡ first_range (answer_from (sought_of s) t text from).ranges (answer_from (sought_of s) t text from).fault
     answered_first t compiled = subst (λ z. result ≡ first_range (answer_from z t text from).ranges (answer_from z t text from).fault) seen_is
@@ -246,15 +311,19 @@ module _ (s : Session) (p : Parked) (q : Query) (t : Table) (is : s.parked ≡ S
   pub session_words : (words : List ℕ) → words ≡ parked_words seen p → (parked : Parked) → s.parked ≡ Some parked → words ≡ parked_words (sought_of s) parked
   session_words words e parked held = e ∙ ap (λ z. parked_words z p) seen_is ∙ ap (λ x. parked_words (sought_of s) x) (same_value p parked (sym is ∙ held))
 
-  pub session_saves : (words : List ℕ) (p2 : Parked) (new : Session) → words ≡ parked_words seen p
+  pub session_saves : (words : List ℕ) (p2 : Parked) (new : Session) → words ≡ parked_words seen p → HasRecords (parked_words seen p) (most_records seen)
       → ((u : List ℕ) (handed : List (ℕ × ℕ)) → HasParked seen p u handed → HasParked seen p2 u handed)
       → new.query ≡ s.query → new.select ≡ s.select → new.parked ≡ Some p2 → new.queue ≡ s.queue → SavesSession s Good words new
-  session_saves words p2 new e kept eq es ep e2 = record { saved = (session_words words e, session_saved p2 new kept eq es ep e2); same = same_sought s new eq es }
+  session_saves words p2 new e few kept eq es ep e2 = record {
+    saved = (session_words words e, session_saved p2 new kept eq es ep e2);
+    few = subst (λ z. HasRecords words (most_records z)) seen_is (subst (λ xs. HasRecords xs (most_records seen)) (sym e) few);
+    same = same_sought s new eq es;
+  }
 
   pub save_refused : (words : List ℕ) (p2 : Parked) (new : Session)
       → ((u : List ℕ) (handed : List (ℕ × ℕ)) → HasParked seen p u handed → HasParked seen p2 u handed)
       → new.query ≡ s.query → new.select ≡ s.select → new.parked ≡ Some p2 → new.queue ≡ s.queue → SavesSession s NoMemory words new
-  save_refused words p2 new kept eq es ep e2 = record { saved = session_saved p2 new kept eq es ep e2; same = same_sought s new eq es }
+  save_refused words p2 new kept eq es ep e2 = record { saved = session_saved p2 new kept eq es ep e2; few = tt; same = same_sought s new eq es }
 
 -- ---- the parts of a piece
 
@@ -263,6 +332,7 @@ pub record HasBegun (old : Session) (piece : List ℕ) (at : ℕ) (new : Session
   pub within : at ≤ length piece
   pub going : IsSome new.parked
   pub fed : (u : List ℕ) (given : List (ℕ × ℕ)) → HasFed old u given → HasFed new (u ++ take at piece) given
+  pub again : (f : TextFault) → HasMet old f → (at ≡ 0) × HasMet new f × (waiting new.queue ≡ waiting old.queue)
   pub same : sought_of new ≡ sought_of old
 
 module _ (old here : Session) (piece : List ℕ) (at : ℕ) (begun : HasBegun old piece at here) where
@@ -286,10 +356,14 @@ module _ (old here : Session) (piece : List ℕ) (at : ℕ) (begun : HasBegun ol
         subst (λ bytes. answer_to (sought_of old) text bytes ≡ record { ranges = given ++ waiting new.queue; fault = Some f }) (part_bytes u part rest more e)
         (subst (λ z. answer_to z text ((u ++ take at piece) ++ (part ++ (rest ++ more))) ≡ record { ranges = given ++ waiting new.queue; fault = Some f }) begun.same
         (fed.fed (rest ++ more) text (u ++ take at piece) given (compiled_here text compiled) (begun.fed u given h)));
+    again = λ g m. let b = begun.again g m in let a = fed.again g b.1 in (a.0, a.1, a.2 ∙ b.2);
+    met = fed.met;
     same = fed.same ∙ begun.same;
   }
   part_failed part rest e (Partly n) new fed bad = record {
     fed = λ u given h. subst (λ k. HasFed new (u ++ take k piece) given) (sym fed.fed.0) (fed.fed.1 (u ++ take at piece) given (begun.fed u given h));
+    again = λ g m. let b = begun.again g m in let a = fed.again g b.1 in (a.0 ∙ b.0, a.1, a.2 ∙ b.2);
+    met = tt;
     same = fed.same ∙ begun.same;
   }
   part_failed part rest e Ended new fed bad = absurd fed.fed
@@ -299,6 +373,8 @@ module _ (old here : Session) (piece : List ℕ) (at : ℕ) (begun : HasBegun ol
   part_failed part rest e (Short n) new fed bad = absurd fed.fed
   part_failed part rest e (State f) new fed bad = record {
     fed = (fed.fed.0, fed.fed.1, λ text u given compiled h. fed.fed.2 text (u ++ take at piece) given (compiled_here text compiled) (begun.fed u given h));
+    again = λ g m. absurd (fed.again g (begun.again g m).1).0;
+    met = tt;
     same = fed.same ∙ begun.same;
   }
   part_failed part rest e (Pattern f) new fed bad = absurd fed.fed
@@ -309,6 +385,8 @@ module _ (old here : Session) (piece : List ℕ) (at : ℕ) (begun : HasBegun ol
   part_last part e Good new fed = record {
     fed = λ u given h. subst (λ bytes. HasFed new bytes given) (append_assoc u (take at piece) part ∙ ap (λ xs. u ++ xs) (ap (λ xs. take at piece ++ xs) (sym e) ∙ take-append-drop at piece))
         (fed.fed.1 (u ++ take at piece) given (begun.fed u given h));
+    again = λ g m. absurd (fed.again g (begun.again g m).1).0;
+    met = tt;
     same = fed.same ∙ begun.same;
   }
   part_last part e (Text f) new fed = part_failed part [] (e ∙ sym (append-nil part)) (Text f) new fed (λ is. absurd (subst IsGood (sym is) tt))
@@ -328,13 +406,22 @@ module _ (old here : Session) (piece : List ℕ) (at : ℕ) (begun : HasBegun ol
     going = fed.fed.0;
     fed = λ u given h. subst (λ bytes. HasFed new bytes given) (append_assoc u (take at piece) part ∙ ap (λ xs. u ++ xs) (ap (λ xs. take at piece ++ xs) e ∙ sym (take-add at n piece)))
         (fed.fed.1 (u ++ take at piece) given (begun.fed u given h));
+    again = λ g m. absurd (fed.again g (begun.again g m).1).0;
     same = fed.same ∙ begun.same;
   }
+
+-- a search that has ended is fed nothing
+pub fed_ended : (s : Session) (piece : List ℕ) → s.parked ≡ None → FeedsSession s piece Ended s
+fed_ended s piece none = record { fed = (none, refl); again = λ f m. absurd (met_none s f none m); met = tt; same = refl }
+
+pub finished_ended : (s : Session) → s.parked ≡ None → FinishesSession s Ended s
+finished_ended s none = record { finished = (none, refl); again = λ f m. absurd (met_none s f none m); same = refl }
 
 pub begins : (s : Session) (piece : List ℕ) → IsSome s.parked → HasBegun s piece 0 s
 begins s piece going = record {
   within = omega (arith);
   going = going;
   fed = λ u given h. subst (λ bytes. HasFed s bytes given) (sym (append-nil u)) h;
+  again = λ f m. (refl, m, refl);
   same = refl;
 }

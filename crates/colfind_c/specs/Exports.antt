@@ -64,6 +64,29 @@ abbrev pub SharesQuery : Option Owned → Result (Arc Query Global) Outcome → 
 SharesQuery (Some (APattern q)) result = MatchResult result (λ shared. arc_value shared ≡ arc_value q) (λ how. how ≡ NoMemory)
 SharesQuery other result = result ≡ Err WrongHandle
 
+-- a table or a pattern of the same value
+abbrev pub IsAnother : Owned → Owned → Type 0
+IsAnother (ATable t) (ATable u) = arc_value u ≡ arc_value t
+IsAnother (APattern q) (APattern r) = arc_value r ≡ arc_value q
+IsAnother owned other = ⊥
+
+-- what a handle holds, once more; a search is not shared
+abbrev pub SharesOwned : Option Owned → Result Owned Outcome → Type 0
+SharesOwned (Some (ATable t)) result = MatchResult result (IsAnother (ATable t)) (λ how. how ≡ NoMemory)
+SharesOwned (Some (APattern q)) result = MatchResult result (IsAnother (APattern q)) (λ how. how ≡ NoMemory)
+SharesOwned other result = result ≡ Err WrongHandle
+
+-- a second handle holds what the first one holds, or memory was refused and it is as it was
+abbrev pub IsSharedInto : Owned → Outcome → Option Owned → Option Owned → Type 0
+IsSharedInto owned Good before (Some other) = IsAnother owned other
+IsSharedInto owned NoMemory before after = after ≡ before
+IsSharedInto owned _ before after = ⊥
+
+abbrev pub SharesInto : Option Owned → Outcome → Option Owned → Option Owned → Type 0
+SharesInto (Some (ATable t)) how before after = IsSharedInto (ATable t) how before after
+SharesInto (Some (APattern q)) how before after = IsSharedInto (APattern q) how before after
+SharesInto other how before after = (how ≡ WrongHandle) × (after ≡ before)
+
 -- a handle got a value, or memory was refused and it is as it was
 abbrev pub IsGiven : Owned → Outcome → Option Owned → Option Owned → Type 0
 IsGiven owned Good before after = after ≡ Some owned
@@ -151,6 +174,11 @@ AnswersFirstFrom q text from range _ = ⊥
 -- the range that C gets, if it gets one
 abbrev pub first_of : First → Option (ℕ × ℕ)
 first_of first = if first.is_found == 1 then Some (first.range.start, first.range.end) else None
+
+-- one number for all: 1 where there is a range, 0 where there is none, else the number of the fault
+abbrev pub number_of : Option (ℕ × ℕ) → Outcome → ℕ
+number_of (Some range) how = 1
+number_of None how = (status_of how).kind
 
 -- how many ranges wait
 abbrev pub pending : Option Owned → ℕ

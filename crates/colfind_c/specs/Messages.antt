@@ -14,9 +14,9 @@ table_words kind =
     if kind == 6 then codes "a weight of an accent or of a third level is not above those of the levels before" else
     if kind == 7 then codes "an element is marked variable, and its first weight is zero" else
     if kind == 8 then codes "a weight between two variable ones is not variable" else
-    if kind == 9 then codes "a string that ends in a combining mark has a row, and without the mark it has none" else
-    if kind == 10 then codes "first weights from FB00 on are not in pairs" else
-    if kind == 11 then codes "a range of implicit weights has a wrong end or base, or overlaps an earlier one" else
+    if kind == 9 then codes "a string of three or more code points ends in a combining mark, and without the mark it has no row" else
+    if kind == 10 then codes "a lead without a follower, a follower without a lead, or a variable first weight of FB00 or more" else
+    if kind == 11 then codes "a range of implicit weights has a wrong end or base, is too wide, or overlaps an earlier one" else
     if kind == 12 then codes "the table has no row" else
     if kind == 13 then codes "more than 1,048,576 rows or 256 ranges" else
     codes "a request for memory was refused while the table was read"

@@ -20,18 +20,21 @@ pub record GoesOn {W : Type 0} {G : Ghosts W} (old : Search W G) (piece : List �
   pub answer : (text u more : List ℕ) (handed : List (ℕ × ℕ)) → IsCompiledFrom (sought old) text → HasSearched old u handed
       → IfErr result (λ f. answer_to (sought old) text ((u ++ piece) ++ more) ≡ record { ranges = handed ++ found; fault = Some f })
   pub again : (f : TextFault) → HasReported old f → (result ≡ Err f) × (found ≡ [])
+  pub reported : IfErr result (λ f. HasReported new f)
   pub same_sought : sought new ≡ sought old
 
 -- A piece went in, and the ranges became known.
 --   stands: without a fault the piece is among the bytes
 --   answer: with a fault the ranges are all of the answer, whatever follows
 --   again: a fault that was reported before is reported again, with no ranges
+--   reported: a fault stays
 --   few: no more ranges became known than the piece has bytes, and those that were held back
 pub record FeedsParked (s : Sought) (old : Parked) (piece : List ℕ) (result : Result (Unit {0}) TextFault) (found : List (ℕ × ℕ)) (new : Parked) : Type 0 where
   pub stands : (u : List ℕ) (handed : List (ℕ × ℕ)) → HasParked s old u handed → OnOk result (HasParked s new (u ++ piece) (handed ++ found))
   pub answer : (text u more : List ℕ) (handed : List (ℕ × ℕ)) → IsCompiledFrom s text → HasParked s old u handed
       → IfErr result (λ f. answer_to s text ((u ++ piece) ++ more) ≡ record { ranges = handed ++ found; fault = Some f })
   pub again : (f : TextFault) → parked_fault old ≡ Some f → (result ≡ Err f) × (found ≡ [])
+  pub reported : IfErr result (λ f. parked_fault new ≡ Some f)
   pub few : (text u : List ℕ) (handed : List (ℕ × ℕ)) → IsCompiledFrom s text → HasParked s old u handed → length found ≤ length piece + most_found_late
 
 -- The text has ended: the ranges are all of its answer.

@@ -8,11 +8,13 @@ use Rattle.collation_matches.specs.Sought.{Sought, IsCompiledFrom, answer_to, se
 use Rattle.collation_matches.specs.GoodPrefix.{whole}
 use Rattle.collation_search.specs.declared.parking.Parked.{Parked}
 use Rattle.collation_search.specs.declared.search.Search.{Search}
-use Rattle.collation_search.specs.Parking.{HasParked, parked_words}
+use Rattle.collation_search.specs.Parking.{HasParked, parked_fault, parked_words}
 use Rattle.collation_search.specs.Resuming.{AreSaved}
+use Rattle.collation_search.specs.Saving.{HasRecords, most_records}
+use Rattle.collation_matches.specs.Answer.{Answer}
 use Rattle.colfind_c.specs.declared.owned.Session.{Session}
 use Rattle.colfind_c.specs.declared.outcome.Outcome.{Outcome}
-use Rattle.colfind_c.specs.declared.outcome.Outcome.TheVariants.{Good, Text, NoMemory, Partly, Ended, State, BadArgument}
+use Rattle.colfind_c.specs.declared.outcome.Outcome.TheVariants.{Good, Text, NoMemory, Partly, Ended, Short, State, BadArgument}
 use Rattle.colfind_c.specs.Queries.{sought_with}
 use Rattle.colfind_c.specs.declared.queue.Range.{Range}
 use Rattle.colfind_c.specs.Parkings.{IsFirstFrom}
@@ -79,21 +81,49 @@ IsSaved old NoMemory words new = KeepsFed old new
 IsSaved old Ended words new = HadEnded old new
 IsSaved old _ words new = ⊥
 
--- The call did so, and what is looked for is the same.
+-- ---- after a fault
+
+-- the search has reported this fault
+abbrev pub HasMet : Session → TextFault → Type 0
+HasMet s f = (parked : Parked) × (s.parked ≡ Some parked) × (parked_fault parked ≡ Some f)
+
+-- the fault is reported once more, unless memory was refused, and then nothing was taken
+abbrev pub TellsAgain : TextFault → Outcome → Type 0
+TellsAgain f (Text g) = g ≡ f
+TellsAgain f (Partly n) = n ≡ 0
+TellsAgain f NoMemory = Unit {0}
+TellsAgain f _ = ⊥
+
+-- a fault that is reported is one that the search has met from then on
+abbrev pub MeetsFault : Outcome → Session → Type 0
+MeetsFault (Text f) new = HasMet new f
+MeetsFault _ new = Unit {0}
+
+-- so many records of four words at most, as the pattern has keys and the longest mapped string code points, and 35 or 36 more
+abbrev pub AreFew : Session → Outcome → List ℕ → Type 0
+AreFew old Good words = HasRecords words (most_records (sought_of old))
+AreFew old _ words = Unit {0}
+
+-- The call did so, and what is looked for is the same. A fault that was met is told again, and by each later call: no range is found.
 pub record FeedsSession (old : Session) (piece : List ℕ) (outcome : Outcome) (new : Session) : Type 0 where
   pub fed : IsFed old piece outcome new
+  pub again : (f : TextFault) → HasMet old f → TellsAgain f outcome × HasMet new f × (waiting new.queue ≡ waiting old.queue)
+  pub met : MeetsFault outcome new
   pub same : sought_of new ≡ sought_of old
 
 pub record FinishesSession (old : Session) (outcome : Outcome) (new : Session) : Type 0 where
   pub finished : IsFinished old outcome new
+  pub again : (f : TextFault) → HasMet old f → TellsAgain f outcome × (waiting new.queue ≡ waiting old.queue)
   pub same : sought_of new ≡ sought_of old
 
 pub record StopsSession (old : Session) (outcome : Outcome) (new : Session) : Type 0 where
   pub stopped : IsStopped old outcome new
   pub same : sought_of new ≡ sought_of old
 
+-- The words are few, whatever the search was fed.
 pub record SavesSession (old : Session) (outcome : Outcome) (words : List ℕ) (new : Session) : Type 0 where
   pub saved : IsSaved old outcome words new
+  pub few : AreFew old outcome words
   pub same : sought_of new ≡ sought_of old
 
 -- A part of a piece, before which so many bytes of the piece were taken: a refusal leaves all as it was.
@@ -104,8 +134,16 @@ IsPartFed old part before (Partly n) new = (n ≡ before) × KeepsFed old new
 IsPartFed old part before (State f) new = HadNoText old f.kind new
 IsPartFed old part before _ new = ⊥
 
+-- the same of a part: where memory was refused, what stood before it was taken
+abbrev pub IsToldAgain : TextFault → ℕ → Outcome → Type 0
+IsToldAgain f before (Text g) = g ≡ f
+IsToldAgain f before (Partly n) = n ≡ before
+IsToldAgain f before _ = ⊥
+
 pub record FeedsPart (old : Session) (part : List ℕ) (before : ℕ) (outcome : Outcome) (new : Session) : Type 0 where
   pub fed : IsPartFed old part before outcome new
+  pub again : (f : TextFault) → HasMet old f → IsToldAgain f before outcome × HasMet new f × (waiting new.queue ≡ waiting old.queue)
+  pub met : MeetsFault outcome new
   pub same : sought_of new ≡ sought_of old
 
 -- The search goes on from the words: it has done what any search had done of which they were saved.
@@ -136,4 +174,61 @@ IsFirstIn old text from range _ new = ⊥
 
 pub record FirstInSession (old : Session) (text : List ℕ) (from : ℕ) (range : Option (ℕ × ℕ)) (outcome : Outcome) (new : Session) : Type 0 where
   pub first : IsFirstIn old text from range outcome new
+  pub same : sought_of new ≡ sought_of old
+
+-- ---- all ranges of a text
+
+-- The text was ended, and the ranges wait; the search is at the beginning of another text.
+abbrev pub IsEnded : Session → Outcome → Session → Type 0
+IsEnded old Good new = IsAnswered old [] None new
+IsEnded old (Text f) new = IsAnswered old [] (Some f) new
+IsEnded old NoMemory new = Unit {0}
+IsEnded old _ new = ⊥
+
+pub record EndsSession (old : Session) (outcome : Outcome) (new : Session) : Type 0 where
+  pub ended : IsEnded old outcome new
+  pub going : IsSome new.parked
+  pub same : sought_of new ≡ sought_of old
+
+-- the ranges that wait are those of the answer to a text, with this fault
+abbrev pub AreFound : Session → List ℕ → Option TextFault → Session → Type 0
+AreFound old text fault new = IsSome new.parked × ((p : List ℕ) → IsCompiledFrom (sought_of old) p
+    → answer_to (sought_of old) p text ≡ record { ranges = waiting new.queue; fault = fault })
+
+-- A text was searched from its beginning to its end. No text brings about a search that has no room for a range.
+abbrev pub IsSearched : Session → List ℕ → Outcome → Session → Type 0
+IsSearched old text Good new = AreFound old text None new
+IsSearched old text (Text f) new = AreFound old text (Some f) new
+IsSearched old text NoMemory new = IsSome new.parked
+IsSearched old text (State f) new = (f.kind ≡ 51) × (new.parked ≡ None) × ((p : List ℕ) → IsCompiledFrom (sought_of old) p → ⊥)
+IsSearched old text _ new = ⊥
+
+pub record SearchesText (old : Session) (text : List ℕ) (outcome : Outcome) (new : Session) : Type 0 where
+  pub searched : IsSearched old text outcome new
+  pub same : sought_of new ≡ sought_of old
+
+-- these are the ranges and the fault of an answer
+abbrev pub IsListed : Answer → Option TextFault → ℕ → List Range → Type 0
+IsListed answer fault count out = answer ≡ record { ranges = pairs (take count out); fault = fault }
+
+-- there are so many ranges, and the first of them fill the buffer
+abbrev pub FillsWith : Answer → ℕ → List Range → Type 0
+FillsWith answer count out = (length answer.ranges ≡ count) × (pairs out ≡ take (length out) answer.ranges)
+
+-- All ranges of a text, and its fault. Where there are more than the buffer has room for, it has the first of them, and in place of a
+-- fault is told how many there are.
+abbrev pub AreAllIn : Session → List ℕ → List Range → ℕ → Outcome → Session → Type 0
+AreAllIn old text out count Good new = HasBegunAgain new × (count ≤ length out)
+    × ((p : List ℕ) → IsCompiledFrom (sought_of old) p → IsListed (answer_to (sought_of old) p text) None count out)
+AreAllIn old text out count (Text f) new = HasBegunAgain new × (count ≤ length out)
+    × ((p : List ℕ) → IsCompiledFrom (sought_of old) p → IsListed (answer_to (sought_of old) p text) (Some f) count out)
+AreAllIn old text out count (Short n) new = HasBegunAgain new × (n ≡ count) × (length out < count)
+    × ((p : List ℕ) → IsCompiledFrom (sought_of old) p → FillsWith (answer_to (sought_of old) p text) count out)
+AreAllIn old text out count NoMemory new = HasBegunAgain new × (count ≡ 0)
+AreAllIn old text out count (State f) new = (count ≡ 0) × (f.kind ≡ 51) × (new.parked ≡ None) × ((p : List ℕ) → IsCompiledFrom (sought_of old) p → ⊥)
+AreAllIn old text out count Ended new = (count ≡ 0) × HadEnded old new
+AreAllIn old text out count _ new = ⊥
+
+pub record AllInSession (old : Session) (text : List ℕ) (out : List Range) (count : ℕ) (outcome : Outcome) (new : Session) : Type 0 where
+  pub all : AreAllIn old text out count outcome new
   pub same : sought_of new ≡ sought_of old

@@ -1,10 +1,11 @@
 //! What C calls. `colfind.h` says of each call what it gives, who owns what, and what C must uphold.
 
-ghost use Rattle.std.specs.Prelude.{◌≡◌, length, None, Some};
+ghost use Rattle.std.specs.Prelude.{◌≡◌, ℕ, Option, length, None, Some, IfSome, IfNone};
 ghost use Rattle.std.specs.Arc.{arc_value};
-ghost use Rattle.colfind_c.specs.Exports.{Says, OfTable, OfPattern, OfSearch, MakesTable, MakesPattern, StartsSearch, GoesOnFrom, AnswersFirst, AnswersFirstFrom, TakesOldest, SavesInto, SharesTable, SharesQuery, IsGiven, GivesTable, GivesPattern, IsCompiled, strength_for, variable_for, select_for, pending, first_of};
+ghost use Rattle.std.specs.Str.{IsUtf8};
+ghost use Rattle.colfind_c.specs.Exports.{Says, OfTable, OfPattern, OfSearch, MakesTable, MakesPattern, StartsSearch, GoesOnFrom, AnswersFirst, AnswersFirstFrom, TakesOldest, SavesInto, SharesTable, SharesQuery, SharesOwned, SharesInto, IsGiven, GivesTable, GivesPattern, IsCompiled, strength_for, variable_for, select_for, pending, first_of, number_of};
 ghost use Rattle.colfind_c.specs.Messages.{as_text, message};
-ghost use Rattle.colfind_c.specs.Sessions.{FeedsSession, FinishesSession, StopsSession, FirstInSession};
+ghost use Rattle.colfind_c.specs.Sessions.{FeedsSession, FinishesSession, StopsSession, FirstInSession, AllInSession};
 ghost use Rattle.colfind_c.specs.Statuses.{status_of};
 
 use crate::handle::{Handle, put, take};
@@ -18,6 +19,7 @@ use collation_search::{Select, index, index_from};
 use collation_table::Table;
 use std::alloc::Global;
 use std::sync::Arc;
+use utf8_cut::front;
 
 /// Gives a handle a value.
 fn give(alloc: Global, out: &mut Handle, owned: Owned) -> Outcome
@@ -126,6 +128,17 @@ fn query_in(owned: &Owned) -> Result<Arc<Query>, Outcome>
     }
 }
 
+/// Bytes as text, if they are UTF-8 as a whole.
+fn text_of(bytes: &[u8]) -> Option<&str>
+    ensures some { IfSome result (λ text. text.now ≡ bytes.now) }
+    ensures none { IfNone result (¬ (IsUtf8 bytes.now)) }
+{
+    match front(bytes) {
+        (text, None) => Some(text),
+        (_, Some(_)) => None,
+    }
+}
+
 /// Compiles a pattern.
 fn compile(
     alloc: Global,
@@ -139,7 +152,7 @@ fn compile(
     let (Some(strength), Some(variable)) = (strength_of(strength), variable_of(variable)) else {
         return Err(Outcome::BadArgument);
     };
-    let Ok(text) = std::str::from_utf8(text) else {
+    let Some(text) = text_of(text) else {
         return Err(Outcome::BadArgument);
     };
     match Pattern::compile(alloc, &*table, text, strength, variable) {
@@ -209,6 +222,58 @@ pub extern "C" fn colfind_pattern(
 {
     match table_of(alloc, table) {
         Ok(shared) => make_pattern(alloc, shared, out, text, strength, variable).status(),
+        Err(outcome) => outcome.status(),
+    }
+}
+
+/// A value that threads may share, as the compiler sees by its type.
+fn for_threads<T: Send + Sync>(value: T) -> T
+    ensures { result ≡ value }
+{
+    value
+}
+
+/// The table or the pattern that a handle holds, once more.
+fn share_in(owned: &Owned) -> Result<Owned, Outcome>
+    ensures shared { SharesOwned (Some owned.now) result }
+{
+    match owned {
+        Owned::Table(table) => match Arc::try_clone(table) {
+            Ok(shared) => Ok(Owned::Table(for_threads(shared))),
+            Err(_) => Err(Outcome::NoMemory),
+        },
+        Owned::Pattern(query) => match Arc::try_clone(query) {
+            Ok(shared) => Ok(Owned::Pattern(for_threads(shared))),
+            Err(_) => Err(Outcome::NoMemory),
+        },
+        Owned::Search(_) => Err(Outcome::WrongHandle),
+    }
+}
+
+/// The same of a handle.
+fn share_of(alloc: Global, handle: &mut Handle) -> Result<Owned, Outcome>
+    ensures shared { SharesOwned handle.old.value result }
+    ensures same { handle.new.value ≡ handle.old.value }
+{
+    match take(alloc, handle) {
+        Some(owned) => {
+            let shared = share_in(&*owned);
+            put(alloc, handle, owned);
+            shared
+        }
+        None => Err(Outcome::WrongHandle),
+    }
+}
+
+/// A second handle for a table or a pattern, which may be used in another thread than the first.
+#[unsafe(no_mangle)]
+pub extern "C" fn colfind_share(alloc: Global, handle: &mut Handle, out: &mut Handle) -> Status
+    ensures shared { Says result
+        (λ outcome. SharesInto handle.old.value outcome out.old.value out.new.value) }
+    ensures same { handle.new.value ≡ handle.old.value }
+{
+    match share_of(alloc, handle) {
+        Ok(owned) => give(alloc, out, owned).status(),
         Err(outcome) => outcome.status(),
     }
 }
@@ -618,6 +683,83 @@ pub extern "C" fn colfind_first_in(
             first_with(outcome, found)
         }
         None => first_with(Outcome::WrongHandle, None),
+    }
+}
+
+/// One number for whether there is a range: 1 or 0, or that of the fault before it.
+fn number_for(outcome: Outcome, found: Option<(u64, u64)>) -> u32
+    ensures { result ≡ number_of found outcome }
+{
+    match found {
+        Some(_) => 1,
+        None => outcome.status().kind,
+    }
+}
+
+/// Whether a text in memory has a range, by a search that was made before: 1 or 0, or the number of the fault before it.
+#[unsafe(no_mangle)]
+pub extern "C" fn colfind_has(alloc: Global, search: &mut Handle, text: &[u8]) -> u32
+    ensures has { (range : Option (ℕ × ℕ)) × (outcome : Outcome)
+        × (result ≡ number_of range outcome)
+        × OfSearch (λ old how new. FirstInSession old text.now 0 range how new)
+        search.old.value outcome search.new.value }
+{
+    match take(alloc, search) {
+        Some(mut owned) => {
+            let (outcome, found) = first_owned(&mut *owned, text, 0);
+            put(alloc, search, owned);
+            number_for(outcome, found)
+        }
+        None => Outcome::WrongHandle.status().kind,
+    }
+}
+
+/// What became of a call for all ranges of a text.
+#[repr(C)]
+#[derive(Clone, Copy)]
+pub struct AllIn {
+    pub status: Status,
+    /// How many ranges the text has.
+    pub count: usize,
+}
+
+/// All ranges of a text for what a handle holds.
+fn all_owned(owned: &mut Owned, text: &[u8], out: &mut [Range]) -> (Outcome, usize)
+    ensures all { OfSearch (λ old how new. AllInSession old text.now out.new result.1 how new)
+        (Some owned.old) result.0 (Some owned.new) }
+    ensures len { length out.new ≡ length out.old }
+{
+    match owned {
+        Owned::Search(session) => session.all_in(text, out),
+        _ => (Outcome::WrongHandle, 0),
+    }
+}
+
+/// All ranges of a text in memory, by a search that was made before.
+#[unsafe(no_mangle)]
+pub extern "C" fn colfind_all_in(
+    alloc: Global,
+    search: &mut Handle,
+    text: &[u8],
+    out: &mut [Range],
+) -> AllIn
+    ensures all { Says result.status (λ outcome. OfSearch
+        (λ old how new. AllInSession old text.now out.new result.count how new)
+        search.old.value outcome search.new.value) }
+{
+    match take(alloc, search) {
+        Some(mut owned) => {
+            let (outcome, count) = all_owned(&mut *owned, text, out);
+            put(alloc, search, owned);
+            AllIn {
+                status: outcome.status(),
+                count,
+            }
+        }
+        None => AllIn {
+            status: Outcome::WrongHandle.status(),
+            count: 0,
+        },
     }
 }
 

@@ -28,9 +28,12 @@ fn table_words_of(kind: u32) -> &'static str
         6 => "a weight of an accent or of a third level is not above those of the levels before",
         7 => "an element is marked variable, and its first weight is zero",
         8 => "a weight between two variable ones is not variable",
-        9 => "a string that ends in a combining mark has a row, and without the mark it has none",
-        10 => "first weights from FB00 on are not in pairs",
-        11 => "a range of implicit weights has a wrong end or base, or overlaps an earlier one",
+        9 =>
+            "a string of three or more code points ends in a combining mark, and without the mark it has no row",
+        10 =>
+            "a lead without a follower, a follower without a lead, or a variable first weight of FB00 or more",
+        11 =>
+            "a range of implicit weights has a wrong end or base, is too wide, or overlaps an earlier one",
         12 => "the table has no row",
         13 => "more than 1,048,576 rows or 256 ranges",
         _ => "a request for memory was refused while the table was read",

@@ -5,6 +5,7 @@ ghost use Rattle.collation_matches.specs.Sought.{IsCompiledFrom, answer_to, seek
 ghost use Rattle.collation_matches.specs.GoodPrefix.{whole};
 ghost use Rattle.collation_walk.specs.declared.matching.TheConstants.{MOST_FOUND};
 ghost use Rattle.collation_search.specs.Feeding.{Feeds};
+ghost use Rattle.collation_search.specs.Saving.{HasRecords, most_records};
 ghost use Rattle.collation_search.specs.Parking.{IsFor, HasParked, parked_select, parked_words};
 ghost use Rattle.colfind_c.specs.Parkings.{FeedsParked, FinishesParked, IsFirstFrom, GoesOn};
 ghost use Rattle.colfind_c.specs.Queues.{Gets};
@@ -125,6 +126,44 @@ pub(crate) fn finish_parked<W: Weights>(
     ended
 }
 
+/// Goes back to the beginning of a text with a search that was put away.
+pub(crate) fn begin_parked<W: Weights>(table: &W, pattern: &Pattern, parked: Parked) -> Parked
+    requires fits { IsFor (W.table table.now) pattern.now parked }
+    ensures fits { IsFor (W.table table.now) pattern.now result }
+    ensures select { parked_select result ≡ parked_select parked }
+    ensures stands { HasParked
+        (seeking (W.table table.now) pattern.now (parked_select parked)) result [] [] }
+{
+    let mut search = parked.unpark(table, pattern);
+    search.begin_again();
+    search.park()
+}
+
+/// Ends the text of a search that was put away, which is then at the beginning of another one, and puts the rest of the ranges into the
+/// queue. `found` is room that it uses.
+pub(crate) fn end_parked<W: Weights>(
+    table: &W,
+    pattern: &Pattern,
+    parked: Parked,
+    found: &mut Found,
+    queue: &mut Queue,
+) -> (Result<(), TextFault>, Parked)
+    requires fits { IsFor (W.table table.now) pattern.now parked }
+    ensures fits { IsFor (W.table table.now) pattern.now result.1 }
+    ensures select { parked_select result.1 ≡ parked_select parked }
+    ensures finished { (ranges : List (ℕ × ℕ))
+        × FinishesParked
+        (seeking (W.table table.now) pattern.now (parked_select parked)) parked result.0 ranges
+        × Gets queue.old ranges queue.new × (length ranges ≤ MOST_FOUND) }
+    ensures stands { HasParked
+        (seeking (W.table table.now) pattern.now (parked_select parked)) result.1 [] [] }
+{
+    let mut search = parked.unpark(table, pattern);
+    let ended = search.finish_text(found);
+    queue.put_all(found.as_slice());
+    (ended, search.park())
+}
+
 /// Gives the text of a search up that was put away, and puts the rest of the settled ranges into the queue.
 pub(crate) fn stop_parked<W: Weights>(
     table: &W,
@@ -163,6 +202,9 @@ pub(crate) fn save_parked<W: Weights>(
         (words.new.items
         ≡ words.old.items ++ parked_words
         (seeking (W.table table.now) pattern.now (parked_select parked)) parked) }
+    ensures few { HasRecords
+        (parked_words (seeking (W.table table.now) pattern.now (parked_select parked)) parked)
+        (most_records (seeking (W.table table.now) pattern.now (parked_select parked))) }
     ensures kept { (u : List ℕ) (handed : List (ℕ × ℕ))
         → HasParked (seeking (W.table table.now) pattern.now (parked_select parked)) parked u handed
         → HasParked (seeking (W.table table.now) pattern.now (parked_select parked)) result.1 u handed }

@@ -2,7 +2,9 @@
 
 use crate::outcome::Outcome;
 use crate::owned::{Query, Session};
-use crate::parked::{feed_parked, finish_parked, first_parked, save_parked, stop_parked};
+use crate::parked::{
+    begin_parked, end_parked, feed_parked, finish_parked, first_parked, save_parked, stop_parked,
+};
 use crate::queue::{Queue, Range};
 use collation_search::{Found, MOST_FOUND, Search, Select, StateFault};
 use std::alloc::{AllocError, Global};
@@ -23,12 +25,14 @@ fn empty_room(alloc: Global) -> Result<Box<Found>, AllocError> {
 }
 
 impl Session {
-    ghost use Rattle.std.specs.Prelude.{◌≡◌, ◌≤◌, [], length, IfOk, IfErr, IsSome};
+    ghost use Rattle.std.specs.Prelude.{◌≡◌, ◌≤◌, ◌<◌, [], length, take, IfOk, IfErr, IsSome};
     ghost use Rattle.std.specs.Arc.{arc_value};
     ghost use Rattle.collation_search.specs.State.{sizes_of};
     ghost use Rattle.collation_search.specs.Resuming.{IsRefused};
+    ghost use Rattle.colfind_c.specs.declared.outcome.Outcome.TheVariants.{Short};
     ghost use Rattle.colfind_c.specs.Queries.{sought_with};
-    ghost use Rattle.colfind_c.specs.Sessions.{sought_of, HasFed, FeedsSession, FeedsPart, FinishesSession, StopsSession, FirstInSession, ResumesSession, SavesSession, TakesRanges};
+    ghost use Rattle.colfind_c.specs.Queues.{pairs, waiting};
+    ghost use Rattle.colfind_c.specs.Sessions.{sought_of, HasBegunAgain, HasFed, FeedsSession, FeedsPart, FinishesSession, StopsSession, EndsSession, SearchesText, AllInSession, FirstInSession, ResumesSession, SavesSession, TakesRanges};
 
     /// A search at the beginning of a text.
     ///
@@ -167,6 +171,103 @@ impl Session {
         match first {
             Ok(found) => (Outcome::Good, found),
             Err(fault) => (Outcome::Text(fault), None),
+        }
+    }
+
+    /// Gives the text up, with the ranges that wait, and goes back to the beginning of another one.
+    fn begin_again(&mut self)
+        requires open { IsSome self.old.parked }
+        ensures begun { HasBegunAgain self.new }
+        ensures same { sought_of self.new ≡ sought_of self.old }
+    {
+        let Some(parked) = replace(&mut self.parked, None) else {
+            unreachable!()
+        };
+        self.queue.clear();
+        let query = &*self.query;
+        self.parked = Some(begin_parked(&*query.table, &query.pattern, parked));
+    }
+
+    /// Ends the text. Its ranges wait, and the search is at the beginning of another one.
+    fn end_text(&mut self) -> Outcome
+        requires open { IsSome self.old.parked }
+        ensures ended { EndsSession self.old result self.new }
+    {
+        if self.queue.reserve(MOST_FOUND).is_err() {
+            return Outcome::NoMemory;
+        }
+        let Some(parked) = replace(&mut self.parked, None) else {
+            unreachable!()
+        };
+        let query = &*self.query;
+        let (ended, parked) = end_parked(
+            &*query.table,
+            &query.pattern,
+            parked,
+            &mut *self.found,
+            &mut self.queue,
+        );
+        self.parked = Some(parked);
+        match ended {
+            Ok(()) => Outcome::Good,
+            Err(fault) => Outcome::Text(fault),
+        }
+    }
+
+    /// Searches a text from its beginning to its end. Its ranges wait.
+    fn search_text(&mut self, text: &[u8]) -> Outcome
+        requires begun { HasBegunAgain self.old }
+        ensures searched { SearchesText self.old text.now result self.new }
+    {
+        match self.feed(text) {
+            Outcome::Good => self.end_text(),
+            Outcome::Partly(_) => Outcome::NoMemory,
+            failed => failed,
+        }
+    }
+
+    /// All ranges of a text, as many as have room, how many there are, and how the call has ended. What was fed before is given up, with
+    /// the ranges that wait, and the search is at the beginning of a text.
+    pub(crate) fn all_in(&mut self, text: &[u8], out: &mut [Range]) -> (Outcome, usize)
+        ensures all { AllInSession self.old text.now out.new result.1 result.0 self.new }
+        ensures len { length out.new ≡ length out.old }
+    {
+        if self.parked.is_none() {
+            return (Outcome::Ended, 0);
+        }
+        self.begin_again();
+        match self.search_text(text) {
+            Outcome::Good => self.hand_over(out, Outcome::Good),
+            Outcome::Text(fault) => self.hand_over(out, Outcome::Text(fault)),
+            Outcome::NoMemory => {
+                self.begin_again();
+                (Outcome::NoMemory, 0)
+            }
+            failed => (failed, 0),
+        }
+    }
+
+    /// Gives the ranges that wait, as many as have room, and goes back to the beginning of a text: how many there are, and what is told of
+    /// them, which is that they are too many where they are.
+    fn hand_over(&mut self, out: &mut [Range], outcome: Outcome) -> (Outcome, usize)
+        requires open { IsSome self.old.parked }
+        ensures begun { HasBegunAgain self.new }
+        ensures same { sought_of self.new ≡ sought_of self.old }
+        ensures count { result.1 ≡ length (waiting self.old.queue) }
+        ensures all { result.1 ≤ length out.old
+            → (result.0 ≡ outcome) × (pairs (take result.1 out.new) ≡ waiting self.old.queue) }
+        ensures some { length out.old < result.1
+            → (result.0 ≡ Short result.1)
+            × (pairs out.new ≡ take (length out.old) (waiting self.old.queue)) }
+        ensures len { length out.new ≡ length out.old }
+    {
+        let count = self.queue.len();
+        self.queue.take(out);
+        self.begin_again();
+        if count > out.len() {
+            (Outcome::Short(count as u64), count)
+        } else {
+            (outcome, count)
         }
     }
 

@@ -1,7 +1,8 @@
 //! The reader and the writer that the program asks for bytes, and the files that it opens: a
 //! contract sees the bytes that each has left or holds, where they are observable, and how often
 //! it has failed.
-ghost use Rattle.std.specs.Prelude.{◌≡◌, ◌+◌, ◌^◌, ◌<◌, ◌≤◌, ℕ, List, Option, length, not, is_ok, IfOk, OnOk, Bool, true, false};
+ghost use Rattle.std.specs.Prelude.{◌≡◌, ◌+◌, ◌^◌, ◌<◌, ◌≤◌, ℕ, List, Option, Result, length, not, is_ok, IfOk, OnOk, Bool, true, false};
+ghost use Rattle.colfind_io.specs.declared.devices.DeviceFault.{DeviceFault};
 ghost use Rattle.colfind_io.specs.Devices.{after_piece, with_piece, moved, takes_nothing, one_if, EndsOnlyAtEnd};
 
 /// A reader or a writer has failed.
@@ -65,9 +66,14 @@ pub trait Folder {
     /// Whether no file can be opened at a path, where that is observable.
     ghost is_missing: { Self → List ℕ → Bool };
 
+    /// The answers that `open` may give at a path. Code over any folder knows of one only where
+    /// `open` gave it.
+    ghost open_gives: { Self → List ℕ → Result Self.File DeviceFault → Type 0 };
+
     /// Opens the file at `path`.
     fn open(&self, path: &str) -> Result<Self::File, DeviceFault>
         ensures bytes { IfOk result (λ file. Self.File.left file ≡ bytes_at self.now path.now) }
         ensures missing { is_missing self.now path.now ≡ true → is_ok result ≡ false }
-        ensures sound { IfOk result (λ file. Self.File.failures file ≡ 0) };
+        ensures sound { IfOk result (λ file. Self.File.failures file ≡ 0) }
+        ensures gives { open_gives self.now path.now result };
 }

@@ -1,6 +1,7 @@
 //! Reading all that a reader has, as of a file.
-ghost use Rattle.std.specs.Prelude.{◌≡◌, ◌≢◌, ◌↔◌, ◌+◌, ◌^◌, ◌<◌, OnOk, IfOk, IfSome, []};
+ghost use Rattle.std.specs.Prelude.{◌≡◌, ◌≢◌, ◌↔◌, ◌+◌, ◌^◌, ◌<◌, ℕ, List, OnOk, IfOk, IfSome, []};
 ghost use Rattle.colfind_io.specs.Devices.{after_piece};
+ghost use Rattle.colfind_io.specs.Reading.{FailsBehind};
 
 use crate::devices::Source;
 use crate::reading::{Reading, read_piece};
@@ -23,6 +24,8 @@ pub fn read_all<R: Source>(alloc: Global, reader: &mut R) -> Result<Vec<u8>, Fil
     ensures end { OnOk result (IfSome (R.left reader.new) (λ rest. rest ≡ [])) }
     ensures fault { (result ≡ Err FileFault.Device)
         ↔ (R.failures reader.new ≡ R.failures reader.old + 1) }
+    ensures failed { result ≡ Err FileFault.Device → (piece : List ℕ) × FailsBehind piece
+        (R.left reader.old) (R.left reader.new) (R.failures reader.old) (R.failures reader.new) }
     ensures sound { result ≢ Err FileFault.Device → R.failures reader.new ≡ R.failures reader.old }
 {
     let mut bytes = Vec::new(alloc);

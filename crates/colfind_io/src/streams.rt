@@ -105,7 +105,7 @@ impl<W: Write> Target for ToWrite<W> {
     }
 }
 
-/// The files of the machine. Their bytes are not observable, nor is which there are.
+/// The files of the machine. Their bytes are not observable, nor is which there are, nor when one can't be opened.
 #[derive(Clone, Copy)]
 pub struct SystemFiles<'a, F> {
     files: &'a F,
@@ -124,6 +124,8 @@ impl<'a, F: Files> Folder for SystemFiles<'a, F> {
     ghost bytes_at = { λ _ _. None };
 
     ghost is_missing = { λ _ _. false };
+
+    ghost open_gives = { λ _ _ _. Unit {0} };
 
     fn open(&self, path: &str) -> Result<FromRead<F::File>, DeviceFault> {
         match fs::open(self.files, path) {

@@ -1,3 +1,4 @@
+pub mod Causes
 pub mod Command
 pub mod Faults
 pub mod Finding

@@ -2,6 +2,7 @@
 //! input, to standard output.
 ghost use Rattle.std.specs.Prelude.{◌≡◌, ◌<◌, ◌≤◌, ◌^◌, ℕ, List, map, IfOk, IfErr, OnOk, is_some, true, false};
 ghost use Rattle.colfind_run.specs.declared.faults.Stop.{Stop};
+ghost use Rattle.colfind_run.specs.Causes.{IsCaused, HasCause, IsUnread};
 ghost use Rattle.colfind_run.specs.Faults.{fault_of, ReportsLine, ReportsSomeFault};
 ghost use Rattle.colfind_run.specs.Patterns.{IsCompiledWith};
 ghost use Rattle.colfind_run.specs.Searching.{FindsSelected, FindsAsked, IsTableOf, IfAt, left_of, left_after, no_files, status_of};
@@ -91,6 +92,9 @@ pub fn count_matches<'a, D: Folder, R: Source, O: Target>(
         (map (λ word. word.now) words.entry.now) (input.new ≡ input.old) stop
         (seen (R.left input.old) (R.failures input.old) (O.held out.old) (O.failures out.old))
         (seen (R.left input.new) (R.failures input.new) (O.held out.new) (O.failures out.new))) }
+    // A fault of a file comes only where `open` answered so at its path, or a read of the file failed.
+    ensures cause { IfErr result (IsCaused (D.open_gives folder.now) D.File.left D.File.failures
+        (map (λ word. word.now) words.entry.now)) }
     ensures unasked { IfErr result (λ stop. is_before_text stop ≡ true
         → (input.new ≡ input.old) × (out.new ≡ out.old)) }
 {
@@ -123,6 +127,8 @@ fn search<D: Folder, W: Weights, R: Source, O: Target>(
         StopsSearch (D.bytes_at folder.now) (W.table table.now) asked.now stop
         (seen (R.left input.old) (R.failures input.old) (O.held out.old) (O.failures out.old))
         (seen (R.left input.new) (R.failures input.new) (O.held out.new) (O.failures out.new))) }
+    ensures cause { IfErr result
+        (HasCause (D.open_gives folder.now) D.File.left D.File.failures asked.now) }
     ensures unasked { IfErr result (λ stop. is_before_text stop ≡ true
         → (input.new ≡ input.old) × (out.new ≡ out.old)) }
     ensures file { is_some asked.now.text ≡ true → input.new ≡ input.old }
@@ -195,6 +201,8 @@ fn read_table<D: Folder>(folder: &D, alloc: Global, asked: &Settings) -> Result<
     ensures table { IfOk result (λ table.
         IsTableOf (D.bytes_at folder.now) asked.now (⟦<Table as Weights>⟧.table table)) }
     ensures fault { IfErr result (StopsAtTable (D.bytes_at folder.now) asked.now) }
+    ensures cause { IfErr result
+        (HasCause (D.open_gives folder.now) D.File.left D.File.failures asked.now) }
     ensures missing { D.is_missing folder.now asked.now.table.now ≡ true
         → result ≡ Err (Stop.File FileFault.Device) }
 {
@@ -216,6 +224,8 @@ fn read_tailored<D: Folder>(
         × IfAt (D.bytes_at folder.now path.now) tailor
         × (⟦<Table as Weights>⟧.table table ≡ tailored_map base.now tailor)) }
     ensures fault { IfErr result (StopsAtTailor (D.bytes_at folder.now path.now) base.now) }
+    ensures cause { result ≡ Err (Stop.Tailor FileFault.Device)
+        → IsUnread (D.open_gives folder.now) D.File.left D.File.failures path.now }
     ensures missing { D.is_missing folder.now path.now ≡ true
         → result ≡ Err (Stop.Tailor FileFault.Device) }
 {
@@ -228,6 +238,8 @@ fn read_tailored<D: Folder>(
 /// The bytes of the file at `path`.
 fn read_file<D: Folder>(folder: &D, alloc: Global, path: &str) -> Result<Vec<u8>, FileFault>
     ensures bytes { IfOk result (λ bytes. IfAt (D.bytes_at folder.now path.now) bytes.items) }
+    ensures cause { result ≡ Err FileFault.Device
+        → IsUnread (D.open_gives folder.now) D.File.left D.File.failures path.now }
     ensures missing { D.is_missing folder.now path.now ≡ true → result ≡ Err FileFault.Device }
 {
     let Ok(mut file) = folder.open(path) else {

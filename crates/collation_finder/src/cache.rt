@@ -18,19 +18,26 @@ const MUCH: usize = 24;
 /// The most keys of a pattern for which letters are found from the first piece on.
 const MOST_KEYS: usize = 1_024;
 
-/// How many bytes go by steps first where the pattern has more keys: only a longer text gives back what finding its letters, and what
+/// The most bytes that go by steps first where the pattern has more keys: only a longer text gives back what finding its letters, and what
 /// passes it by, costs.
 const BY_STEPS: usize = 32_768;
+
+/// How many characters these are at most, unless most of them are of scripts that have thousands: of an alphabet few letters are found, and
+/// each serves often.
+const OF_AN_ALPHABET: usize = 1_536;
+
+/// How many bytes of a piece tell what its characters are.
+const FRONT: usize = 512;
 
 /// What a search has found out of the characters that it met, for its table and its pattern.
 #[derive(Drop)]
 pub struct Cache {
     pub letters: Letters,
-    pub skip: Skip,
+    pub(crate) skip: Skip,
     /// How many bytes are walked over each time before text is passed by: few or none where that was worth it, more where it was not.
-    pub hold: usize,
+    pub(crate) hold: usize,
     /// How many bytes are still walked over before then, counted from the front of what is taken by letters next.
-    pub due: usize,
+    pub(crate) due: usize,
     /// How many bytes more go by steps alone, as long as no piece has more: for one short text letters cost more than the steps that they
     /// save.
     pub by_steps: usize,
@@ -92,6 +99,21 @@ impl Cache {
         self.skip.prepare(len);
     }
 
+    /// Whether a piece, whose bytes `by_steps` does not count any more, goes by steps alone: where most of its characters are of scripts
+    /// that have thousands, or where it and the pieces before it have few.
+    pub fn leaves_to_steps(&self, piece: &[u8]) -> bool {
+        if self.by_steps >= BY_STEPS {
+            return true;
+        }
+        let front = &piece[..piece.len().min(FRONT)];
+        let (all, of_thousands) = characters(front);
+        if of_thousands > all / 2 {
+            return true;
+        }
+        let gone = BY_STEPS.saturating_sub(self.by_steps);
+        gone.saturating_mul(all) <= OF_AN_ALPHABET.saturating_mul(front.len())
+    }
+
     /// Passes by text at the front of a piece, which stands at a byte offset, where no key waits. It ends at `reach` or before it.
     #[inline(never)]
     pub(crate) fn skip<W: Weights>(
@@ -140,6 +162,18 @@ impl Cache {
         self.hold = held_after(self.hold, passed.end, was_worth_it);
         Some(passed)
     }
+}
+
+/// How many characters a text has, if it is UTF-8, and how many of these are of scripts that have thousands, as Han and Hangul are.
+fn characters(text: &[u8]) -> (usize, usize) {
+    let mut all = 0usize;
+    let mut of_thousands = 0usize;
+    for byte in text {
+        all = all.wrapping_add(usize::from(*byte < 0x80 || *byte >= 0xC0));
+        let leads = (*byte >= 0xE4 && *byte <= 0xED) || *byte == 0xF0;
+        of_thousands = of_thousands.wrapping_add(usize::from(leads));
+    }
+    (all, of_thousands)
 }
 
 /// How many bytes are walked over before text is passed by again, where so many were before, and so many were passed by then: none where

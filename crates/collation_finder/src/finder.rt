@@ -31,7 +31,7 @@ pub struct Finder {
     /// The number of the pattern's keys.
     pub pattern_len: usize,
     /// What the reorderer gave last, and the items of the last unit. Their room is used again and again.
-    pub given: ArrayVec<Point, MOST_GIVEN>,
+    pub(crate) given: ArrayVec<Point, MOST_GIVEN>,
     /// It stands on the heap, so that a finder that is moved, as into the box of a search, does not carry it.
     pub items: Box<ArrayVec<Item, MOST_ITEMS>>,
     ghost capacity: { window.capacity ≡ longest_key + MOST_GIVEN },

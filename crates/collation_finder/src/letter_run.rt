@@ -13,6 +13,7 @@ ghost use Rattle.collation_finder.specs.LetterRun.{StandsInFront};
 use crate::cache::Cache;
 use crate::finder::Finder;
 use crate::letter_loop::{Front, Walked, walk_letters};
+use crate::short_piece::SHORT;
 use collation_elements::units_stay_apart;
 use collation_letters::{Letter, Letters, is_next, laws_of_characters};
 use collation_table::Weights;
@@ -266,8 +267,11 @@ impl Finder {
     {
         laws_of_characters();
         units_stay_apart();
-        if let Some(passed) = self.pass_short(query, cache, front) {
-            return self.take_short(query, cache, front, passed, found, sink);
+        // that is seen here, for most pieces are long, and a call costs more
+        if front.piece.len() <= SHORT {
+            if let Some(passed) = self.pass_short(query, cache, front) {
+                return self.take_short(query, cache, front, passed, found, sink);
+            }
         }
         let Some(first) = first_character(front.piece) else {
             return 0;

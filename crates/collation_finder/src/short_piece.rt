@@ -24,7 +24,7 @@ const ROOM: usize = 160;
 
 /// The most bytes of such a piece. A window between two pieces holds no more points than a table's
 /// longest string may have; within a piece it may hold more, and then there is no room.
-const SHORT: usize = ROOM - MOST_STRING_POINTS;
+pub(crate) const SHORT: usize = ROOM - MOST_STRING_POINTS;
 
 /// The fewest bytes that letters may be taken of in such a piece: fewer are sooner walked over.
 const FEWEST: usize = 24;
@@ -153,7 +153,7 @@ impl Finder {
         if front.reach < FEWEST || cache.due > 0 || !self.begins_with_ascii() {
             return None;
         }
-        if front.piece.len() > SHORT || !self.is_idle() {
+        if !self.is_idle() {
             return None;
         }
         let mut room = ArrayVec::new();

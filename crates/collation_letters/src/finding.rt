@@ -21,18 +21,7 @@ use collation_table::Weights;
 use nfd_points::laws::{laws_of_decompositions, laws_of_points};
 use nfd_points::{Point, points_of_character};
 
-/// The letter of a character. Its points go through the window, which is then as it was.
-pub fn letter_of<W: Weights>(table: &W, pattern: &Pattern, window: &mut Window, c: char) -> Letter
-    requires empty { window.old.points ≡ [] }
-    requires open { window.old.has_ended ≡ false }
-    requires room { MOST_DECOMPOSITION ≤ window.old.capacity }
-    ensures window { window.new ≡ window.old }
-    ensures letter { IsLetter (W.table table.now) pattern.now (c ∷ []) result }
-{
-    find_letter(table, pattern, Lengths::Short, window, c)
-}
-
-/// The letter of a character, where patterns of these lengths have symbols.
+/// The letter of a character, where patterns of these lengths have symbols. Its points go through the window, which is then as it was.
 pub(crate) fn find_letter<W: Weights>(
     table: &W,
     pattern: &Pattern,

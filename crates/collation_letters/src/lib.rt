@@ -4,9 +4,9 @@
 //! pattern are its symbols, numbered by where they stand in it; every other key is one more symbol, 0. A [`Letter`] says of a
 //! character, or of one with marks behind it, which symbols its keys are, whether it begins a cluster, whether a unit may reach
 //! into it or out of it, and what it does to variable weighting; or that nothing is known, and that it is left to the steps of the
-//! search. [`letter_of`] finds it, by the table's own calls, and [`letter_of_pair`] that of two characters which are one mapped
-//! string; [`Letters`] keeps those that were found; [`Letter::with_mark`] joins a mark to the letter before it. What a letter means
-//! stands in `specs/Letters.antt`. [`is_next`] says before which character the units of a letter end (`specs/Apart.antt`).
+//! search. [`Letters`] finds it, by the table's own calls, and that of two characters which are one mapped string, and keeps those that
+//! it found; [`Letter::with_mark`] joins a mark to the letter before it. What a letter means stands in `specs/Letters.antt`.
+//! [`is_next`] says before which character the units of a letter end (`specs/Apart.antt`).
 #![tactic(auto)]
 
 mod apart;
@@ -21,9 +21,7 @@ mod store;
 mod symbols;
 
 pub use crate::apart::is_next;
-pub use crate::finding::letter_of;
 pub use crate::laws::{laws_of_characters, laws_of_symbols};
 pub use crate::letter::{Letter, Role, UNKNOWN};
-pub use crate::pairs::letter_of_pair;
 pub use crate::store::Letters;
 pub use crate::symbols::{FIRST, FOREIGN, NO_SYMBOL, Symbols, advance, symbol_in, symbol_of};

@@ -14,25 +14,8 @@ use collation_pattern::Pattern;
 use collation_table::Weights;
 use nfd_points::{Point, points_of_character};
 
-/// The letter of two characters, where they are a mapped string with which no longer one begins. Their points go through the window,
-/// which is then as it was.
-pub fn letter_of_pair<W: Weights>(
-    table: &W,
-    pattern: &Pattern,
-    window: &mut Window,
-    first: char,
-    second: char,
-) -> Letter
-    requires empty { window.old.points ≡ [] }
-    requires open { window.old.has_ended ≡ false }
-    requires room { MOST_DECOMPOSITION ≤ window.old.capacity }
-    ensures window { window.new ≡ window.old }
-    ensures letter { IsLetter (W.table table.now) pattern.now (first ∷ second ∷ []) result }
-{
-    find_letter_of_pair(table, pattern, Lengths::Short, window, first, second)
-}
-
-/// The letter of two characters, where patterns of these lengths have symbols.
+/// The letter of two characters, where they are a mapped string with which no longer one begins, and patterns of these lengths have
+/// symbols. Their points go through the window, which is then as it was.
 pub(crate) fn find_letter_of_pair<W: Weights>(
     table: &W,
     pattern: &Pattern,

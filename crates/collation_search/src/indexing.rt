@@ -232,7 +232,7 @@ impl<'a, W: Weights> Search<'a, W> {
     }
 }
 
-/// How many bytes of a text go by steps alone, as far as its bytes say: all of a short one with many different bytes.
+/// How many bytes of a text go by steps alone, as far as its bytes say: any number of a short one with many different bytes.
 fn bytes_by_steps(text: &[u8]) -> usize {
     if text.len() > SHORT_TEXT {
         return 0;
@@ -242,7 +242,7 @@ fn bytes_by_steps(text: &[u8]) -> usize {
     if count > ascii.saturating_add(others).saturating_mul(FOR_EACH) {
         return 0;
     }
-    text.len()
+    usize::MAX
 }
 
 /// How many bytes of a text are walked over before any are passed by, as far as its length and its front say: all or none.

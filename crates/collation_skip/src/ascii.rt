@@ -1,5 +1,5 @@
-//! The blocks of ASCII of a search: a place of the pattern is chosen for them by the first long text that comes, or where as much
-//! came in short ones. For one short text alone none is.
+//! The blocks of ASCII of a search: a place of the pattern is chosen for them by the first long text that comes, and before that by a
+//! short one, once as much came in short ones. For one text alone no short one chooses, and none at all where it is short itself.
 use crate::blocks::pass_blocks;
 use crate::classes::{Classes, SAMPLE, classes_for};
 use crate::passed::Passed;
@@ -17,8 +17,8 @@ const LONGEST_WITHOUT_PLACE: usize = 6_000;
 #[derive(Clone, Copy, Debug)]
 pub struct AsciiBlocks {
     pub(crate) classes: Option<Classes>,
-    /// The fewest bytes of a text that is looked at for a choice of a place: 0 before one was chosen, and twice as many as the text had by
-    /// which one was, if that was short. Behind the choice by a long one, and for one short text alone, no text has as many.
+    /// The fewest bytes of a text that is looked at for a choice of a place: 0 at first, and those of a long text behind the choice by a
+    /// short one, or for one text alone. Behind the choice by a long one, and for one short text alone, no text has as many.
     wanted: usize,
     /// How many bytes the texts had that were looked at, counted again where they came again.
     seen: usize,
@@ -82,14 +82,16 @@ impl AsciiBlocks {
     }
 
     /// Prepares, before its first byte, for one text alone of so many bytes: for a short one no place is chosen, since that costs more than
-    /// it saves.
+    /// it saves, and for a longer one a place is chosen once, though its first pieces are short.
     pub fn prepare(&mut self, len: usize)
         ensures { (table : TableMap) (pattern : Compiled)
             → AreBlocksRight table pattern self.old → AreBlocksRight table pattern self.new }
     {
-        if len <= LONGEST_WITHOUT_PLACE {
-            self.wanted = usize::MAX;
-        }
+        self.wanted = if len <= LONGEST_WITHOUT_PLACE {
+            usize::MAX
+        } else {
+            SAMPLE
+        };
     }
 
     /// Chooses a place by a text, where it is due.
@@ -122,9 +124,5 @@ impl AsciiBlocks {
 
 /// The fewest bytes of a text that is looked at for a choice, behind the choice by a text of so many.
 fn wanted_after(len: usize) -> usize {
-    if len < SAMPLE {
-        len.saturating_mul(2)
-    } else {
-        usize::MAX
-    }
+    if len < SAMPLE { SAMPLE } else { usize::MAX }
 }

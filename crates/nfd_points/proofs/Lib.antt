@@ -5,7 +5,6 @@ pub mod Computing
 pub mod CutLemmas
 pub mod DecompositionLemmas
 pub mod GivenRunLemmas
-pub mod InOrderLemmas
 pub mod InsertLemmas
 pub mod OrderingLemmas
 pub mod PointsLemmas

@@ -8,7 +8,6 @@
 pub use crate::character::points_of_character;
 pub use crate::faults::PointFault;
 pub use crate::limits::{MOST_DECOMPOSITION, MOST_GIVEN, MOST_WAITING};
-pub use crate::ordering::are_in_order;
 pub use crate::points::Point;
 pub use crate::reordering::Reorder;
 
@@ -17,6 +16,5 @@ mod decomposing;
 mod faults;
 pub mod laws;
 mod limits;
-mod ordering;
 mod points;
 mod reordering;

@@ -19,10 +19,13 @@ use std::process::Abort;
 /// `runs`.
 const LENGTHS: [(usize, usize); 3] = [(1_024, 33_131), (1_025, 33_128), (3_000, 27_203)];
 
-/// Sizes of pieces, on both sides of the 32,768 bytes that go by steps first.
-const SIZES: [usize; 4] = [4_096, 32_767, 32_768, 32_769];
+/// Sizes of pieces, on both sides of the 1,536 letters that go by steps first, and of the 32,768 bytes of Han that do; a search is resumed
+/// after each piece of the greatest.
+const SIZES: [usize; 5] = [64, 4_096, 1_535, 1_536, 1_537];
 
-/// Runs of letters `a`, of which one stands across the first 32,768 bytes and one behind them.
+const SIZES_OF_HAN: [usize; 4] = [4_096, 32_767, 32_768, 32_769];
+
+/// Runs of letters `a`, of which one stands across the first 1,536 bytes and two behind them.
 fn runs(rt: &impl Abort, alloc: Global) -> String {
     let some = repeated(rt, alloc, "a", 3_100);
     let many = repeated(rt, alloc, "a", 30_000);
@@ -33,21 +36,24 @@ fn runs(rt: &impl Abort, alloc: Global) -> String {
     )
 }
 
-/// Compares the ranges of a text that is fed in pieces of each size, and of one whose search is resumed after each piece, with those of
-/// steps.
+/// Compares the ranges of a text that is fed in pieces of each size, and of one whose search is resumed after each piece of the last, with
+/// those of steps.
 fn compare_sizes(
     rt: &impl Abort,
     alloc: Global,
     query: &Query<'_, Table>,
     text: &[u8],
+    sizes: &[usize],
     want: usize,
 ) {
     let (ranges, fault) = stepped(rt, alloc, query, text);
     count_is(rt, ranges.len(), want);
-    for size in SIZES {
-        compare_fed(rt, alloc, query, text, size.max(1), &ranges, fault);
+    let mut last = 1;
+    for size in sizes {
+        last = *size;
+        compare_fed(rt, alloc, query, text, last.max(1), &ranges, fault);
     }
-    let (again, _most) = resumed(rt, alloc, query, text, 32_769);
+    let (again, _most) = resumed(rt, alloc, query, text, last.max(1));
     answered_is(rt, &again, &ranges, fault, "resumed");
 }
 
@@ -78,7 +84,7 @@ fn compare_length(
 ) {
     let letters = repeated(rt, alloc, "a", len);
     let pattern = compile(rt, alloc, table, &letters, ONE, KEPT);
-    compare_sizes(rt, alloc, &for_all(table, &pattern), text, want);
+    compare_sizes(rt, alloc, &for_all(table, &pattern), text, &SIZES, want);
 }
 
 /// Patterns and pieces of each length.
@@ -90,6 +96,18 @@ fn long_patterns_answer_as_steps(rt: HostRuntime) {
     for (len, want) in LENGTHS {
         compare_length(&rt, alloc, &table, text.as_bytes(), len, want);
     }
+}
+
+/// A pattern of Han: as many ranges as there are places for 1,025 characters in 12,000.
+#[test]
+fn long_pattern_of_han_answers_as_steps(rt: HostRuntime) {
+    let alloc = rt.alloc();
+    let table = read(&rt, alloc, TABLE);
+    let sought = repeated(&rt, alloc, "一", 1_025);
+    let pattern = compile(&rt, alloc, &table, &sought, ONE, KEPT);
+    let text = repeated(&rt, alloc, "一", 12_000);
+    let query = for_all(&table, &pattern);
+    compare_sizes(&rt, alloc, &query, text.as_bytes(), &SIZES_OF_HAN, 10_976);
 }
 
 /// Compares the first range of a text, again and again, by one search.

@@ -243,6 +243,15 @@ pub(super) fn first_in<W: Weights>(
     search.first_in(text)
 }
 
+/// The same of what stands from an offset of that text on.
+pub(super) fn first_from<W: Weights>(
+    search: &mut Search<'_, W>,
+    text: &[u8],
+    from: usize,
+) -> Result<Option<Range>, TextFault> {
+    search.first_from(text, from)
+}
+
 /// Ends the text: the ranges that are handed out. The search is then at the beginning of another text.
 pub(super) fn finish_text<W: Weights>(
     search: &mut Search<'_, W>,

@@ -2,8 +2,8 @@
 
 use super::answers::state_after;
 use super::calls::{
-    Query, compile, feed, finish, first_range, first_range_from, for_all, put_all, query_for, read,
-    repeated, try_begin, try_resume, try_save,
+    Query, compile, feed, finish, first_from, first_in, first_range, first_range_from, for_all,
+    joined, put_all, query_for, read, repeated, try_begin, try_resume, try_save,
 };
 use super::checks::{
     answer_is, count_is, first_is, holds, kind_is, ranges_are, ranges_follow, same, words_are,
@@ -150,31 +150,67 @@ fn refused_searches_are_asked_again(rt: HostRuntime) {
     }
 }
 
-/// Compares the ranges of letters that are repeated so often, each of two bytes. There is room for the ranges before.
-fn ask_for_no_memory(
+/// Compares the ranges of a text that is repeated so often, and has a range of so many bytes at its front. There is room for the ranges
+/// before: once the search is there, memory is asked for what is cached of characters alone.
+fn ranges_repeat(
     rt: &impl Abort,
     alloc: Global,
-    strength: Strength,
-    letters: &str,
-    text: &str,
+    table: &Table,
+    row: (Strength, &str, &str),
     count: usize,
+    len: u64,
 ) {
-    let table = read(rt, alloc, TABLE);
-    let pattern = compile(rt, alloc, &table, letters, strength, KEPT);
-    let text = repeated(rt, alloc, text, count);
+    let (strength, letters, text) = row;
+    let pattern = compile(rt, alloc, table, letters, strength, KEPT);
+    let whole = repeated(rt, alloc, text, count);
     let mut ranges = room(rt, alloc, count);
-    let query = for_all(&table, &pattern);
-    feed_and_finish(rt, alloc, &query, text.as_bytes(), Ok(()), &mut ranges);
+    let query = for_all(table, &pattern);
+    feed_and_finish(rt, alloc, &query, whole.as_bytes(), Ok(()), &mut ranges);
     count_is(rt, ranges.len(), count);
-    ranges_follow(rt, &ranges, 2, 2);
+    ranges_follow(rt, &ranges, len, text.len() as u64);
 }
 
-/// Once the search is there, no memory is asked for (there is room for the ranges before), and the ranges are those of ample memory:
-/// of ASCII, and of composed letters past it, whose decomposition takes no memory here.
+/// Where places for the letters of ASCII, or of composed letters past it, are refused, the ranges of a million are those of ample memory.
 #[test]
-fn million_letters_ask_for_no_memory(rt: HostRuntime) {
-    ask_for_no_memory(&rt, rt.alloc(), THREE, "ab", "ab", 500_000);
-    ask_for_no_memory(&rt, rt.alloc(), ONE, "e", "\u{e9}", 1_000_000);
+fn refused_cache_changes_no_range_of_a_million_letters(rt: HostRuntime) {
+    let table = read(&rt, rt.alloc(), TABLE);
+    ranges_repeat(&rt, rt.alloc(), &table, (THREE, "ab", "ab"), 500_000, 2);
+    ranges_repeat(&rt, rt.alloc(), &table, (ONE, "e", "\u{e9}"), 1_000_000, 2);
+}
+
+/// So many different ideographs.
+fn ideographs(rt: &impl Abort, alloc: Global, count: u32) -> String {
+    let mut text = String::new(alloc);
+    for number in 0..count {
+        let c = char::from_u32(0x4E00u32.wrapping_add(number)).expect(rt, "an ideograph");
+        text.push(c).expect(rt, "memory");
+    }
+    text
+}
+
+/// Compares the first range of a text, and from behind its first character on, twice by one search.
+fn first_twice(rt: &impl Abort, alloc: Global, query: &Query<'_, Table>, text: &[u8], want: Range) {
+    let mut search = begin_again(rt, alloc, query);
+    for _ in 0..2 {
+        first_is(rt, first_in(&mut search, text), Ok(Some(want)), "whole");
+        first_is(rt, first_from(&mut search, text, 3), Ok(Some(want)), "rest");
+    }
+}
+
+/// The same where places for many letters, for pairs of them, or for the moves of text that is passed by, are refused: of ranges, and of the
+/// first one by a search that was made before.
+#[test]
+fn refused_cache_changes_no_answer(rt: HostRuntime) {
+    let alloc = rt.alloc();
+    let table = read(&rt, alloc, TABLE);
+    ranges_repeat(&rt, alloc, &table, (THREE, "ch", "ch"), 5_000, 2);
+    let many = ideographs(&rt, alloc, 5_000);
+    let behind = joined(&rt, alloc, &["e", many.as_str()]);
+    ranges_repeat(&rt, alloc, &table, (ONE, "e", &behind), 10, 1);
+    let pattern = compile(&rt, alloc, &table, "e", ONE, KEPT);
+    let query = for_all(&table, &pattern);
+    let before = joined(&rt, alloc, &[many.as_str(), "e"]);
+    first_twice(&rt, alloc, &query, before.as_bytes(), (15_000, 15_001));
 }
 
 /// Saves a search behind other words; a refused save leaves the words, and what is asked again is answered.
