@@ -8,8 +8,11 @@ pub(crate) const WORTH_BLOCKS: usize = 32;
 /// How many bytes have to pass, so that the automaton pays.
 const WORTH_MOVES: usize = 24;
 
-/// How far the automaton goes at once where blocks pay: over what stopped them, in bytes.
+/// How far the automaton goes at once where blocks pay: over what stopped them, in bytes. Where it does not pay there, it may go twice as
+/// far the next time, up to `LONG`: for it passes nothing in whose last bytes a match may begin.
 const SHORT: usize = 64;
+
+const LONG: usize = 512;
 
 /// How many bytes are much, when it is seen whether the automaton comes to their end, and how many may be left then.
 const MUCH: usize = 512;
@@ -37,6 +40,8 @@ const NEAR: usize = 256;
 pub(crate) struct Pace {
     /// Whether the last text of ASCII passed in blocks.
     blocks_pay: bool,
+    /// How far the automaton goes next where blocks pay, in bytes.
+    short: usize,
     /// Whether the automaton came to the end of what it was asked last, and that was much: then few stops are expected.
     is_calm: bool,
     /// How many times the automaton is not asked now, and how many times it was not the last time.
@@ -57,6 +62,7 @@ impl Pace {
     pub(crate) fn new() -> Pace {
         Pace {
             blocks_pay: false,
+            short: SHORT,
             is_calm: false,
             rest: 0,
             last_rest: 0,
@@ -103,7 +109,11 @@ impl Pace {
 
     /// The most bytes over which the automaton goes this time.
     pub(crate) fn most_moves(&mut self) -> usize {
-        let most = if self.blocks_pay { SHORT } else { usize::MAX };
+        let most = if self.blocks_pay {
+            self.short
+        } else {
+            usize::MAX
+        };
         self.blocks_pay = false;
         most
     }
@@ -116,8 +126,10 @@ impl Pace {
         }
         if passed < WORTH_MOVES {
             self.last_rest = next_rest(self.last_rest);
+            self.short = self.short.saturating_mul(2).min(LONG);
         } else if passed > in_blocks {
             self.last_rest = 0;
+            self.short = SHORT;
         }
         self.rest = self.last_rest;
     }
