@@ -22,9 +22,6 @@ pub fn is_next(letter: &Letter, following: &Letter) -> bool
 {
     units_stay_apart();
     laws_of_characters();
-    if following.role.is_mark() {
-        return false;
-    }
     match letter.role {
         // of most letters one question is enough
         Role::Plain => following.is_starter(),

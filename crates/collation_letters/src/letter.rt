@@ -112,7 +112,7 @@ impl Letter {
     ghost use Rattle.collation_letters.specs.Symbols.{listed};
     ghost use Rattle.collation_letters.specs.declared.letter.Role.TheVariants.{Base};
 
-    /// Whether its characters are known to begin with a starter.
+    /// Whether its characters are known to begin with a starter, and are no mark.
     #[inline(always)]
     pub fn is_starter(&self) -> bool
         ensures { result ≡ true → (table : TableMap) (pattern : Compiled) (cs : List ℕ)
@@ -121,7 +121,8 @@ impl Letter {
     {
         match self.role {
             Role::Plain | Role::Base | Role::VariableBase | Role::Silent => true,
-            Role::Steps | Role::PrimaryMark | Role::Mark => self.is_apart,
+            Role::Steps => self.is_apart,
+            Role::PrimaryMark | Role::Mark => false,
         }
     }
 
