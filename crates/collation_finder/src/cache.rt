@@ -15,19 +15,12 @@ const MOST_HELD: usize = 256;
 /// How many bytes that were passed by are so much that none are walked over next.
 const MUCH: usize = 24;
 
-/// The most keys of a pattern for which letters are found from the first piece on.
+/// The most keys of a pattern for which text is passed by from the first piece on.
 const MOST_KEYS: usize = 1_024;
 
-/// The most bytes that go by steps first where the pattern has more keys: only a longer text gives back what finding its letters, and what
-/// passes it by, costs.
-const BY_STEPS: usize = 32_768;
-
-/// How many characters these are at most, unless most of them are of scripts that have thousands: of an alphabet few letters are found, and
-/// each serves often.
-const OF_AN_ALPHABET: usize = 1_536;
-
-/// How many bytes of a piece tell what its characters are.
-const FRONT: usize = 512;
+/// How many bytes are walked over first where the pattern has more keys: only a longer text gives back what it costs to find out what
+/// passes it by.
+const WALKED_FIRST: usize = 4_096;
 
 /// What a search has found out of the characters that it met, for its table and its pattern.
 #[derive(Drop)]
@@ -38,8 +31,8 @@ pub struct Cache {
     pub(crate) hold: usize,
     /// How many bytes are still walked over before then, counted from the front of what is taken by letters next.
     pub(crate) due: usize,
-    /// How many bytes more go by steps alone, as long as no piece has more: for one short text letters cost more than the steps that they
-    /// save.
+    /// How many bytes more go by steps alone, as long as no piece has more: none, unless for one short text letters cost more than the
+    /// steps that they save.
     pub by_steps: usize,
     /// The allocator of the search.
     pub alloc: Global,
@@ -57,7 +50,6 @@ impl Cache {
     ghost use Rattle.collation_elements.specs.Weighing.{is_after_variable};
     ghost use Rattle.collation_skip.specs.Passed.{PassesTo};
     ghost use Rattle.collation_walk.specs.declared.matching.Matcher.{Matcher};
-    ghost use Rattle.collation_finder.specs.declared.cache.TheConstants.{MOST_KEYS};
     ghost use Rattle.collation_walk.specs.Walked.{HasWalkedOn};
     ghost use Rattle.collation_finder.specs.Caches.{AreRight};
     ghost use Rattle.collation_finder.specs.LetterRun.{StandsInFront};
@@ -71,47 +63,31 @@ impl Cache {
     pub fn new<W: Weights>(alloc: Global, table: &W, pattern: &Pattern) -> Result<Cache, AllocError>
         ensures right { IfOk result (λ cache. (table : TableMap) (pattern : Compiled)
             → AreRight table pattern cache) }
-        ensures at_once { length pattern.now.keys ≤ MOST_KEYS
-            → IfOk result (λ cache. cache.by_steps ≡ 0) }
+        ensures at_once { IfOk result (λ cache. cache.by_steps ≡ 0) }
     {
         Ok(Cache {
             letters: Letters::for_long_patterns(alloc, table)?,
             skip: Skip::new(alloc),
             hold: 0,
-            due: 0,
-            by_steps: if pattern.len() > MOST_KEYS {
-                BY_STEPS
+            due: if pattern.len() > MOST_KEYS {
+                WALKED_FIRST
             } else {
                 0
             },
+            by_steps: 0,
             alloc,
         })
     }
 
-    /// Prepares, before its first byte, for one text alone of `len` bytes: `by_steps` of these go by steps at least, and `due` are walked
+    /// Prepares, before its first byte, for one text alone of `len` bytes: `by_steps` of these go by steps, and at least `due` are walked
     /// over before any are passed by.
     pub fn prepare(&mut self, by_steps: usize, due: usize, len: usize)
         ensures { (table : TableMap) (pattern : Compiled)
             → AreRight table pattern self.old → AreRight table pattern self.new }
     {
-        self.by_steps = self.by_steps.max(by_steps);
-        self.due = due;
+        self.by_steps = by_steps;
+        self.due = self.due.max(due);
         self.skip.prepare(len);
-    }
-
-    /// Whether a piece, whose bytes `by_steps` does not count any more, goes by steps alone: where most of its characters are of scripts
-    /// that have thousands, or where it and the pieces before it have few.
-    pub fn leaves_to_steps(&self, piece: &[u8]) -> bool {
-        if self.by_steps >= BY_STEPS {
-            return true;
-        }
-        let front = &piece[..piece.len().min(FRONT)];
-        let (all, of_thousands) = characters(front);
-        if of_thousands > all / 2 {
-            return true;
-        }
-        let gone = BY_STEPS.saturating_sub(self.by_steps);
-        gone.saturating_mul(all) <= OF_AN_ALPHABET.saturating_mul(front.len())
     }
 
     /// Passes by text at the front of a piece, which stands at a byte offset, where no key waits. It ends at `reach` or before it.
@@ -162,18 +138,6 @@ impl Cache {
         self.hold = held_after(self.hold, passed.end, was_worth_it);
         Some(passed)
     }
-}
-
-/// How many characters a text has, if it is UTF-8, and how many of these are of scripts that have thousands, as Han and Hangul are.
-fn characters(text: &[u8]) -> (usize, usize) {
-    let mut all = 0usize;
-    let mut of_thousands = 0usize;
-    for byte in text {
-        all = all.wrapping_add(usize::from(*byte < 0x80 || *byte >= 0xC0));
-        let leads = (*byte >= 0xE4 && *byte <= 0xED) || *byte == 0xF0;
-        of_thousands = of_thousands.wrapping_add(usize::from(leads));
-    }
-    (all, of_thousands)
 }
 
 /// How many bytes are walked over before text is passed by again, where so many were before, and so many were passed by then: none where

@@ -4,11 +4,9 @@ ghost use Rattle.collation_letters.specs.Letters.{begins_cluster, is_mark};
 
 use crate::symbols::{FOREIGN, NO_SYMBOL, NO_SYMBOLS, Symbols};
 
-/// What a search does with a character.
+/// What a search does with a character. Their order makes few comparisons of a question.
 #[derive(Clone, Copy, Debug, PartialEq, Eq)]
 pub enum Role {
-    /// Nothing is known: it is left to the steps.
-    Steps,
     /// As a base, and no unit reaches from it to what follows, and it has one symbol or none. Most characters have this role, so that
     /// few questions are asked of them.
     Plain,
@@ -18,6 +16,8 @@ pub enum Role {
     VariableBase,
     /// It begins with a starter, begins no cluster and has no key.
     Silent,
+    /// Nothing is known: it is left to the steps.
+    Steps,
     /// A mark: one point, a non-starter, or a starter that begins no cluster and has a key. Its keys count whatever stands before it.
     /// After it the last element that was variable or primary is not variable.
     PrimaryMark,
@@ -119,11 +119,10 @@ impl Letter {
             → IsLetter table pattern cs self.now
             → begins_with_starter (points_from 0 cs) ≡ true }
     {
-        match self.role {
-            Role::Plain | Role::Base | Role::VariableBase | Role::Silent => true,
-            Role::Steps => self.is_apart,
-            Role::PrimaryMark | Role::Mark => false,
+        if self.role.is_steps() {
+            return self.is_apart;
         }
+        !self.role.is_mark()
     }
 
     /// Whether it is a cluster out of which no unit reaches, with a last key that the pattern does not have.
