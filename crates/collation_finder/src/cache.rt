@@ -15,8 +15,11 @@ const MOST_HELD: usize = 256;
 /// How many bytes that were passed by are so much that none are walked over next.
 const MUCH: usize = 24;
 
-/// The most keys of a pattern for which text is passed by from the first piece on.
+/// The most keys of a pattern for which letters are found, and text is passed by, from the first piece on.
 const MOST_KEYS: usize = 1_024;
+
+/// The most bytes of a short text that go by steps alone where the pattern has more keys: of a script of many letters few come again.
+const BY_STEPS: usize = 3_072;
 
 /// How many bytes are walked over first where the pattern has more keys: only a longer text gives back what it costs to find out what
 /// passes it by.
@@ -31,8 +34,8 @@ pub struct Cache {
     pub(crate) hold: usize,
     /// How many bytes are still walked over before then, counted from the front of what is taken by letters next.
     pub(crate) due: usize,
-    /// How many bytes more go by steps alone, as long as no piece has more: none, unless for one short text letters cost more than the
-    /// steps that they save.
+    /// How many bytes more go by steps alone, as long as no piece has more: for one short text letters cost more than the steps that they
+    /// save.
     pub by_steps: usize,
     /// The allocator of the search.
     pub alloc: Global,
@@ -50,6 +53,7 @@ impl Cache {
     ghost use Rattle.collation_elements.specs.Weighing.{is_after_variable};
     ghost use Rattle.collation_skip.specs.Passed.{PassesTo};
     ghost use Rattle.collation_walk.specs.declared.matching.Matcher.{Matcher};
+    ghost use Rattle.collation_finder.specs.declared.cache.TheConstants.{MOST_KEYS};
     ghost use Rattle.collation_walk.specs.Walked.{HasWalkedOn};
     ghost use Rattle.collation_finder.specs.Caches.{AreRight};
     ghost use Rattle.collation_finder.specs.LetterRun.{StandsInFront};
@@ -63,31 +67,40 @@ impl Cache {
     pub fn new<W: Weights>(alloc: Global, table: &W, pattern: &Pattern) -> Result<Cache, AllocError>
         ensures right { IfOk result (λ cache. (table : TableMap) (pattern : Compiled)
             → AreRight table pattern cache) }
-        ensures at_once { IfOk result (λ cache. cache.by_steps ≡ 0) }
+        ensures at_once { length pattern.now.keys ≤ MOST_KEYS
+            → IfOk result (λ cache. cache.by_steps ≡ 0) }
     {
+        let (by_steps, due) = if pattern.len() > MOST_KEYS {
+            (BY_STEPS, WALKED_FIRST)
+        } else {
+            (0, 0)
+        };
         Ok(Cache {
             letters: Letters::for_long_patterns(alloc, table)?,
             skip: Skip::new(alloc),
             hold: 0,
-            due: if pattern.len() > MOST_KEYS {
-                WALKED_FIRST
-            } else {
-                0
-            },
-            by_steps: 0,
+            due,
+            by_steps,
             alloc,
         })
     }
 
-    /// Prepares, before its first byte, for one text alone of `len` bytes: `by_steps` of these go by steps, and at least `due` are walked
-    /// over before any are passed by.
+    /// Prepares, before its first byte, for one text alone of `len` bytes: at least `by_steps` of these go by steps, and at least
+    /// `due` are walked over before any are passed by.
     pub fn prepare(&mut self, by_steps: usize, due: usize, len: usize)
         ensures { (table : TableMap) (pattern : Compiled)
             → AreRight table pattern self.old → AreRight table pattern self.new }
     {
-        self.by_steps = by_steps;
+        self.by_steps = self.by_steps.max(by_steps);
         self.due = self.due.max(due);
         self.skip.prepare(len);
+    }
+
+    /// Whether a piece, whose bytes `by_steps` does not count any more, goes by steps alone: as its first character says how many letters its
+    /// script has, where it and the pieces before it are short.
+    pub fn leaves_to_steps(&self, piece: &[u8]) -> bool {
+        let gone = BY_STEPS.saturating_sub(self.by_steps);
+        gone == 0 || gone <= most_by_steps(piece.first().copied())
     }
 
     /// Passes by text at the front of a piece, which stands at a byte offset, where no key waits. It ends at `reach` or before it.
@@ -137,6 +150,17 @@ impl Cache {
         let was_worth_it = passed.start > 0 || !self.skip.has_long_rest();
         self.hold = held_after(self.hold, passed.end, was_worth_it);
         Some(passed)
+    }
+}
+
+/// The most bytes of a short text that go by steps alone, by its first byte, which may stand amid a character: none of ASCII, and most of Han
+/// and Hangul.
+fn most_by_steps(first: Option<u8>) -> usize {
+    match first {
+        Some(0x80..=0xDF) => 256,
+        Some(0xE0..=0xE3) => 768,
+        Some(0xE4..) => BY_STEPS,
+        _ => 0,
     }
 }
 

@@ -119,10 +119,19 @@ impl Letter {
             → IsLetter table pattern cs self.now
             → begins_with_starter (points_from 0 cs) ≡ true }
     {
-        if self.role.is_steps() {
-            return self.is_apart;
+        match self.role {
+            Role::Plain | Role::Base | Role::VariableBase | Role::Silent => true,
+            Role::Steps | Role::PrimaryMark | Role::Mark => self.is_left_apart(),
         }
-        !self.role.is_mark()
+    }
+
+    /// Whether it is left to the steps, and no unit reaches into it. A call by itself, for it is asked seldom, and what is asked of most
+    /// letters then takes one comparison.
+    #[inline(never)]
+    fn is_left_apart(self) -> bool
+        ensures { result ≡ true → self.is_apart ≡ true }
+    {
+        self.role.is_steps() && self.is_apart
     }
 
     /// Whether it is a cluster out of which no unit reaches, with a last key that the pattern does not have.

@@ -150,7 +150,7 @@ impl<'a, W: Weights> Search<'a, W> {
     {
         let by_steps = self.cache.by_steps;
         self.cache.by_steps = by_steps.saturating_sub(piece.len());
-        if piece.len() <= by_steps {
+        if piece.len() <= by_steps && self.cache.leaves_to_steps(piece) {
             return 0;
         }
         reach(&self.query, &mut self.cache.letters, piece)

@@ -19,9 +19,9 @@ use std::process::Abort;
 /// there are in `runs`.
 const LENGTHS: [(usize, usize); 3] = [(1_024, 33_131), (1_025, 33_128), (3_000, 27_203)];
 
-/// Sizes of pieces, on both sides of the 4,096 bytes that are walked over first where the pattern has more; a search is resumed after each
-/// piece of the last size.
-const SIZES: [usize; 4] = [64, 4_095, 4_096, 4_097];
+/// Sizes of pieces, on both sides of the 3,072 bytes of Han that go by steps first where the pattern has more keys, and of the 4,096 that are
+/// walked over first; a search is resumed after each piece of the last size.
+const SIZES: [usize; 5] = [64, 3_072, 3_073, 4_096, 4_097];
 
 /// Runs of letters `a`, of which the second stands across the first 4,096 bytes.
 fn runs(rt: &impl Abort, alloc: Global) -> String {
