@@ -75,11 +75,12 @@ class ThreadsTest(unittest.TestCase):
             with mmap(file.fileno(), 0, access=ACCESS_READ) as mapped:
                 sys.setswitchinterval(1000)
                 try:
+                    many = [lambda: list(self.pattern.index_many(texts)), lambda: list(self.pattern.search_many(texts))]
                     for call in (lambda: self.pattern.index(TEXT), lambda: self.pattern.index(text), lambda: self.pattern.index(mapped),
                                  lambda: self.pattern.index(memoryview(TEXT)), lambda: list(self.pattern.search(text)),
                                  lambda: Search(self.pattern).feed(TEXT), lambda: Search(self.pattern).first_in(TEXT),
-                                 lambda: list(self.pattern.index_many(texts)), lambda: list(self.pattern.search_many(texts)),
-                                 lambda: Table(LETTERS.read_bytes() + b"#" * (1 << 22)), lambda: Pattern(self.table, "a" * 65_000)):
+                                 lambda: Table(LETTERS.read_bytes() + b"#" * (1 << 22)), lambda: Pattern(self.table, "a" * 65_000),
+                                 *(many if colfind._MANY else ())):
                         self.assertTrue(self.was_seen_under_way(lambda: call() and None, TRIES))
                     changing = bytearray(TEXT)
                     for data in changing, memoryview(changing), memoryview(changing).toreadonly():
