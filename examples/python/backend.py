@@ -1,6 +1,6 @@
 """Makes the package `colfind` of colfind.py, for `pip install .` (PEP 517), by the standard library alone. The files that `./build` makes
-go into the package where they are there: libcolfind.so.1, else the package loads the one of the system, and many_texts.so, else it calls that
-for each text."""
+go into the package where they are there: libcolfind.so.1, else the package loads the one of the system, and many_texts.so, else it calls
+that for each text."""
 from __future__ import annotations
 
 import base64

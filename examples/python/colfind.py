@@ -17,8 +17,8 @@ from array import array
 from collections import deque
 from collections.abc import Callable, Iterable, Iterator
 from contextlib import suppress
-from ctypes import (CDLL, POINTER, PyDLL, Structure, byref, c_char_p, c_int, c_size_t, c_ssize_t, c_uint8, c_uint32, c_uint64, c_void_p, cast,
-                    create_string_buffer, py_object, pythonapi, string_at)
+from ctypes import (CDLL, POINTER, PyDLL, Structure, byref, c_char_p, c_int, c_size_t, c_ssize_t, c_uint8, c_uint32, c_uint64, c_void_p,
+                    cast, create_string_buffer, py_object, pythonapi, string_at)
 from enum import IntEnum
 from hashlib import sha256
 from itertools import chain as one_by_one
@@ -428,7 +428,7 @@ class Pattern(_Owner):
         return Pattern, self._made_of
 
     def _lent(self, spare: list[Search], chain: bool = False) -> Search:
-        """A search that no other thread has. Each call gives it back to where it was taken from, also where the pattern was freed meanwhile."""
+        """A search that no other thread has. A call gives it back to where it was taken from, which is of no pattern that was freed."""
         try:
             return spare.pop()
         except IndexError:

@@ -19,6 +19,7 @@ import tracemalloc
 import unittest
 from array import array
 from concurrent.futures import ThreadPoolExecutor
+from contextlib import closing
 from pathlib import Path
 from unittest.mock import patch
 
@@ -462,12 +463,14 @@ class Tests(unittest.TestCase):
             start, end = end, end + len(title.encode()) + 1
             if any(start <= one < end for one, _ in ranges):
                 expected.append(title)
-        rows = catalogue(titles, Pattern(self.table, "resume", 1)).execute("SELECT title FROM books WHERE found(title)")
-        self.assertEqual([title for title, in rows], expected)
+        with closing(catalogue(titles, Pattern(self.table, "resume", 1))) as database:
+            rows = database.execute("SELECT title FROM books WHERE found(title)")
+            self.assertEqual([title for title, in rows], expected)
 
     def test_title_that_is_null(self) -> None:
         """It is found neither by the function nor by its opposite, as SQL has it of each comparison with NULL."""
         database = catalogue(["resume", None, "a"], Pattern(self.table, "resume", 1))
+        self.addCleanup(database.close)
         for sql, rows in [
             ("SELECT found(title) FROM books", [(1,), (None,), (0,)]),
             ("SELECT title FROM books WHERE found(title)", [("resume",)]),

@@ -66,7 +66,8 @@ class ManyTextsTest(unittest.TestCase):
         rng = random.Random(1)
         for _ in self.each_way():
             for _ in range(150):
-                texts, chain, pattern = self.random_texts(rng), rng.random() < 0.5, Pattern(self.table, rng.choice(["resume", "e", "aa"]), 1)
+                texts, chain = self.random_texts(rng), rng.random() < 0.5
+                pattern = Pattern(self.table, rng.choice(["resume", "e", "aa"]), 1)
                 with patch.multiple(colfind, _AHEAD=rng.choice([1, 2, 3, 7, 512]), _MOST_JOINED=rng.choice([0, 20, 500, 1 << 16])):
                     self.assertEqual(answers_of(pattern.index_many(iter(texts))), answers_of(map(pattern.index, texts)))
                     wanted = answers_of(map(lambda text: list(pattern.search(text, chain)), texts))
@@ -86,9 +87,10 @@ class ManyTextsTest(unittest.TestCase):
     def test_texts_are_apart(self) -> None:
         """What ends one and begins the next one is no range, nor is a mark at the front of a text one of the text before."""
         for _ in self.each_way():
-            self.assertEqual(list(self.pattern.index_many(["resu", "me", "resume", "\u0301", "resume"])), [None, None, (0, 6), None, (0, 6)])
-            shifted = Pattern(self.table, "resume", 1, True)
-            self.assertEqual(list(shifted.index_many(["resu", " me", "re\0sume"])), [shifted.index(text) for text in ("resu", " me", "re\0sume")])
+            texts = ["resu", "me", "resume", "\u0301", "resume"]
+            self.assertEqual(list(self.pattern.index_many(texts)), [None, None, (0, 6), None, (0, 6)])
+            shifted, texts = Pattern(self.table, "resume", 1, True), ["resu", " me", "re\0sume"]
+            self.assertEqual(list(shifted.index_many(texts)), list(map(shifted.index, texts)))
 
     def test_a_fault_is_the_answer_of_its_text(self) -> None:
         texts = ["resume", "\u00e9\ud800", "a resume", "\ud800", *["e"] * 600, "resume \udfff", "resume"]

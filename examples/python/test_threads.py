@@ -183,6 +183,7 @@ class ThreadsTest(unittest.TestCase):
             """
         self.assertEqual(by_another_python(code), ("one call at a time\n(3, 9)\n[(0, 6)]\n", "", 0))
 
+    @unittest.skipIf(sys.version_info < (3, 10), "Python 3.9 may break off between any two steps")
     def test_an_interrupted_call_takes_nothing_along(self) -> None:
         """A search and a pattern go on behind a KeyboardInterrupt, wherever it comes."""
         code = """
