@@ -294,11 +294,9 @@ def _in_characters(text: str, ranges: Ranges, start: int = 0) -> Ranges:
 
 
 def _joined(texts: list[Any]) -> tuple[bytes, bool] | None:
-    """Texts with a zero byte between two, and whether they count in characters. None where one has such a byte, they are long, or they are
-    no texts of one kind."""
+    """Texts with a zero byte between two, and whether they count in characters. None where one has such a byte, or they are no texts of
+    one kind."""
     try:
-        if sum(map(len, texts)) > _MOST_JOINED:
-            return None
         try:
             text = "\0".join(texts)
         except TypeError:
@@ -310,6 +308,12 @@ def _joined(texts: list[Any]) -> tuple[bytes, bool] | None:
     return (data, in_characters) if data.count(0) == len(texts) - 1 else None
 
 
+def _length(texts: list[Any]) -> int:
+    with suppress(Exception):  # of an object that is no text
+        return sum(map(len, texts))
+    return 0
+
+
 def _raised(wrong: Exception) -> Any:
     raise wrong
 
@@ -318,25 +322,32 @@ class _Ahead(Generic[_Given]):
     """The answers of many texts, those of some at a time: `some` gives the first of them, and `one` that of each other text."""
 
     def __init__(self, texts: Iterator[Any], one: Callable[[Any], _Given], some: Callable[[list[Any]], list[_Given]]) -> None:
-        self.texts, self.one, self.some = texts, one, some
+        self.texts, self.one, self.some, self.read = texts, one, some, list[Any]()
 
     def __iter__(self) -> Iterator[Iterable[_Given]]:
         return self
 
     def __next__(self) -> Iterable[_Given]:
-        texts: list[Any] = []
-        try:
-            texts.extend(islice(self.texts, _AHEAD))
-        except Exception as wrong:
-            if not texts:
-                raise
-            self.texts = map(_raised, [wrong])  # behind the answers of those before
+        texts, answers = self.taken(), list[_Given]()
         if not texts:
             raise StopIteration
-        answers: list[_Given] = []
-        with suppress(Fault):  # of a call, as where memory is refused: those for one text say it again
-            answers = self.some(texts)
+        if _length(texts) <= _MOST_JOINED:
+            with suppress(Fault):  # of a call, as where memory is refused: those for one text say it again
+                answers = self.some(texts)
         return one_by_one(answers, map(self.one, texts[len(answers):])) if len(answers) < len(texts) else answers
+
+    def taken(self) -> list[Any]:
+        """The next texts, so many that they are not too long for one call."""
+        if not self.read:
+            try:
+                self.read.extend(islice(self.texts, _AHEAD))
+            except Exception as wrong:
+                if not self.read:
+                    raise
+                self.texts = map(_raised, [wrong])  # behind the answers of those before
+        count = max(1, len(self.read) * _MOST_JOINED // max(_length(self.read), _MOST_JOINED, 1))
+        texts, self.read = self.read[:count], self.read[count:]
+        return texts
 
 
 def _many(texts: Iterable[Any], one: Callable[[Any], _Given], some: Callable[[list[Any]], list[_Given]]) -> Iterator[_Given]:
@@ -380,9 +391,9 @@ class Table(_Owner):
 
     def __reduce_ex__(self, _: object) -> tuple[Any, ...]:
         self._digest = self._digest or b"".join(sha256(file).digest() for file in self._files)
-        if self._handle.at:
+        if self._handle.at and type(self) is Table:
             _TABLES.setdefault(self._digest, self)
-        return _sent_table, (self._digest, *self._files)
+        return (_sent_table, (self._digest, *self._files)) if type(self) is Table else (type(self), self._files)
 
 
 _TABLES: WeakValueDictionary[bytes, Table] = WeakValueDictionary()  # by their digests: those that were pickled, or came so
@@ -419,13 +430,13 @@ class Pattern(_Owner):
         self._spare = [Search(self)], list[Search]()  # that no thread has: all ranges, and a chain
 
     def __exit__(self, *_: object) -> None:
-        searches, self._spare = self._spare, ([], [])
-        for search in *searches[0], *searches[1]:
-            search.__exit__()
         super().__exit__()
+        spare, self._spare = self._spare, ([], [])
+        for search in *spare[0], *spare[1]:
+            search.__exit__()
 
     def __reduce_ex__(self, _: object) -> tuple[Any, ...]:
-        return Pattern, self._made_of
+        return type(self), self._made_of
 
     def _lent(self, spare: list[Search], chain: bool = False) -> Search:
         """A search that no other thread has. A call gives it back to where it was taken from, which is of no pattern that was freed."""
@@ -621,6 +632,8 @@ class Search(_Owner):
     def feed(self, piece: Bytes) -> Ranges:
         """Takes the next piece: the ranges that became known. Fault 81 says that memory was refused after `at` bytes of the piece: the
         next call, with the others, gives their ranges too."""
+        if type(piece) is bytes:
+            return self._alone(self._fed, piece, len(piece))
         return _over("piece", piece, lambda data, length: self._alone(self._fed, data, length))
 
     def feed_file(self, file: BinaryIO, size: int = 1 << 16) -> Ranges:
@@ -648,6 +661,8 @@ class Search(_Owner):
 
     def first_in(self, text: Bytes, start: int = 0) -> tuple[int, int] | None:
         """The first range of a text at or after an offset, or None. What was fed before is given up."""
+        if type(text) is bytes:
+            return self._alone(self._first, text, len(text), _offset(start, len(text)))
         return _over("text", text, lambda data, length: self._alone(self._first, data, length, _offset(start, length)))
 
     def _first(self, data: bytes | _View, length: int, start: int) -> tuple[int, int] | None:

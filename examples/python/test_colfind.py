@@ -314,6 +314,14 @@ class Tests(unittest.TestCase):
                 with one:
                     self.assertEqual((one.index("ae"), one.index("\u00e9")), (found or (1, 2), (0, 1)))
             self.assertEqual(pattern.index("\u00e9"), (0, 1))
+        class OwnTable(Table):
+            pass
+
+        class OwnPattern(Pattern):
+            pass
+
+        own = copy.deepcopy(OwnPattern(OwnTable(LETTERS.read_bytes()), "a"))
+        self.assertEqual((type(own), type(own._made_of[0]), own.index("ba")), (OwnPattern, OwnTable, (1, 2)))
         for shifted, found in (True, (1, 4)), (False, None):  # whether the hyphen counts
             self.assertEqual(copy.copy(Pattern(self.table, "ee", 1, shifted)).index(" e-e"), found)
 

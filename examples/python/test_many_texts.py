@@ -154,6 +154,14 @@ class ManyTextsTest(unittest.TestCase):
             self.assertEqual(list(self.pattern.index_many(texts)), [(70_000, 70_006), None, (9_000, 9_006)] * 2)
             self.assertEqual(list(self.pattern.search_many(texts)), [[(70_000, 70_006)], [], [(9_000, 9_006)]] * 2)
 
+    def test_texts_of_some_length(self) -> None:
+        """They too are searched by few calls, whatever the lengths of their neighbours."""
+        texts = ["\u6f22" * (i % 2_000) + "resume" for i in range(1_000)]
+        for many in self.each_way():
+            with patch.object(Pattern, "index", side_effect=self.pattern.index) as one:
+                self.assertEqual(list(self.pattern.index_many(texts)), [(i, i + 6) for i in range(1_000)])
+            self.assertEqual(one.call_count, 0 if many else 1_000)
+
     def test_memory_that_is_refused(self) -> None:
         """Then each text is asked for by itself, and what it needs is asked for again."""
         for many in self.each_way():
