@@ -100,6 +100,20 @@ class ThreadsTest(unittest.TestCase):
         with ThreadPoolExecutor(4) as pool:
             self.assertEqual(list(pool.map(lambda job: job[0](job[1]), jobs)), wanted)
 
+    def test_calls_of_a_pattern_wait_for_none(self) -> None:
+        """Four threads are in a call of it at once, each with a handle of its own; the next four take the same handles."""
+        handles, together, call = [], threading.Barrier(4, timeout=60), colfind._UNLOCKED.colfind_first_in
+
+        def of_four(handle, *words):
+            handles.append(handle.at)
+            together.wait()
+            return call(handle, *words)
+
+        with patch.object(colfind._UNLOCKED, "colfind_first_in", of_four), ThreadPoolExecutor(4) as pool:
+            for _ in range(2):
+                self.assertEqual(list(pool.map(self.pattern.index, [TEXT] * 4)), [(len(TEXT) - 6, len(TEXT))] * 4)
+        self.assertEqual((len(set(handles[:4])), set(handles[4:])), (4, set(handles[:4])))
+
     def test_a_search_is_in_one_call_at_a_time(self) -> None:
         """Another one is an error, and changes nothing. At the end of a `with` the search is freed behind the call that has it."""
         with patch.object(colfind._UNLOCKED, "colfind_feed", Blocked("colfind_feed")) as blocked, ThreadPoolExecutor(1) as pool:
