@@ -77,7 +77,6 @@ for _dll in _C, _UNLOCKED:
         _call.restype, _call.argtypes = _result, _types
 
 
-
 def _many_texts(kind: type[CDLL]) -> CDLL | None:
     """The loops over many texts, where they were compiled for this machine."""
     try:
@@ -331,7 +330,7 @@ class _Ahead(Generic[_Given]):
         texts, answers = self.taken(), list[_Given]()
         if not texts:
             raise StopIteration
-        if _length(texts) <= _MOST_JOINED:
+        if len(texts) > 1 and not self.read or _length(texts) <= _MOST_JOINED:
             with suppress(Fault):  # of a call, as where memory is refused: those for one text say it again
                 answers = self.some(texts)
         return one_by_one(answers, map(self.one, texts[len(answers):])) if len(answers) < len(texts) else answers
@@ -431,9 +430,11 @@ class Pattern(_Owner):
 
     def __exit__(self, *_: object) -> None:
         super().__exit__()
-        spare, self._spare = self._spare, ([], [])
-        for search in *spare[0], *spare[1]:
-            search.__exit__()
+        searches, self._spare = self._spare, ([], [])
+        for spare in searches:
+            with suppress(IndexError):  # at its end; what another thread takes meanwhile is freed when that has used it
+                while True:
+                    spare.pop().__exit__()
 
     def __reduce_ex__(self, _: object) -> tuple[Any, ...]:
         return type(self), self._made_of
@@ -643,12 +644,8 @@ class Search(_Owner):
         return self._of_file(file, size)
 
     def _of_file(self, file: BinaryIO, size: int) -> Ranges:
-        while True:
-            piece = file.read(size)
-            ranges = self.feed(piece)
-            if not len(piece):
-                break
-            yield from ranges
+        while _over("piece", piece := file.read(size), lambda _, length: length):
+            yield from self.feed(piece)
         yield from self.finish()
 
     def finish(self) -> Ranges:

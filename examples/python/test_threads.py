@@ -143,6 +143,14 @@ class ThreadsTest(unittest.TestCase):
             for wrong in lambda: pattern.index("a"), lambda: pattern.index(TEXT), lambda: Pattern(table, "a"):
                 self.assertRaisesRegex(Fault, "^fault 82 at 0: it was freed", wrong)
 
+    def test_what_is_freed_can_be_lent_to_none(self) -> None:
+        """A search is taken from those that are lent before it is freed, or a thread could take it meanwhile."""
+        self.pattern.index("a")
+        lent, freed = self.pattern._spare[False], []
+        with patch.object(Search, "__exit__", lambda search: freed.append((search, search in lent))):
+            self.pattern.__exit__()
+        self.assertEqual([is_lent for _, is_lent in freed], [False])
+
     def test_a_forked_process(self) -> None:
         """It goes on with tables and patterns that threads of its parent were calling, and has an error for a search that one was."""
         code = """
