@@ -422,7 +422,8 @@ class Pattern(_Owner):
         own = _Owner()  # of the table too, for the call may be long
         with _LOCK:
             _check(_C.colfind_share(table._handle, own._handle))
-        status = _library(data, len(data)).colfind_pattern(own._handle, self._handle, data, len(data), strength, shifted)
+        library = _C if len(data) < _LONG // 32 else _UNLOCKED  # a byte of a pattern takes as long as many of a text
+        status = library.colfind_pattern(own._handle, self._handle, data, len(data), strength, shifted)
         if status.kind == Kind.BAD_ARGUMENT:
             raise ValueError("text is not UTF-8")
         _check(status)
