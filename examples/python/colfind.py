@@ -21,8 +21,8 @@ from ctypes import (CDLL, POINTER, PyDLL, Structure, byref, c_char_p, c_int, c_s
                     cast, create_string_buffer, py_object, pythonapi, string_at)
 from enum import IntEnum
 from hashlib import sha256
+from itertools import accumulate, islice
 from itertools import chain as one_by_one
-from itertools import islice
 from mmap import mmap
 from pathlib import Path
 from threading import RLock
@@ -519,8 +519,8 @@ class Pattern(_Owner):
         finally:
             spare.append(search)
         firsts: list[tuple[int, int] | None] = [None] * count
-        for text, start, end in zip(numbers[::3], numbers[1::3], numbers[2::3]):
-            firsts[text] = start, end
+        for text, found in zip(numbers[::3], zip(numbers[1::3], numbers[2::3])):
+            firsts[text] = found
         return firsts
 
     def search_many(self, texts: Iterable[str | Bytes], chain: bool = False) -> Iterator[list[tuple[int, int]]]:
@@ -538,8 +538,8 @@ class Pattern(_Owner):
             counts, numbers = search._many_all(*joined, len(texts))
         finally:
             spare.append(search)
-        pairs = zip(numbers[::2], numbers[1::2])
-        return [list(islice(pairs, count)) if count else [] for count in counts]
+        ranges = list(zip(numbers[::2], numbers[1::2]))
+        return [ranges[end - count:end] if count else [] for count, end in zip(counts, accumulate(counts))]
 
     def resume(self, words: Iterable[int], chain: bool = False) -> Search:
         """The search that goes on from `Search.save`."""

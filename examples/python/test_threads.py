@@ -249,12 +249,18 @@ class ThreadsTest(unittest.TestCase):
         for options in [], ["-W", "error", "-X", "dev"], ["-OO"], ["-bb"]:
             self.assertEqual(by_another_python(code, *options), ("", "", 0))
 
+    @unittest.skipIf(sys.version_info[:2] == (3, 12), "other interpreters of Python 3.12 load no ctypes")
     def test_subinterpreters(self) -> None:
         """Each has a module of its own, over one library."""
         code = """
-            import _xxsubinterpreters as interpreters
+            try:
+                import _interpreters as interpreters
+                run = interpreters.exec
+            except ImportError:
+                import _xxsubinterpreters as interpreters
+                run = interpreters.run_string
             one = interpreters.create()
-            interpreters.run_string(one, '''if True:
+            run(one, '''if True:
                 import sys
                 sys.path.insert(0, "")
                 import colfind
@@ -265,8 +271,6 @@ class ThreadsTest(unittest.TestCase):
             interpreters.destroy(one)
             print(pattern.index("my resume"))
             """ % str(LETTERS)
-        if sys.version_info >= (3, 12):
-            self.skipTest("from 3.12 on interpreters of this kind can't load ctypes")
         self.assertEqual(by_another_python(code, "-W", "ignore"), ("(3, 9)\n" * 2, "", 0))
 
 
