@@ -21,6 +21,9 @@ const MOST_KEYS: usize = 1_024;
 /// The most bytes of a short text that go by steps alone where the pattern has more keys: of a script of many letters few come again.
 const BY_STEPS: usize = 3_072;
 
+/// How many bytes of a piece tell what its characters are.
+const FRONT: usize = 512;
+
 /// How many bytes are walked over first where the pattern has more keys: only a longer text gives back what it costs to find out what
 /// passes it by.
 const WALKED_FIRST: usize = 4_096;
@@ -96,11 +99,12 @@ impl Cache {
         self.skip.prepare(len);
     }
 
-    /// Whether a piece, whose bytes `by_steps` does not count any more, goes by steps alone: as its first character says how many letters its
-    /// script has, where it and the pieces before it are short.
+    /// Whether a piece, whose bytes `by_steps` does not count any more, goes by steps alone: where it and the pieces before it are short, as
+    /// its front says how many letters its script has.
     pub fn leaves_to_steps(&self, piece: &[u8]) -> bool {
         let gone = BY_STEPS.saturating_sub(self.by_steps);
-        gone == 0 || gone <= most_by_steps(piece.first().copied())
+        let front = &piece[..piece.len().min(FRONT)];
+        gone.saturating_mul(front.len()) <= FRONT.saturating_mul(most_by_steps(front))
     }
 
     /// Passes by text at the front of a piece, which stands at a byte offset, where no key waits. It ends at `reach` or before it.
@@ -153,15 +157,19 @@ impl Cache {
     }
 }
 
-/// The most bytes of a short text that go by steps alone, by its first byte, which may stand amid a character: none of ASCII, and most of Han
-/// and Hangul.
-fn most_by_steps(first: Option<u8>) -> usize {
-    match first {
-        Some(0x80..=0xDF) => 256,
-        Some(0xE0..=0xE3) => 768,
-        Some(0xE4..) => BY_STEPS,
-        _ => 0,
+/// How many bytes go by steps alone for a text that begins with these, as far as its characters say: none for ASCII, some for each of two
+/// bytes, more for each of three, and most for Han, Hangul and what has four.
+fn most_by_steps(front: &[u8]) -> usize {
+    let mut bytes = 0usize;
+    for byte in front {
+        bytes = bytes.wrapping_add(match *byte {
+            0xC0..=0xDF => 1,
+            0xE0..=0xE3 => 4,
+            0xE4.. => 32,
+            _ => 0,
+        });
     }
+    bytes
 }
 
 /// How many bytes are walked over before text is passed by again, where so many were before, and so many were passed by then: none where

@@ -50,7 +50,7 @@ pub(crate) fn find_letter<W: Weights>(
     let letter = Letter {
         role,
         is_closed,
-        is_apart: are_apart(table, points),
+        is_apart: begin_apart(table, points, role),
         points: points.len() as u8,
         class: last_class(points),
         symbols,
@@ -88,6 +88,13 @@ pub(crate) fn are_apart<W: Weights>(table: &W, points: &[Point]) -> bool
         [] => false,
         [first, ..] => first.ccc == 0 && !table.continues_string(first.cp),
     }
+}
+
+/// The same of points that are no mark; of a mark it is not said, so that it begins no letter.
+fn begin_apart<W: Weights>(table: &W, points: &[Point], role: Role) -> bool
+    ensures { result ≡ true → AreApart (W.table table.now) points.now }
+{
+    !role.is_mark() && are_apart(table, points)
 }
 
 /// The class of the last of these points.

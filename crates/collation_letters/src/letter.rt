@@ -4,9 +4,11 @@ ghost use Rattle.collation_letters.specs.Letters.{begins_cluster, is_mark};
 
 use crate::symbols::{FOREIGN, NO_SYMBOL, NO_SYMBOLS, Symbols};
 
-/// What a search does with a character. Their order makes few comparisons of a question.
+/// What a search does with a character.
 #[derive(Clone, Copy, Debug, PartialEq, Eq)]
 pub enum Role {
+    /// Nothing is known: it is left to the steps.
+    Steps,
     /// As a base, and no unit reaches from it to what follows, and it has one symbol or none. Most characters have this role, so that
     /// few questions are asked of them.
     Plain,
@@ -16,8 +18,6 @@ pub enum Role {
     VariableBase,
     /// It begins with a starter, begins no cluster and has no key.
     Silent,
-    /// Nothing is known: it is left to the steps.
-    Steps,
     /// A mark: one point, a non-starter, or a starter that begins no cluster and has a key. Its keys count whatever stands before it.
     /// After it the last element that was variable or primary is not variable.
     PrimaryMark,
@@ -121,17 +121,8 @@ impl Letter {
     {
         match self.role {
             Role::Plain | Role::Base | Role::VariableBase | Role::Silent => true,
-            Role::Steps | Role::PrimaryMark | Role::Mark => self.is_left_apart(),
+            Role::Steps | Role::PrimaryMark | Role::Mark => self.is_apart,
         }
-    }
-
-    /// Whether it is left to the steps, and no unit reaches into it. A call by itself, for it is asked seldom, and what is asked of most
-    /// letters then takes one comparison.
-    #[inline(never)]
-    fn is_left_apart(self) -> bool
-        ensures { result ≡ true → self.is_apart ≡ true }
-    {
-        self.role.is_steps() && self.is_apart
     }
 
     /// Whether it is a cluster out of which no unit reaches, with a last key that the pattern does not have.

@@ -104,7 +104,7 @@ const OF_CHARACTERS: [(char, &str); 15] = [
     ('\u{327}', "PrimaryMark 255 255 0; 1/202; closed"),
     ('\u{AD}', "Silent 255 255 255; 1/0; closed apart"),
     // a starter that begins no cluster, and has a key
-    ('\u{20DD}', "PrimaryMark 255 255 0; 1/0; closed apart"),
+    ('\u{20DD}', "PrimaryMark 255 255 0; 1/0; closed"),
     // `e` and a mark; `u` begins a mapped string of two
     ('\u{E9}', "Plain 255 255 0; 2/230; closed apart"),
     ('\u{FA}', "Base 255 255 0; 2/230; apart"),
@@ -133,7 +133,7 @@ const SHIFTED_LETTERS: [(char, Strength, &str); 9] = [
     ('\u{301}', ONE, "Mark 255 255 255;"),
     ('\u{AD}', TWO, "Silent 255 255 255;"),
     ('\u{20DD}', ONE, "Silent 255 255 255;"),
-    ('\u{20DD}', TWO, "Mark 255 255 0; 1/0; closed apart"),
+    ('\u{20DD}', TWO, "Mark 255 255 0; 1/0; closed"),
     ('y', TWO, "Steps"),
 ];
 
@@ -355,7 +355,7 @@ fn symbols_of_keys_that_share_a_place(rt: HostRuntime) {
 
 /// A character with marks behind it, and its letter to a pattern with the keys of `e` and of U+0301; none where one of them does not
 /// join: a mark of a lower class, one behind what begins a mapped string, and a fourth key. The circle joins as a mark does, behind
-/// marks of any class and behind what begins a mapped string too, for it is a starter that stands in none.
+/// marks of any class.
 const MARKED: [(&str, &str); 17] = [
     ("e\u{301}", "Base 255 1 2; 2/230;"),
     ("\u{E9}\u{301}", "Base 1 2 2; 3/230;"),
@@ -370,7 +370,7 @@ const MARKED: [(&str, &str); 17] = [
     ("ee", ""),
     ("e\u{20DD}", "Plain 255 255 0; 2/0; closed"),
     ("e\u{301}\u{20DD}\u{301}", "Base 255 0 2; 4/230; closed"),
-    ("u\u{20DD}", "Plain 255 255 0; 2/0; closed"),
+    ("u\u{20DD}", ""),
     (" \u{20DD}", "VariableBase 255 255 255; 2/0; closed"),
     ("\u{20DD}\u{301}", ""),
     ("\u{AD}\u{20DD}", ""),
