@@ -403,9 +403,9 @@ runpy.run_path({FILES!r}, run_name="__main__")
 
     def test_memory(self):
         """It does not grow with the text, nor with the ranges that are printed."""
-        os.truncate(self.write("zeros", ""), 300_000_000)
-        self.write("many", "a" * 3_000_000 + "\n")
-        for words in ["a", "zeros"], ["--show", "a", "zeros"], ["-j2", "--output=marks", "a", "many", "many", "many", "many"]:
+        os.truncate(self.write("zeros", ""), 200_000_000)
+        self.write("many", "a" * 2_000_000 + "\n")
+        for words in ["a", "zeros"], ["--show", "a", "zeros"], ["-j2", "--output=marks", "a", "many", "many", "many"]:
             with subprocess.Popen([FILES, *TABLE, *words], cwd=self.folder, stdout=subprocess.DEVNULL) as child:
                 _, status, used = os.wait4(child.pid, 0)
                 child.returncode = os.waitstatus_to_exitcode(status)
