@@ -9,7 +9,7 @@ _colfind() {
     fi
     compopt -o filenames 2> /dev/null
     search='--table --tailor --strength --variable --output --select'
-    show='--line-number --mark --help'
+    show='--line-number --mark --help --version'
     case $before in
     --strength) COMPREPLY=($(compgen -W '1 2 3' -- "$word")) && return ;;
     --variable) COMPREPLY=($(compgen -W 'shifted non-ignorable' -- "$word")) && return ;;
@@ -24,7 +24,7 @@ _colfind() {
     -,colfind-files)
         COMPREPLY=($(compgen -W "$search $show --show --no-name --null --from0 --jobs -n -Z -j -h" -- "$word"))
         ;;
-    -,colfind-tailor) COMPREPLY=($(compgen -W '--help -h' -- "$word")) ;;
+    -,colfind-tailor) COMPREPLY=($(compgen -W '--help --version -h' -- "$word")) ;;
     *)
         local IFS=$'\n'
         COMPREPLY=($(compgen -f -- "$word"))

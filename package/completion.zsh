@@ -14,6 +14,7 @@ show=(
   '(-n --line-number)'{-n,--line-number}'[print the number of each line]'
   '--mark=[how matches are marked]:mark:(brackets colour none)'
   '(-h --help)'{-h,--help}'[print the words]'
+  '--version[print the version]'
 )
 case $service in
   colfind)
@@ -26,5 +27,5 @@ case $service in
       '(-Z --null)'{-Z,--null}'[print a zero byte behind the name]' '--from0[take the names from standard input]' \
       '(-j --jobs)'{-j,--jobs=}'[search so many files at the same time]:number:' '1:pattern:' '*:text:_files' ;;
   colfind-tailor)
-    _arguments '(-h --help)'{-h,--help}'[print the words]' '1:table:_files' '*:rule:' ;;
+    _arguments '(-h --help)'{-h,--help}'[print the words]' '--version[print the version]' '1:table:_files' '*:rule:' ;;
 esac

@@ -1,14 +1,23 @@
-"""Tests of files over the built program, whose path COLFIND may say:  python3 tools/test_files.py"""
+"""Tests of files beside the built program, whose path COLFIND may say:  python3 tools/test_files.py"""
 
 import contextlib
+import importlib.machinery
+import importlib.util
+import io
 import os
+import random
+import re
+import resource
+import shutil
 import signal
 import subprocess
 import sys
 import tempfile
 import unittest
+from concurrent.futures import ThreadPoolExecutor
+from unittest import mock
 
-from stream_tests import CLOSED, SIGNALS, StreamTests, default_signals
+from stream_tests import CLOSED, LARGE, SIGNALS, StreamTests, default_signals
 
 TOOLS = os.path.dirname(os.path.abspath(__file__))
 TOP = os.path.dirname(TOOLS)
@@ -17,13 +26,20 @@ COLFIND = os.path.abspath(os.environ.get("COLFIND", os.path.join(TOP, "crates", 
 LETTERS = os.path.join(TOP, "docs", "example", "letters.txt")
 TABLE = ["--table", LETTERS, "--strength", "1"]
 NOBODY = 65534
+NOT_UTF_8 = b": the text is not UTF-8 here, or ends amid a character"
+
+
+def module():
+    """The script as a module."""
+    loader = importlib.machinery.SourceFileLoader("files", FILES)
+    made = importlib.util.module_from_spec(importlib.util.spec_from_loader("files", loader))
+    loader.exec_module(made)
+    return made
 
 
 class FilesTest(StreamTests, unittest.TestCase):
     script = FILES
     usages = ["    colfind-files [OPTION..]", "| colfind-files --from0", "as colfind-show does"]
-    environment = {**os.environ, "COLFIND": COLFIND}
-
     def printing(self):
         path = self.write("printing", "resume\n" * 1_000)
         words = [FILES, *TABLE]
@@ -46,12 +62,12 @@ class FilesTest(StreamTests, unittest.TestCase):
 
     def answer(self, *words, given=b"", **extra):
         """The status, what is printed and what is complained of."""
-        environment = {**os.environ, "COLFIND": COLFIND, **extra.pop("env", {})}
-        ran = subprocess.run([FILES, *words], cwd=self.folder, input=given, capture_output=True, env=environment, check=False, **extra)
+        ran = subprocess.run([FILES, *words], cwd=self.folder, input=given, capture_output=True, check=False, **extra)
         return ran.returncode, ran.stdout, ran.stderr
 
     def test_names_with_any_bytes(self):
-        for name in [b"a&b.txt", b"a|b.txt", b"a b.txt", b"a\nb.txt", b"a\\1b.txt", b"a'\"$b.txt", b"caf\xe9.txt", b"-a.txt", b"--.txt"]:
+        names = [b"a&b.txt", b"a|b.txt", b"a b.txt", b"%d%s%%.txt"]
+        for name in [*names, b"a\nb.txt", b"a\\1b.txt", b"a'\"$b.txt", b"caf\xe9.txt", b"-a.txt", b"--.txt"]:
             self.write(name, "my résumé")
             for words in (["resume", "--", name], ["--", "resume", name], ["--jobs=2", "resume", b"./" + name]):
                 wanted = words[-1] + b":3:11\n"
@@ -85,7 +101,7 @@ class FilesTest(StreamTests, unittest.TestCase):
     def test_text_that_is_not_utf_8(self):
         self.write("latin1", b"resume, r\xe9sum\xe9\n")
         self.write("good", "resume\n")
-        complaint = b"latin1: colfind: fault 31 at 9\n"
+        complaint = b"latin1: colfind: fault 31 at 9" + NOT_UTF_8 + b"\n"
         for jobs in ("1", "3"):
             printed = b"good:0:6\nlatin1:0:6\ngood:0:6\n"
             self.assertEqual(self.answer(*TABLE, "-j", jobs, "resume", "good", "latin1", "good"), (2, printed, complaint))
@@ -93,12 +109,14 @@ class FilesTest(StreamTests, unittest.TestCase):
             words = ["--show", "--no-name", "-j", jobs, "resume", "good", "latin1", "good"]
             self.assertEqual(self.answer(*TABLE, *words), (2, printed, complaint))
         self.write("bad", b"\xff")
-        self.assertEqual(self.answer(*TABLE, "--show", "resume", "bad"), (2, b"", b"bad: colfind: fault 31 at 0\n"))
+        self.assertEqual(self.answer(*TABLE, "--show", "resume", "bad"), (2, b"", b"bad: colfind: fault 31 at 0" + NOT_UTF_8 + b"\n"))
+        self.assertEqual(self.answer(*TABLE, "--output=count", "-Z", "resume", "latin1")[:2], (2, b"latin1\x001\n"))
 
     def test_folder_and_no_file(self):
         os.mkdir(os.path.join(self.folder, b"folder"))
         self.write("good", "resume\n")
-        complaints = b"folder: colfind: fault 41 at 0\nmissing: colfind: fault 41 at 0 (No such file or directory)\n"
+        complaints = (b"folder: colfind: fault 41 at 0 (Is a directory)\n"
+                      b"missing: colfind: fault 41 at 0 (No such file or directory)\n")
         self.assertEqual(self.answer(*TABLE, "resume", "folder", "missing", "good"), (2, b"good:0:6\n", complaints))
         self.assertEqual(self.answer(*TABLE, "--show", "resume", "folder", "missing", "good"), (2, b"good:[resume]\n", complaints))
 
@@ -108,7 +126,7 @@ class FilesTest(StreamTests, unittest.TestCase):
         self.write("good", "resume\n")
         extra = {}
         if os.geteuid() == 0:
-            extra = {"user": NOBODY, "group": NOBODY, "extra_groups": [], "env": {"PATH": "/usr/bin:/bin"}}
+            extra = {"user": NOBODY, "group": NOBODY, "extra_groups": [], "env": {**os.environ, "PATH": "/usr/bin:/bin"}}
             tried = subprocess.run(["/usr/bin/python3", FILES, "--help"], capture_output=True, check=False, user=NOBODY)
             if tried.returncode or not os.path.exists("/usr/bin/python3"):
                 self.skipTest("no other user can read the script")
@@ -120,12 +138,18 @@ class FilesTest(StreamTests, unittest.TestCase):
         self.write("one", "resume")
         self.write("two", "resume")
         for words, line in [
-            (["--table", "missing", "resume"], b"colfind: fault 43 at 0\n"),
-            (["--table", LETTERS, "--tailor", "missing", "resume"], b"colfind: fault 44 at 0\n"),
-            (["--table", "one", "resume"], b"colfind: fault 1 at 1\n"),
-            ([*TABLE, ""], b"colfind: fault 22 at 0\n"),
-            (["resume"], b"colfind: usage\n"),
-            ([*TABLE, "--strength", "1", "resume"], b"colfind: usage\n"),
+            (["--table", "missing", "resume"], b"colfind: fault 43 at 0 (No such file or directory)\n"),
+            (["--table", ".", "resume"], b"colfind: fault 43 at 0 (Is a directory)\n"),
+            (["--table", LETTERS, "--tailor", "missing", "resume"], b"colfind: fault 44 at 0 (No such file or directory)\n"),
+            (["--table", "one", "resume"], b"colfind: fault 1 at 1: a line of the table file is malformed\n"),
+            (["--table", LETTERS, "--tailor=one", "resume"],
+             b"colfind: fault 61 at 1: in the tailor, a line of the table file is malformed\n"),
+            ([*TABLE, ""], b"colfind: fault 22 at 0: the pattern has nothing that counts at this strength\n"),
+            *((words, b"colfind: usage\n") for words in [
+                ["resume"], [*TABLE, "--strength", "1", "resume"], ["--table", LETTERS, "--strength=4", "resume"],
+                [*TABLE, "--variable=none", "resume"], [*TABLE, "--select=", "resume"], [*TABLE, b"r\xe9sum\xe9"],
+                ["--table", b"\xff", "resume"], [*TABLE, b"--tailor=\xff", "resume"],
+            ]),
         ]:
             for options in [], ["-j", "2"], ["--show"], ["--show", "-j9"]:
                 self.assertEqual(self.answer(*options, *words, "one", "two"), (2, b"", line))
@@ -141,17 +165,35 @@ class FilesTest(StreamTests, unittest.TestCase):
 
     def test_lines_that_are_gone(self):
         """A file that gets shorter while it is searched, here at once, has no lines to show."""
-        self.write("one", "resume")
-        colfind = self.write("colfind", "#!/bin/sh\n: > one\necho 0:6\n")
-        os.chmod(colfind, 0o755)
-        answer = self.answer(*TABLE, "--show", "resume", "one", env={"COLFIND": os.fsdecode(colfind)})
-        self.assertEqual(answer, (2, b"", b"one: show: not in the file: 0:6\n"))
+        path, files = self.write("one", "resume"), module()
+        words = files.Words([*TABLE, "--show", "resume", "one"])
+        sought = files.Sought(words, files.library())
 
-    def test_no_program(self):
+        class Search:
+            @staticmethod
+            def feed(_):
+                os.truncate(path, 0)
+                return iter([(0, 6)])
+        out = mock.Mock(wraps=io.BytesIO())
+        with mock.patch.object(sought, "search", Search):
+            self.assertEqual(files.search_file(sought, path, out), (2, b"show: not in the file: 0:6"))
+        out.write.assert_not_called()
+
+    def test_no_library(self):
+        """One line, and none of Python's own. A file that is no library stands for it, where the system has one."""
         self.write("one", "resume")
-        status, printed, complained = self.answer(*TABLE, "resume", "one", env={"COLFIND": "/none"})
-        self.assertEqual((status, printed), (2, b""))
-        self.assertIn(b"/none", complained)
+        for name in "bin", "lib/colfind":
+            os.makedirs(os.path.join(self.folder, name.encode()))
+        for name in "show", "files":
+            shutil.copy(os.path.join(TOOLS, name), os.path.join(self.folder, b"bin", f"colfind-{name}".encode()))
+        shutil.copy(os.path.join(TOP, "examples/python/colfind.py"), os.path.join(self.folder, b"lib/colfind/colfind.py"))
+        self.write("lib/colfind/libcolfind.so.1", "")
+        called = os.path.join(self.folder, b"bin/colfind-files")
+        status, printed, complained = self.ran([called, *TABLE, "resume", "one"], cwd=self.folder)
+        self.assertEqual((status, printed, complained.count(b"\n")), (2, b"", 1))
+        self.assertIn(b"colfind-files: the library of colfind can't be loaded: ", complained)
+        self.assertEqual(self.ran([called, "--version"])[::2], (0, b""))
+        self.assertEqual(sorted(os.listdir(os.path.join(self.folder, b"lib/colfind"))), [b"colfind.py", b"libcolfind.so.1"])
 
     def test_much_output(self):
         self.write("a", "a" * 100_000)
@@ -162,7 +204,7 @@ class FilesTest(StreamTests, unittest.TestCase):
     def test_reader_that_ends(self):
         self.write("a", "a" * 300_000)
         words = [FILES, *TABLE, "a", "a", "a"]
-        with subprocess.Popen(words, cwd=self.folder, stdout=subprocess.PIPE, env={**os.environ, "COLFIND": COLFIND}) as ran:
+        with subprocess.Popen(words, cwd=self.folder, stdout=subprocess.PIPE) as ran:
             self.assertEqual(ran.stdout.readline(), b"a:0:1\n")
             ran.stdout.close()
             self.assertNotIn(ran.wait(60), (0, 1))
@@ -210,76 +252,169 @@ class FilesTest(StreamTests, unittest.TestCase):
         wanted = b"".join(b"long:" + line + b"\n" for line in marked.split(b"\n") if b"a" in line)
         self.assertEqual(self.answer(*TABLE, "--show", "a", "long"), (0, wanted, b""))
 
-    @contextlib.contextmanager
-    def held(self, lines, *options, jobs=1, **extra):
-        """A search by programs that stand for colfind: each prints a number of lines and then sleeps. Behind the `with` they have ended."""
-        stream = os.path.join(self.folder, b"stream")
-        os.mkfifo(stream)
-        program = self.write("program", (
-            f"#!/bin/sh\nexec 9> '{os.fsdecode(stream)}'\necho begun >&9\nyes 0:6 | head -n {lines}\nexec sleep 90\n"))
-        os.chmod(program, 0o755)
-        words = [FILES, *TABLE, f"--jobs={jobs}", *options, "resume", *[self.write("one", "resume")] * 9]
-        extra = {"stdin": subprocess.DEVNULL, "stderr": subprocess.PIPE, "preexec_fn": default_signals, **extra}
-        with open(os.open(stream, os.O_RDONLY | os.O_NONBLOCK), "rb", buffering=0) as alive:
-            with subprocess.Popen(words, env={**os.environ, "COLFIND": os.fsdecode(program)}, **extra) as child:
-                try:
-                    begun = 0
-                    while begun < jobs and (lines := self.line_of(alive)):  # there are none where it has already ended them
-                        begun += lines.count(b"\n")
-                    yield child
-                finally:
-                    child.kill()
-            self.assertEqual(self.line_of(alive), b"")
-        os.unlink(stream)
+    def test_temporary_file_that_fails(self):
+        with self.fifo(), ThreadPoolExecutor() as pool:
+            pool.submit(self.write, "fifo", "my resume\n" * 10_000)
+            limit = {"preexec_fn": lambda: resource.setrlimit(resource.RLIMIT_FSIZE, (1_000, 1_000))}
+            answer = self.answer(*TABLE, "--show", "resume", "fifo", timeout=60, **limit)
+            self.assertEqual(answer, (2, b"", self.complaint(f"temporary file: {LARGE}")))
 
-    def test_interrupt_ends_all_processes(self):
+    def test_one_line_with_many_ranges(self):
+        count = 200_000
+        self.write("long", "a" * count)
+        self.assertEqual(self.answer(*TABLE, "--show", "-n", "a", "long"), (0, b"long:1:" + b"[a]" * count + b"\n", b""))
+        lines = b"".join(b"long:[%d\nlong:]%d\n" % (at, at + 1) for at in range(count))
+        self.assertEqual(self.answer(*TABLE, "--output=marks", "a", "long"), (0, lines, b""))
+
+    def test_as_the_program(self):
+        """Random texts in many files, each beside what the program prints of it."""
+        rng = random.Random(1)
+        parts = ["resume", "r\u00e9sum\u00e9", "re\u0301sume\u0301", "a", "aa", " ", "-", "e\u0301", "\n", "x" * 70_000, "\u6f22"]
+        names = [f"text {number}" for number in range(20)]
+        for name in names:
+            text = "".join(rng.choice(parts) for _ in range(rng.randrange(60))).encode()
+            self.write(name, text + rng.choice([b"", b"", b"", b"\xff", b"\xc3", "e\u0301".encode() + b"\xcc\x81" * 31]))
+        for number in range(40):
+            options = ["--table", LETTERS, f"--strength={rng.choice('123')}"]
+            options += rng.choice([[], ["--output=marks"], ["--output=count"], ["--output=ranges"]])
+            options += rng.choice([[], ["--select=chain"]]) + rng.choice([[], ["--variable=shifted"]])
+            options += ["--", rng.choice(["resume", "aa", "r\u00e9sum\u00e9", "a", "e res"])]
+            wanted, statuses, faults = b"", set(), []
+            for name in names:
+                with open(os.path.join(self.folder, name.encode()), "rb") as text:
+                    ran = subprocess.run([COLFIND, *options], stdin=text, capture_output=True, check=False)
+                wanted += b"".join(name.encode() + b":" + line + b"\n" for line in ran.stdout.splitlines())
+                statuses.add(ran.returncode)
+                faults += [name.encode() + b": " + line for line in ran.stderr.splitlines()]
+            status, printed, complained = self.answer(*(["-j3"] if number % 2 else []), *options, *names)
+            self.assertEqual((status, printed), (2 if 2 in statuses else min(statuses), wanted), options)
+            self.assertEqual([re.match(rb".* at \d+", line)[0] for line in complained.splitlines()], faults)
+
+    @contextlib.contextmanager
+    def fifo(self):
+        """A FIFO, and at the end of the `with` it is gone. Its other end is opened without a wait."""
+        path = os.path.join(self.folder, b"fifo")
+        os.mkfifo(path)
+        try:
+            yield path
+        finally:
+            os.unlink(path)
+
+    def test_fifo(self):
+        for options, printed in ([], b"fifo:3:9\nfifo:10:16\n"), (["--show", "-n"], b"fifo:1:my [resume]\nfifo:2:[resume]\n"):
+            for jobs in "1", "2":
+                with self.fifo(), ThreadPoolExecutor() as pool:
+                    writer = pool.submit(self.write, "fifo", "my resume\nresume\n" + "x\n" * 100_000)
+                    answer = self.answer(*TABLE, *options, "-j", jobs, "resume", "fifo", timeout=60)
+                    writer.result()
+                    self.assertEqual(answer, (0, printed, b""))
+
+    def test_fifo_that_nobody_writes(self):
+        self.write("one", "resume")
+        for options, printed in ([], b"one:0:6\n"), (["--show"], b"one:[resume]\n"), (["-j3"], b"one:0:6\n"):
+            with self.fifo():
+                complaint = b"fifo: colfind: fault 41 at 0 (no process writes to it)\n"
+                self.assertEqual(self.answer(*TABLE, *options, "resume", "fifo", "one", timeout=60), (2, printed, complaint))
+
+    def test_fifo_without_a_byte(self):
+        with self.fifo(), ThreadPoolExecutor() as pool:
+            pool.submit(self.write, "fifo", "")
+            self.assertEqual(self.answer(*TABLE, "--show", "resume", "fifo", timeout=60), (1, b"", b""))
+
+    @contextlib.contextmanager
+    def waiting(self, *words, given=b"", **extra):
+        """A search that reads a FIFO, and what is written there."""
+        extra = {"stdout": subprocess.PIPE, "stderr": subprocess.PIPE, "preexec_fn": default_signals, **extra}
+        with self.fifo() as path, subprocess.Popen([FILES, *TABLE, *words], cwd=self.folder, stdin=subprocess.DEVNULL, **extra) as child:
+            with open(path, "r+b", buffering=0) as stream:  # as a reader too, so that it is opened at once
+                try:
+                    stream.write(given)
+                    yield child, stream
+                finally:
+                    stream.close()
+                    child.kill()
+
+    def test_prints_as_ranges_come(self):
+        for options, head in ([], b"3:9\n"), (["--show"], b"my [resume]\n"), (["-j2", "--show"], b"my [resume]\n"):
+            with self.waiting(*options, "resume", "fifo", given=b"my resume\nxx") as (child, stream):
+                self.assertEqual(self.line_of(child.stdout), b"fifo:" + head)
+                stream.close()
+                self.assertEqual((child.wait(60), child.stdout.read(), child.stderr.read()), (0, b"", b""))
+
+    def test_interrupt(self):
         for number in SIGNALS:
-            for options, jobs in ([], 1), (["--show"], 1), (["--show"], 3):
-                with self.held(0, *options, jobs=jobs) as child:
+            for options in [], ["--show"], ["-j3"]:
+                with self.waiting(*options, "resume", "fifo", "none", given=b"resume\nxx") as (child, _):
+                    self.line_of(child.stdout)
                     self.interrupted(child, number)
 
     def test_signals_that_are_ignored(self):
         """As nohup has SIGHUP ignored, and a shell SIGINT for what it starts in the background."""
-        program = self.write("program", "#!/bin/sh\nkill -INT $PPID\nkill -TERM $PPID\nkill -HUP $PPID\necho 0:6\n")
-        os.chmod(program, 0o755)
-        path = self.write("one", "resume")
-        answer = self.ran(
-            [FILES, *TABLE, "resume", path], env={**os.environ, "COLFIND": os.fsdecode(program)},
-            preexec_fn=lambda: [signal.signal(number, signal.SIG_IGN) for number in SIGNALS])
-        self.assertEqual(answer, (0, path + b":0:6\n", b""))
+        ignore = {"preexec_fn": lambda: [signal.signal(number, signal.SIG_IGN) for number in SIGNALS]}
+        with self.waiting("resume", "fifo", given=b"resume\nxx", **ignore) as (child, stream):
+            self.assertEqual(self.line_of(child.stdout), b"fifo:0:6\n")
+            for number in SIGNALS:
+                child.send_signal(number)
+            stream.write(b" resume\n")
+            stream.close()
+            self.assertEqual((child.wait(60), child.stdout.read(), child.stderr.read()), (0, b"fifo:10:16\n", b""))
 
-    def test_output_that_fails_ends_all_processes(self):
-        with open("/dev/full", "wb") as full:
-            for jobs in 1, 2:
-                with self.held(50_000, jobs=jobs, stdout=full) as child:
-                    complaint = self.complaint("standard output: No space left on device")
-                    self.assertEqual((child.wait(60), child.stderr.read()), (2, complaint))
+    def test_output_that_fails_while_others_wait(self):
+        one = self.write("one", "resume\n" * 50_000)
+        with open("/dev/full", "wb") as full, self.waiting("-j3", "resume", one, "fifo", one, stdout=full) as (child, _):
+            complaint = self.complaint("standard output: No space left on device")
+            self.assertEqual((child.wait(60), child.stderr.read()), (2, complaint))
 
-    def test_reader_that_has_ended_ends_all_processes(self):
-        with self.held(50_000, jobs=2, stdout=subprocess.PIPE) as child:
+    def test_reader_that_ends_while_others_wait(self):
+        one = self.write("one", "resume\n" * 50_000)
+        with self.waiting("-j3", "resume", one, "fifo", one) as (child, _):
             child.stdout.close()
             self.assertEqual((child.wait(60), child.stderr.read()), (-signal.SIGPIPE, b""))
 
-    def test_interrupt_while_a_process_is_started(self):
-        """A Popen that answers late: the process is known only behind the signal. Output that stays open would end no read."""
+    def test_files_that_do_not_say_their_size(self):
+        with open("/proc/cpuinfo", "rb") as file:
+            wanted = [line for line in file.read().splitlines() if b"processor" in line]
+        status, printed, complained = self.answer("--table", LETTERS, "--show", "--mark=none", "--no-name", "processor", "/proc/cpuinfo")
+        self.assertEqual((status, printed.splitlines(), complained), (0, wanted, b""))
+
+    def events(self, *words):
+        """What an answer is, and what the process did of what Python tells: the files that it opened, and the processes."""
         script = f"""
-import importlib.machinery, importlib.util, os, signal, subprocess
-loader = importlib.machinery.SourceFileLoader("files", {FILES!r})
-files = importlib.util.module_from_spec(importlib.util.spec_from_loader("files", loader))
-loader.exec_module(files)
-class Late(subprocess.Popen):
-    def __init__(self, *words, **extra):
-        super().__init__(*words, **extra)
-        os.kill(os.getpid(), signal.SIGINT)
-        print("known late", flush=True)
-subprocess.Popen = Late
-files.Children().start(["sleep", "90"])
-print("not ended", flush=True)
+import os, runpy, sys
+log = os.open({os.path.join(os.fsdecode(self.folder), 'events')!r}, os.O_WRONLY | os.O_CREAT | os.O_TRUNC)
+TOLD = ("open", "subprocess.Popen", "os.fork", "os.forkpty", "os.exec", "os.posix_spawn", "os.system")
+sys.addaudithook(lambda name, values: name in TOLD and os.write(log, f"{{name}} {{values[0]!r}}\\n".encode()))
+sys.argv = {[FILES, *words]!r}
+runpy.run_path({FILES!r}, run_name="__main__")
 """
-        self.assertEqual(self.ran([sys.executable, "-c", script], preexec_fn=default_signals), (-signal.SIGINT, b"known late\n", b""))
+        answer = self.ran([sys.executable, "-c", script], cwd=self.folder)
+        with open(os.path.join(self.folder, b"events"), encoding="utf-8") as log:
+            return answer, log.read().splitlines()
+
+    def test_one_process_that_reads_the_table_once(self):
+        for name in "one", "two", "three":
+            self.write(name, "resume")
+        for options in [], ["--show"], ["-j2"]:
+            answer, events = self.events(*TABLE, *options, "nothing", "one", "two", "three")
+            self.assertEqual(answer, (1, b"", b""))
+            self.assertEqual([event for event in events if not event.startswith("open ")], [])
+            self.assertEqual(len([event for event in events if LETTERS in event]), 1, events)
+            self.assertTrue([event for event in events if "'three'" in event])
+
+    def test_memory(self):
+        """It does not grow with the text, nor with the ranges that are printed."""
+        os.truncate(self.write("zeros", ""), 200_000_000)
+        self.write("many", "a" * 2_000_000 + "\n")
+        for words in ["a", "zeros"], ["--show", "a", "zeros"], ["-j2", "--output=marks", "a", "many", "many", "many"]:
+            with subprocess.Popen([FILES, *TABLE, *words], cwd=self.folder, stdout=subprocess.DEVNULL) as child:
+                _, status, used = os.wait4(child.pid, 0)
+                child.returncode = os.waitstatus_to_exitcode(status)
+            self.assertEqual(child.returncode, 0 if "many" in words else 1)
+            self.assertLess(used.ru_maxrss, 90_000)  # with what the process has of this one, from which it is made
 
 
 if __name__ == "__main__":
     if not os.path.exists(COLFIND):
         sys.exit(f"there is no {COLFIND}: run `rt run` in crates/colfind")
+    subprocess.run([os.path.join(TOP, "examples", "python", "build")], check=True)
     unittest.main()

@@ -4,6 +4,7 @@ import importlib.machinery
 import importlib.util
 import os
 import pty
+import random
 import signal
 import subprocess
 import tempfile
@@ -25,7 +26,7 @@ def module():
 
 
 def common_lines(name):
-    """The lines that show, files and tailor have in common."""
+    """The lines that show and tailor have in common."""
     with open(os.path.join(TOOLS, name), encoding="utf-8") as script:
         return script.read().split("# ----")[1]
 
@@ -221,9 +222,8 @@ class ShowTest(StreamTests, unittest.TestCase):
         self.prints(f"{first}\n{second}\nc", ranges, "1:" + wanted, "-n")
         self.prints(f"{first}\n{second}\nc", ranges.replace("199998:", "200001:"), wanted.replace("[ä\n2:bb]", "ä\n[bb]"))
 
-    def test_lines_of_the_three_scripts_are_the_same(self):
+    def test_lines_of_two_scripts_are_the_same(self):
         self.assertIn("def run(work):", common_lines("show"))
-        self.assertEqual(common_lines("show"), common_lines("files"))
         self.assertEqual(common_lines("show"), common_lines("tailor"))
 
     def test_steps_of_a_long_line(self):
@@ -256,6 +256,29 @@ class ShowTest(StreamTests, unittest.TestCase):
         text.file.close()
         self.assertEqual(b"".join(written), b"a" * length + b"\n")
         self.assertLess(sum(looked), 6 * length)
+
+    def test_sorted_ranges(self):
+        """Where ranges come in order some alone are held, and what is printed is the same."""
+        show, rng = module(), random.Random(1)
+        for _ in range(100):
+            path, end, ranges = self.file("".join(rng.choice("ab\n") for _ in range(60))), 0, []
+            for start in sorted(rng.sample(range(56), rng.randrange(1, 50))):
+                end = max(end, start + rng.randrange(5))
+                ranges.append((start, end))
+            for name, has_numbers in (b"", False), (b"name:", False), (b"name:", True):
+                printed, marks = [], rng.choice([*show.MARKS.values()])
+                for are_sorted in False, True:
+                    text, written = show.Text(path), []
+                    shower = show.Shower(text, marks, name, has_numbers, are_sorted)
+                    shower.write = written.append
+                    with mock.patch.object(show, "MOST_NUMBERS", 6):
+                        for one in ranges:
+                            shower.put(*one)
+                            self.assertLessEqual(len(shower.waiting.ranges), 6 if are_sorted else 2 * len(ranges))
+                        shower.print()
+                    text.file.close()
+                    printed.append(b"".join(written))
+                self.assertEqual(printed[0], printed[1])
 
     def test_memory_for_a_long_line(self):
         """What the man page says: some 20 MB, and 16 bytes a range."""
