@@ -78,7 +78,8 @@ enum colfind_kind {
     COLFIND_BAD_ARGUMENT = 85  /* a number that is none of the ones below, a pattern that is no UTF-8, or an offset behind the text */
 };
 /* With 14, 24, 36, 53 and 81 memory was refused: all handles are as they were, and the call can be made again. So they are with each other
- * fault, but for a search that was fed a fault of its text, or 51 by colfind_feed. */
+ * fault, but for a search that was fed a fault of its text, or 51 by colfind_feed. colfind_all_in gives up what was fed before in each case
+ * but 82 and 83. */
 
 enum { COLFIND_ALL = 0, COLFIND_CHAIN = 1 };             /* selection: all minimal matches, or a chain that do not overlap */
 enum { COLFIND_NON_IGNORABLE = 0, COLFIND_SHIFTED = 1 }; /* variable weighting */
@@ -136,13 +137,14 @@ colfind_first colfind_index_from(colfind_handle *pattern, const uint8_t *text, s
  * characters, it goes on without. What the search was fed is given up, with the ranges that wait; then it is at the beginning of a text. */
 colfind_first colfind_first_in(colfind_handle *search, const uint8_t *text, size_t n, size_t from);
 
-/* Whether a text in memory has a range, by a search that was made before: 1 or 0, or the number of the fault before it. */
+/* Whether a text in memory has a range, by a search that was made before: 1 or 0, or the number of the fault before it. What the search was
+ * fed is given up, as by colfind_first_in. */
 uint32_t colfind_has(colfind_handle *search, const uint8_t *text, size_t n);
 
 /* All ranges of a text in memory, by a search that was made before, for many texts; of one for a chain, the chain. With a fault of the text
  * they are those before it. Where there are more than have room, the first of them are written, and 84 and `count` say how many there are.
- * Memory is asked for as by colfind_feed; where it is refused, 81, nothing is written. What the search was fed is given up, with the ranges
- * that wait; then it is at the beginning of a text. */
+ * Memory is asked for as by colfind_feed, for all ranges of the text, and kept for the next one; where it is refused, 81, nothing is written.
+ * What the search was fed is given up, with the ranges that wait; then it is at the beginning of a text. */
 typedef struct { colfind_status status; size_t count; } colfind_all;
 colfind_all colfind_all_in(colfind_handle *search, const uint8_t *text, size_t n, colfind_range *out, size_t room);
 
