@@ -47,15 +47,22 @@ local function fill()
   vim.cmd('redraw')
 end
 
--- The least of the longest times, of several searches of a buffer, in which no key is served.
-local function longest_wait(pattern)
+-- The processor time of Neovim.
+local function worked()
+  local usage = vim.loop.getrusage()
+  return (usage.utime.sec + usage.stime.sec) * 1000 + (usage.utime.usec + usage.stime.usec) / 1000
+end
+
+-- The least, of several searches of a buffer, of the most work between two calls of a timer: so long a key waits. It is counted as processor
+-- time, for in each search another program may have its turn.
+local function longest_piece(pattern)
   local found = math.huge
   for _ = 1, 5 do
     vim.cmd('Colfind! x')
     vim.cmd('Colfind! ' .. pattern)
-    local timer, last, most = vim.loop.new_timer(), now(), 0
+    local timer, last, most = vim.loop.new_timer(), worked(), 0
     timer:start(0, 1, function()
-      most, last = math.max(most, now() - last), now()
+      most, last = math.max(most, worked() - last), worked()
     end)
     T.finished()
     timer:close()
@@ -89,16 +96,12 @@ end)
 T.test('a search of 5 MB', function()
   T.with_cldr()
   fill()
-  below(MOST, 'a piece', longest_wait('resume'))
-  local whole = math.huge
-  for _ = 1, 3 do
-    vim.cmd('Colfind! x')
-    whole = math.min(whole, least(1, function()
-      vim.cmd('Colfind! resume')
-      T.finished()
-    end))
-  end
-  below(1000, 'a whole search', whole)
+  below(MOST, 'a piece', longest_piece('resume'))
+  vim.cmd('Colfind! x')
+  local began = worked()
+  vim.cmd('Colfind! resume')
+  T.finished()
+  below(1000, 'a whole search', worked() - began)
   T.same('the ranges', T.ranges(T.finished()), T.program_finds('resume', '--strength', '1'))
 end)
 
@@ -122,7 +125,7 @@ T.test('5 MB in one line', function()
   T.same('the front', vim.list_slice(T.marked(1)[1], 1, 4), { 'e', 'e', 'e', 'e' })
   vim.cmd('normal! $')
   T.same('the end', vim.list_slice(T.marked(vim.fn.winline())[1], 1, 1), { 'e' })
-  below(10 * MOST, 'a piece', longest_wait('e'))
+  below(10 * MOST, 'a piece', longest_piece('e'))
 end)
 
 T.done()

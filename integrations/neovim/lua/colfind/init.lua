@@ -33,7 +33,11 @@ end
 local function go(direction, count)
   local scan = marks.scan(api.nvim_get_current_buf())
   local said, highlight = jump.jump(scan, direction, count, current.text)
-  if not told_fault(scan) then
+  if not said then
+    vim.schedule(function() -- until then Neovim shows nothing
+      say.say('Interrupted', 'WarningMsg')
+    end)
+  elseif not told_fault(scan) then
     say.say(said, highlight)
   end
 end
@@ -110,6 +114,9 @@ function M.typed()
   preview = preview or { view = vim.fn.winsaveview(), buf = api.nvim_get_current_buf() }
   preview.text, preview.stays, preview.is_there = text, bang == '!', false
   preview.pattern = text and text ~= '' and library.pattern(text, current) or nil
+  if text == '' then
+    library.prepare()
+  end
   vim.fn.winrestview(preview.view)
   marks.show(preview.pattern or not text and is_shown and current or nil)
   vim.cmd('redraw')

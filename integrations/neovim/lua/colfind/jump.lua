@@ -20,8 +20,12 @@ local function place_of(buf, offset)
 end
 M.place_of = place_of
 
+-- The row and column of the cursor. While commands of Neovim's words are run it stands before the first line.
 local function cursor()
   local place = api.nvim_win_get_cursor(0)
+  if place[1] == 0 then
+    return 0, -1
+  end
   return place[1] - 1, place[2]
 end
 
@@ -82,10 +86,10 @@ function M.next_known(scan)
   return scan.is_finished and scan.stream.count > 0 and vim.o.wrapscan and 0 or nil
 end
 
--- Jumps `count` matches forward (1) or backward (-1): what there is to say, and its highlighting.
+-- Jumps `count` matches forward (1) or backward (-1): what there is to say, and its highlighting; nothing where CTRL-C has ended it.
 function M.jump(scan, direction, count, text)
   if not scans.finish(scan, function() return is_known(scan, direction, count) end) then
-    return 'Interrupted', 'WarningMsg'
+    return nil
   end
   if scan.stream.count == 0 then
     return 'E486: Pattern not found: ' .. text, 'ErrorMsg'

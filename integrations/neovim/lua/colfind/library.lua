@@ -114,6 +114,15 @@ function M.settings()
   return got
 end
 
+-- Reads the table, if it was not read, so that the first pattern need not wait for it.
+function M.prepare()
+  local settings = M.settings()
+  local C = settings and library(settings.library)
+  if C then
+    table_of(C, settings)
+  end
+end
+
 local latest -- the pattern that was made last
 
 -- The pattern of a text under the options. That which is given, or was made last, is given back where it is the same.

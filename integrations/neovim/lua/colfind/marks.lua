@@ -127,9 +127,11 @@ end
 function M.redraw()
   for _, win in ipairs(api.nvim_tabpage_list_wins(0)) do
     local buf = api.nvim_win_get_buf(win)
-    local last = api.nvim_buf_line_count(buf) - 1
-    api.nvim_buf_set_extmark(buf, TOUCHED, 0, 0, { end_row = last, end_col = 0, hl_group = 'Colfind' })
-    api.nvim_buf_clear_namespace(buf, TOUCHED, 0, -1)
+    local last = api.nvim_buf_line_count(buf) - 1 -- -1 where it is not loaded yet
+    if last >= 0 then
+      api.nvim_buf_set_extmark(buf, TOUCHED, 0, 0, { end_row = last, end_col = 0, hl_group = 'Colfind' })
+      api.nvim_buf_clear_namespace(buf, TOUCHED, 0, -1)
+    end
   end
 end
 

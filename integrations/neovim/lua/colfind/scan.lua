@@ -108,13 +108,13 @@ function M.finish(scan, condition)
   if not scan.is_finished then
     scan:step(work.deadline()) -- also where the condition holds: most buffers are searched by this
   end
-  local waited = vim.wait(2147483647, function()
+  local waited = vim.fn.wait(2147483647, function() -- vim.wait of 0.7 sees CTRL-C at its end alone
     if not reached() then
       scan:step(work.deadline())
     end
     return reached()
   end, 1)
-  return waited and not scan.is_dropped
+  return waited == 0 and not scan.is_dropped
 end
 
 return M
