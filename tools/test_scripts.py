@@ -1,4 +1,6 @@
-"""Each script is read by its interpreter and each C file by the compiler, and none is run:  python3 tools/test_scripts.py"""
+"""Each script is read by its interpreter and each C file by the compiler, and none is run:  python3 tools/test_scripts.py
+
+The C files of integrations/ need headers of other programs: their checks compile them."""
 
 import os
 import re
@@ -30,7 +32,7 @@ class ScriptsTest(unittest.TestCase):
 
     def reads_c(self, uses_icu):
         for path, kind, text in listed():
-            if kind == "c" and ("#include <unicode/" in text) == uses_icu:
+            if kind == "c" and not path.startswith("integrations/") and ("#include <unicode/" in text) == uses_icu:
                 with self.subTest(path):
                     self.reads("cc", "-std=gnu11", "-Wall", "-Wextra", "-Werror", "-fsyntax-only", path)
 
