@@ -63,6 +63,14 @@ T.test('a buffer that changes', function()
   T.same('emptied', T.marked(1, 2), { {}, {} })
 end)
 
+T.test('signs of the command line are signs of a pattern', function()
+  T.lines('a|b "c", e%', 'a b')
+  for pattern, wanted in pairs({ ['a|b'] = { { 'a|b' }, {} }, ['"c"'] = { { '"c"' }, {} }, ['e%'] = { { 'e%' }, {} }, ['a b'] = { {}, { 'a b' } } }) do
+    vim.cmd('Colfind! ' .. pattern)
+    T.same(pattern, T.marked(1, 2), wanted)
+  end
+end)
+
 T.test('two windows, and two buffers', function()
   T.lines('resume', 'one')
   vim.cmd('Colfind! resume')

@@ -67,6 +67,16 @@ function Scan:known()
   return self.is_finished and math.huge or self.stream.fed - UNSETTLED
 end
 
+-- Lets go of the scans of other patterns, and of buffers that are loaded no more.
+function M.keep(pattern)
+  for buf, scan in pairs(scans) do
+    if scan.pattern ~= pattern or not api.nvim_buf_is_loaded(buf) then
+      scan.stop()
+      scans[buf] = nil
+    end
+  end
+end
+
 -- The scan of a buffer as it is now. `after(scan)` is called after each piece. One of a buffer that has changed begins when that is quiet.
 function M.of(buf, pattern, after, failed)
   local before = scans[buf]
@@ -81,6 +91,7 @@ function M.of(buf, pattern, after, failed)
   if before then
     before.stop()
   end
+  M.keep(pattern)
   made.stop = work.start(function(deadline)
     local more = made.is_finished ~= true and made:step(deadline)
     after(made)
@@ -88,16 +99,6 @@ function M.of(buf, pattern, after, failed)
   end, changed and QUIET or 0, failed)
   scans[buf] = made
   return made
-end
-
--- Lets go of the scans of other patterns, and of buffers that are loaded no more.
-function M.keep(pattern)
-  for buf, scan in pairs(scans) do
-    if scan.pattern ~= pattern or not api.nvim_buf_is_loaded(buf) then
-      scan.stop()
-      scans[buf] = nil
-    end
-  end
 end
 
 -- Searches on now until a condition holds, or the whole buffer is searched; CTRL-C ends that. Whether it was reached.
