@@ -18,6 +18,13 @@ function T.same(what, got, wanted)
   end
 end
 
+-- The same of two long lists, of which the first difference is told.
+function T.same_list(what, got, wanted)
+  for i = 1, math.max(#got, #wanted) do
+    T.same(('%s, of %d not %d, at %d'):format(what, #got, #wanted, i), got[i], wanted[i])
+  end
+end
+
 function T.skip(lack)
   error({ lack = lack }, 0)
 end
@@ -104,15 +111,15 @@ function T.ranges(scan)
   return found
 end
 
--- What the program finds in the text of the current buffer.
-function T.program_finds(pattern, ...)
+-- What the program finds in the text of the current buffer, at strength 1.
+function T.program_finds(pattern)
   if vim.fn.executable(T.program) == 0 then
     T.skip('the built program')
   end
   local name = vim.fn.tempname()
   vim.fn.writefile(api.nvim_buf_get_lines(0, 0, -1, false), name, 'b')
   vim.fn.writefile({ '' }, name, 'ab')
-  local printed = vim.fn.systemlist({ T.program, '--table', vim.g.colfind_table, ..., '--', pattern, name })
+  local printed = vim.fn.systemlist({ T.program, '--table', vim.g.colfind_table, '--strength', '1', '--', pattern, name })
   vim.fn.delete(name)
   return printed
 end

@@ -102,7 +102,7 @@ T.test('a search of 5 MB', function()
   vim.cmd('Colfind! resume')
   T.finished()
   below(1000, 'a whole search', worked() - began)
-  T.same('the ranges', T.ranges(T.finished()), T.program_finds('resume', '--strength', '1'))
+  T.same_list('the ranges', T.ranges(T.finished()), T.program_finds('resume'))
 end)
 
 T.test('a change at the end of 5 MB', function()

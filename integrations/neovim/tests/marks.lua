@@ -139,7 +139,7 @@ T.test('random texts, beside the program', function()
     T.lines(unpack(lines))
     vim.cmd('Colfind! ' .. pattern)
     local early = T.marked(1, 20)
-    T.same('the ranges of ' .. pattern, T.ranges(T.finished()), T.program_finds(pattern, '--strength', '1'))
+    T.same_list('the ranges of ' .. pattern, T.ranges(T.finished()), T.program_finds(pattern))
     T.same('what is marked of ' .. pattern, T.marked(1, 20), early)
   end
 end)
