@@ -97,6 +97,24 @@ T.test('a buffer that is unloaded or wiped while it is searched', function()
   end
 end)
 
+T.test('what fails is told once, and marks no more', function()
+  T.lines('resume', 'resume')
+  local library = require('colfind.library')
+  local all_in = library.all_in
+  library.all_in = function()
+    error('a fault of a test')
+  end
+  vim.cmd('messages clear')
+  vim.cmd('Colfind! resume')
+  T.same('what is marked', T.marked(1, 2), { {}, {} })
+  vim.wait(50)
+  library.all_in = all_in
+  T.same('lines that were said', #T.said(), 1)
+  assert(vim.v.warningmsg:find('^colfind: it has failed, and marks no more: .*a fault of a test$'), vim.v.warningmsg)
+  vim.cmd('Colfind! resume')
+  T.same('what is marked then', T.marked(1, 2), { { 'resume' }, { 'resume' } })
+end)
+
 T.test('long messages ask for no ENTER', function()
   T.lines('resume')
   vim.g.colfind_table = '/none/' .. ('long'):rep(40)
