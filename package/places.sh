@@ -11,12 +11,11 @@ for word; do
     esac
 done
 LIBDIR=${LIBDIR:-$PREFIX/lib}
-case $PACKAGE in
-'' | colfind | libcolfind1 | libcolfind-dev | neovim-colfind) ;;
-*) echo "$(basename "$0"): no package $PACKAGE in files.txt" >&2 && exit 2 ;;
-esac
 case $DESTDIR in '' | /*) ;; *) DESTDIR=$PWD/$DESTDIR ;; esac
 cd "$(dirname "$0")/.." || exit
+if [ -n "$PACKAGE" ] && ! grep -q "^$PACKAGE " package/files.txt; then
+    echo "$(basename "$0"): no package $PACKAGE in files.txt" >&2 && exit 2
+fi
 
 # Calls a command with the package, the mode, the source and the place of each file, of PACKAGE alone where it is given.
 each_file() {
