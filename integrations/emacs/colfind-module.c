@@ -142,7 +142,7 @@ static size_t behind(held *of, colfind_status status, const uint8_t *piece, size
 }
 
 /* (colfind--feed PATTERN STRING IS-LAST): the search for a pattern takes the next piece of its text, of at most MOST characters, and ends
- * it where IS-LAST says so: a list of the ranges (START . END) that became known, the last first, in bytes from where the text was begun. */
+ * it where IS-LAST says so: a list of the ranges (START . END) that became known, the last first, in bytes from where the text begins. */
 static emacs_value feed(emacs_env *env, ptrdiff_t n, emacs_value *args, void *data) {
     (void)n, (void)data;
     static uint8_t piece[4 * MOST + 1];
