@@ -10,7 +10,7 @@ enum { MOST = 65536 };
 
 enum kind { TABLE, PATTERN };
 
-/* What an object of Emacs holds. A pattern has a search, which has taken `fed` bytes; the text that it is in began behind `base` of them. */
+/* What an object of Emacs holds. A pattern has a search, that has taken `fed` bytes, and its text began behind `base` of these. */
 typedef struct { enum kind kind; colfind_handle handle, search; uint64_t fed, base; } held;
 
 static void let_go(void *object) {
@@ -105,7 +105,7 @@ static emacs_value pattern(emacs_env *env, ptrdiff_t n, emacs_value *args, void 
     return result;
 }
 
-/* Has a search begin a text by itself, behind so many bytes. One that was ended is made anew; what another has found of characters stays. */
+/* Has a search begin a text by itself, behind so many bytes. One that was ended is made anew; another keeps what it found of characters. */
 static colfind_status begin_behind(held *of, uint64_t base) {
     colfind_status status = colfind_first_in(&of->search, (const uint8_t *)"", 0, 0).status;
     of->base = base;
@@ -141,8 +141,8 @@ static size_t behind(held *of, colfind_status status, const uint8_t *piece, size
     return status.kind == COLFIND_TEXT_ILL_FORMED || status.kind == COLFIND_TEXT_LONG_RUN ? from : size;
 }
 
-/* (colfind--feed PATTERN STRING IS-LAST): the search for a pattern takes the next piece of its text, of at most MOST characters, and ends it
- * where IS-LAST says so: a list of the ranges (START . END) that became known, the last first, in bytes from where the text was begun. */
+/* (colfind--feed PATTERN STRING IS-LAST): the search for a pattern takes the next piece of its text, of at most MOST characters, and ends
+ * it where IS-LAST says so: a list of the ranges (START . END) that became known, the last first, in bytes from where the text begins. */
 static emacs_value feed(emacs_env *env, ptrdiff_t n, emacs_value *args, void *data) {
     (void)n, (void)data;
     static uint8_t piece[4 * MOST + 1];

@@ -104,8 +104,8 @@
       (delete-file colfind-tailor))))
 
 (ert-deftest colfind-bytes-that-are-no-characters ()
-  (tests-with (concat "resume " (string-to-multibyte "\xff\xe9") " résumé " (string #x110000 #x200000) "re" (string-to-multibyte "\x80") "sume "
-                      (string #xd800) " resume")
+  (tests-with (concat "resume " (string-to-multibyte "\xff\xe9") " résumé " (string #x110000 #x200000)
+                      "re" (string-to-multibyte "\x80") "sume " (string #xd800) " resume")
     (should (equal (tests-all (lambda () (colfind-search-forward "resume" nil t))) '("resume" "résumé" "resume")))
     (should (equal (tests-all (lambda () (colfind-search-backward "resume" nil t))) '("resume" "résumé" "resume"))))
   (tests-with (concat "a" (make-string 70 #x301) " résumé")

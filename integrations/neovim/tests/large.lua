@@ -53,8 +53,8 @@ local function worked()
   return (usage.utime.sec + usage.stime.sec) * 1000 + (usage.utime.usec + usage.stime.usec) / 1000
 end
 
--- The least, of several searches of a buffer, of the most work between two calls of a timer: so long a key waits. It is counted as processor
--- time, for in each search another program may have its turn.
+-- The least, of several searches of a buffer, of the most work between two calls of a timer: so long a key waits. It is counted as
+-- processor time, for in each search another program may have its turn.
 local function longest_piece(pattern)
   local found = math.huge
   for _ = 1, 5 do

@@ -65,7 +65,9 @@ end)
 
 T.test('signs of the command line are signs of a pattern', function()
   T.lines('a|b "c", e%', 'a b')
-  for pattern, wanted in pairs({ ['a|b'] = { { 'a|b' }, {} }, ['"c"'] = { { '"c"' }, {} }, ['e%'] = { { 'e%' }, {} }, ['a b'] = { {}, { 'a b' } } }) do
+  for pattern, wanted in pairs({
+    ['a|b'] = { { 'a|b' }, {} }, ['"c"'] = { { '"c"' }, {} }, ['e%'] = { { 'e%' }, {} }, ['a b'] = { {}, { 'a b' } },
+  }) do
     vim.cmd('Colfind! ' .. pattern)
     T.same(pattern, T.marked(1, 2), wanted)
   end
@@ -126,7 +128,9 @@ end)
 
 T.test('random texts, beside the program', function()
   math.randomseed(82)
-  local parts = { 'resume', 'résumé', 'r' .. E .. 'sum' .. E, 're', 'su', 'm', 'e', E, '\204\129', '\194\173', ' ', '-', 'ch', 'aa', 'Я', '\r' }
+  local parts = {
+    'resume', 'résumé', 'r' .. E .. 'sum' .. E, 're', 'su', 'm', 'e', E, '\204\129', '\194\173', ' ', '-', 'ch', 'aa', 'Я', '\r',
+  }
   for _, pattern in ipairs({ 'resume', 'e', 'aa', 'su', 'e-', 'ch' }) do
     local lines = {}
     for i = 1, 20 do

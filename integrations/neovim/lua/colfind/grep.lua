@@ -116,10 +116,11 @@ local function search_source(pattern, source, list)
   if not text then
     return 0, why
   end
-  local stream, at, piece = library.stream(pattern), 1, nil
+  local stream, at = library.stream(pattern), 1
   while at <= #text do
-    piece, at = next_piece(text, at)
+    local piece, behind = next_piece(text, at)
     stream:feed(piece)
+    at = behind
     coroutine.yield()
   end
   stream:finish()

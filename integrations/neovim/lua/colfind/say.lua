@@ -5,12 +5,13 @@ local M = {}
 -- As much of a text from an end as has so many cells.
 local function part(text, cells, is_end)
   local length = fn.strchars(text)
-  local from, taken = 0, math.min(length, cells)
-  repeat
-    from = is_end and length - taken or 0
-    taken = taken - 1
-  until fn.strdisplaywidth(fn.strcharpart(text, from, taken + 1)) <= cells
-  return fn.strcharpart(text, from, taken + 1)
+  for taken = math.min(length, cells), 1, -1 do
+    local found = fn.strcharpart(text, is_end and length - taken or 0, taken)
+    if fn.strdisplaywidth(found) <= cells then
+      return found
+    end
+  end
+  return ''
 end
 
 -- The text, or both its ends where it has no room in the last line of the screen.
