@@ -1,0 +1,36 @@
+-- What the user is told: one line, cut so that it never asks for ENTER. `v:warningmsg` has all of a fault.
+local fn = vim.fn
+local M = {}
+
+-- As much of a text from an end as has so many cells.
+local function part(text, cells, is_end)
+  local length = fn.strchars(text)
+  for taken = math.min(length, cells), 1, -1 do
+    local found = fn.strcharpart(text, is_end and length - taken or 0, taken)
+    if fn.strdisplaywidth(found) <= cells then
+      return found
+    end
+  end
+  return ''
+end
+
+-- The text, or both its ends where it has no room in the last line of the screen.
+local function cut(text)
+  local room = math.max(20, vim.v.echospace)
+  if fn.strdisplaywidth(text) <= room then
+    return text
+  end
+  local half = math.floor((room - 3) / 2)
+  return part(text, half, false) .. '...' .. part(text, room - 3 - half, true)
+end
+
+function M.say(text, highlight)
+  vim.api.nvim_echo({ { cut(text:gsub('%c', '?')), highlight } }, true, {})
+end
+
+function M.fault(text)
+  vim.v.warningmsg = 'colfind: ' .. text
+  M.say(vim.v.warningmsg, 'WarningMsg')
+end
+
+return M
