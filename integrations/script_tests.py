@@ -13,7 +13,7 @@ import unittest
 
 HERE = os.path.dirname(os.path.abspath(__file__))
 TOP = os.path.dirname(HERE)
-LIBRARY = os.path.join(TOP, "crates", "colfind_c", "out", "libcolfind_c.a")
+BUILT = [os.path.join(TOP, "crates", path) for path in ("colfind/out/colfind", "colfind_c/out/libcolfind_c.a")]
 LETTERS = os.path.join(TOP, "docs", "example", "letters.txt")
 CLDR = "/usr/share/unicode/cldr/common/uca/allkeys_CLDR.txt"
 NO_CLDR = f"there is no {CLDR}: apt-get install unicode-cldr-core"
@@ -22,12 +22,13 @@ sys.path.insert(0, os.path.join(TOP, "tools"))
 
 def installed(name):
     """The path of a script in a folder where it is installed with its module."""
-    if not os.path.exists(LIBRARY):
-        sys.exit(f"there is no {LIBRARY}: run `rt lib` in crates/colfind_c")
+    for path in BUILT:
+        if not os.path.exists(path):
+            sys.exit(f"there is no {path}: package/check built")
     folder = tempfile.TemporaryDirectory()
     atexit.register(folder.cleanup)
     os.chmod(folder.name, 0o755)
-    for package in "python3-colfind", name:
+    for package in "libcolfind1", "colfind", name:
         words = [os.path.join(TOP, "package", "install"), f"PREFIX={folder.name}", f"PACKAGE={package}"]
         subprocess.run(words, check=True)
     return os.path.join(folder.name, "bin", name)

@@ -12,7 +12,7 @@ for word; do
 done
 LIBDIR=${LIBDIR:-$PREFIX/lib}
 case $PACKAGE in
-'' | colfind | libcolfind1 | libcolfind-dev | python3-colfind | colfind-mail | colfind-concordance) ;;
+'' | colfind | libcolfind1 | libcolfind-dev | colfind-mail | colfind-concordance) ;;
 *) echo "$(basename "$0"): no package $PACKAGE in files.txt" >&2 && exit 2 ;;
 esac
 case $DESTDIR in '' | /*) ;; *) DESTDIR=$PWD/$DESTDIR ;; esac
