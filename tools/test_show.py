@@ -225,8 +225,6 @@ class ShowTest(StreamTests, unittest.TestCase):
         self.assertIn("def run(work):", common_lines("show"))
         self.assertEqual(common_lines("show"), common_lines("files"))
         self.assertEqual(common_lines("show"), common_lines("tailor"))
-        for name in "mail", "concordance":
-            self.assertEqual(common_lines("show"), common_lines(f"../integrations/{name}/colfind-{name}"))
 
     def test_steps_of_a_long_line(self):
         """Each byte of a line is looked at some times, however many ranges the line has."""
