@@ -50,7 +50,12 @@ def as_module(script):
 
 
 class ReadmeTests:
-    """Each line `$ COMMAND` of a README prints what is below it, by bash in an empty folder: its output and then its complaints."""
+    """The version is that of the repository, and each line `$ COMMAND` of a README prints what is below it, by bash in an empty folder: its
+    output and then its complaints."""
+
+    def test_version(self):
+        wanted = f"{os.path.basename(self.script)} {self.contents(os.path.join(TOP, 'VERSION'))}"
+        self.assertEqual(self.ran([self.script, "--version"]), (0, wanted.encode(), b""))
 
     @unittest.skipUnless(os.path.exists(CLDR), NO_CLDR)
     def test_readme(self):

@@ -27,9 +27,9 @@ _colfind() {
     -,colfind-files)
         COMPREPLY=($(compgen -W "$search $show --show --no-name --null --from0 --jobs -n -Z -j -h" -- "$word"))
         ;;
-    -,colfind-mail) COMPREPLY=($(compgen -W "$weights --ids --mutt --help -l -h" -- "$word")) ;;
+    -,colfind-mail) COMPREPLY=($(compgen -W "$weights --ids --mutt --help --version -l -h" -- "$word")) ;;
     -,colfind-concordance)
-        COMPREPLY=($(compgen -W "$weights --sort --forms --format --width --from0 --help -h" -- "$word"))
+        COMPREPLY=($(compgen -W "$weights --sort --forms --format --width --from0 --help --version -h" -- "$word"))
         ;;
     -,colfind-tailor) COMPREPLY=($(compgen -W '--help -h' -- "$word")) ;;
     *)

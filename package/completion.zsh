@@ -31,11 +31,13 @@ case $service in
   colfind-mail)
     _arguments $weights '(-l --ids)'{-l,--ids}'[print the message ids alone]' \
       '--mutt[print the commands by which mutt limits its index]' '(-h --help)'{-h,--help}'[print the words]' \
+      '--version[print the version]' \
       '1:pattern:' '*:mailbox:_files' ;;
   colfind-concordance)
     _arguments $weights '--sort=[the order]:order:(text left right)' '--forms[print each form, and how often it was found]' \
       '--format=[the form of the output]:format:(text tsv json)' '--width=[columns of a line]:number:' \
-      '--from0[take the names from standard input]' '(-h --help)'{-h,--help}'[print the words]' '1:pattern:' '*:text:_files' ;;
+      '--from0[take the names from standard input]' '(-h --help)'{-h,--help}'[print the words]' '--version[print the version]' \
+      '1:pattern:' '*:text:_files' ;;
   colfind-tailor)
     _arguments '(-h --help)'{-h,--help}'[print the words]' '1:table:_files' '*:rule:' ;;
 esac
