@@ -64,6 +64,10 @@ class TestTest(unittest.TestCase):
         left = [f"skipped {name}: nothing is built" for name in PARTS[1:]]
         self.prints(["FAILED built", "    rt: no", *left, "0 passed, 1 failed, 6 skipped"], 1, check="echo rt: no\nexit 1\n")
 
+    def test_build_without_end(self):
+        left = [f"skipped {name}: nothing is built" for name in PARTS[1:]]
+        self.prints(["skipped built: no end in 1 seconds", *left, "0 passed, 0 failed, 7 skipped"], 0, "--build", "-5", check="exec sleep 60\n")
+
     def test_gate(self):
         self.prints([*ALL_GOOD, "202 passed, 0 failed, 4 skipped"], 0, "--gate", "0", gate="rt: ok\n191 passed, 0 failed\n")
         left = [f"skipped {name}: the gate failed" for name in PARTS]

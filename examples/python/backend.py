@@ -1,5 +1,6 @@
-"""Makes the package `colfind` of colfind.py, for `pip install .` (PEP 517), by the standard library alone. The file libcolfind.so.1 that
-`./build` makes goes into the package where it is there; else the package loads the one of the system."""
+"""Makes the package `colfind` of colfind.py, for `pip install .` (PEP 517), by the standard library alone. The files that `./build` makes
+go into the package where they are there: libcolfind.so.1, else the package loads the one of the system, and many_texts.so, else it calls
+that for each text."""
 from __future__ import annotations
 
 import base64
@@ -29,13 +30,12 @@ def _record(name: str, data: bytes) -> str:
 
 def build_wheel(wheel_directory: str, config_settings: object = None, metadata_directory: object = None) -> str:
     """Writes the wheel into a folder: its name."""
-    library, about = HERE / "libcolfind.so.1", f"colfind-{VERSION}.dist-info"
-    has_library = library.exists()
-    tag = "py3-none-" + (re.sub(r"\W", "_", sysconfig.get_platform()) if has_library else "any")
-    wheel = f"Wheel-Version: 1.0\nGenerator: colfind\nRoot-Is-Purelib: {str(not has_library).lower()}\nTag: {tag}\n"
+    about = f"colfind-{VERSION}.dist-info"
+    built = {f"colfind/{name}": (HERE / name).read_bytes() for name in ("libcolfind.so.1", "many_texts.so") if (HERE / name).exists()}
+    tag = "py3-none-" + (re.sub(r"\W", "_", sysconfig.get_platform()) if built else "any")
+    wheel = f"Wheel-Version: 1.0\nGenerator: colfind\nRoot-Is-Purelib: {str(not built).lower()}\nTag: {tag}\n"
     files = {
-        "colfind/__init__.py": MODULE.encode(), "colfind/py.typed": b"",
-        **({"colfind/libcolfind.so.1": library.read_bytes()} if has_library else {}),
+        "colfind/__init__.py": MODULE.encode(), "colfind/py.typed": b"", **built,
         f"{about}/METADATA": METADATA.encode(), f"{about}/WHEEL": wheel.encode(),
     }
     record = "".join(_record(*file) for file in files.items()) + f"{about}/RECORD,,\n"

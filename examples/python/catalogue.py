@@ -6,6 +6,7 @@ import sqlite3
 import sys
 import time
 from collections.abc import Sequence
+from contextlib import closing
 from pathlib import Path
 
 from colfind import Pattern, Table
@@ -37,8 +38,7 @@ def catalogue(titles: Sequence[str | None], pattern: Pattern) -> sqlite3.Connect
 def main() -> None:
     table = Table(Path(sys.argv[1] if len(sys.argv) > 1 else LETTERS).read_bytes())
     sought = sys.argv[2] if len(sys.argv) > 2 else "resume"
-    with Pattern(table, sought, strength=1) as pattern:
-        database = catalogue(made_titles(100_000), pattern)
+    with Pattern(table, sought, strength=1) as pattern, closing(catalogue(made_titles(100_000), pattern)) as database:
         for condition in ["found(title)", f"title LIKE '%{sought}%'"]:
             begun = time.process_time()
             rows = database.execute(f"SELECT title FROM books WHERE {condition}").fetchall()

@@ -5,21 +5,28 @@
     for start, end in pattern.search("my r\u00e9sum\u00e9"): ...
 
 The library is the file libcolfind.so.1 beside this module, or else the one that the system finds by this name. An argument of a wrong type
-or value gives a TypeError or a ValueError that names it; what is wrong with a table, a pattern or a text is a Fault."""
+or value gives a TypeError or a ValueError that names it; what is wrong with a table, a pattern or a text is a Fault.
+
+Threads may share tables and patterns. A call that takes long lets the lock of the interpreter go, so that other threads run meanwhile. A
+Search is in one call at a time: another one meanwhile is a RuntimeError."""
 from __future__ import annotations
 
 import operator
+import os
 from array import array
 from collections import deque
 from collections.abc import Callable, Iterable, Iterator
 from contextlib import suppress
-from ctypes import (POINTER, PyDLL, Structure, byref, c_char_p, c_int, c_size_t, c_ssize_t, c_uint8, c_uint32, c_uint64, c_void_p,
-                    create_string_buffer, py_object, pythonapi, string_at)
+from ctypes import (CDLL, POINTER, PyDLL, Structure, byref, c_char_p, c_int, c_size_t, c_ssize_t, c_uint8, c_uint32, c_uint64, c_void_p,
+                    cast, create_string_buffer, py_object, pythonapi, string_at)
 from enum import IntEnum
-from functools import cached_property
 from hashlib import sha256
+from itertools import accumulate, islice
+from itertools import chain as one_by_one
+from mmap import mmap
 from pathlib import Path
-from typing import TYPE_CHECKING, Any, BinaryIO, TypeVar
+from threading import RLock
+from typing import TYPE_CHECKING, Any, BinaryIO, Generic, TypeVar
 from weakref import WeakValueDictionary
 
 if TYPE_CHECKING:
@@ -37,26 +44,56 @@ def _struct(**fields: type) -> type[Structure]:
 
 _Handle, _Range, _Status = _struct(at=c_void_p), _struct(start=c_uint64, end=c_uint64), _struct(kind=c_uint32, at=c_uint64)
 _Saved, _First = _struct(status=_Status, words=c_size_t), _struct(status=_Status, is_found=c_uint32, range=_Range)
+_All = _struct(status=_Status, count=c_size_t)
 _Buffer = _struct(buf=c_void_p, obj=c_void_p, len=c_ssize_t, itemsize=c_ssize_t, readonly=c_int, ndim=c_int, format=c_char_p,
                   shape=c_void_p, strides=c_void_p, suboffsets=c_void_p, internal=c_void_p)  # Py_buffer
 Ranges = Iterator[tuple[int, int]]
 _LIKE_BYTES = "bytes, or an object with bytes in one piece"
 _TEXT = f"a str, {_LIKE_BYTES}"
 _LEAST, _MOST = 1 << 12, 1 << 16  # the sizes of the first part of a text that is taken in parts, and of the later ones
+_LONG = 1 << 12  # how many bytes a call has that lets the lock of the interpreter go: to get it back costs as much as a shorter one
+_AHEAD, _MOST_JOINED = 512, 1 << 16  # how many texts are read, and searched by one call, and how many characters they have at most
 _Owning = TypeVar("_Owning", bound="_Owner")
-# a call holds the lock of the interpreter, so that no handle is in two calls at once
-_BESIDE = Path(__file__).parent / "libcolfind.so.1"
-_C = PyDLL(str(_BESIDE) if _BESIDE.exists() else _BESIDE.name)
-_HANDLE, _WORDS, _BYTES = POINTER(_Handle), POINTER(c_uint64), [c_char_p, c_size_t]
-for _name, _result, _types in [
-    ("table", _Status, [_HANDLE, *_BYTES, *_BYTES]), ("pattern", _Status, [_HANDLE, _HANDLE, *_BYTES, c_uint8, c_uint8]),
-    ("search", _Status, [_HANDLE, _HANDLE, c_uint8]), ("resume", _Status, [_HANDLE, _HANDLE, c_uint8, _WORDS, c_size_t]),
-    ("feed", _Status, [_HANDLE, *_BYTES]), ("finish", _Status, [_HANDLE]), ("stop", _Status, [_HANDLE]), ("free", None, [_HANDLE]),
-    ("pending", c_size_t, [_HANDLE]), ("take", c_size_t, [_HANDLE, c_void_p, c_size_t]),
-    ("save", _Saved, [_HANDLE, _WORDS, c_size_t]), ("first_in", _First, [_HANDLE, *_BYTES, c_size_t]),
-    ("message", c_size_t, [_Status, c_char_p, c_size_t]),
-]:
-    getattr(_C, f"colfind_{_name}").restype, getattr(_C, f"colfind_{_name}").argtypes = _result, _types
+_Given = TypeVar("_Given")
+_FOLDER = Path(__file__).parent
+_BESIDE = _FOLDER / "libcolfind.so.1"
+_PATH = str(_BESIDE) if _BESIDE.exists() else _BESIDE.name
+_C, _UNLOCKED = PyDLL(_PATH), CDLL(_PATH)  # a call by the second lets the lock of the interpreter go
+_HANDLE, _BYTES = POINTER(_Handle), [c_char_p, c_size_t]
+for _dll in _C, _UNLOCKED:
+    for _name, _result, _types in [
+        ("table", _Status, [_HANDLE, *_BYTES, *_BYTES]), ("pattern", _Status, [_HANDLE, _HANDLE, *_BYTES, c_uint8, c_uint8]),
+        ("share", _Status, [_HANDLE, _HANDLE]), ("search", _Status, [_HANDLE, _HANDLE, c_uint8]),
+        ("resume", _Status, [_HANDLE, _HANDLE, c_uint8, c_void_p, c_size_t]), ("feed", _Status, [_HANDLE, *_BYTES]),
+        ("finish", _Status, [_HANDLE]), ("stop", _Status, [_HANDLE]), ("free", None, [_HANDLE]), ("pending", c_size_t, [_HANDLE]),
+        ("take", c_size_t, [_HANDLE, c_void_p, c_size_t]), ("save", _Saved, [_HANDLE, c_void_p, c_size_t]),
+        ("first_in", _First, [_HANDLE, *_BYTES, c_size_t]), ("all_in", _All, [_HANDLE, *_BYTES, c_void_p, c_size_t]),
+        ("message", c_size_t, [_Status, c_char_p, c_size_t]),
+    ]:
+        try:
+            _call = getattr(_dll, f"colfind_{_name}")
+        except AttributeError as _fault:
+            raise ImportError(f"{_PATH} is older than this module: {_fault}") from None
+        _call.restype, _call.argtypes = _result, _types
+
+
+def _many_texts(kind: type[CDLL]) -> CDLL | None:
+    """The loops over many texts, where they were compiled for this machine."""
+    try:
+        many = kind(str(_FOLDER / "many_texts.so"))
+    except OSError:
+        return None
+    many.many_first.argtypes = [c_void_p, _HANDLE, *_BYTES, c_size_t, c_int, c_void_p, c_void_p]
+    many.many_all.argtypes = [*many.many_first.argtypes, c_size_t]
+    many.many_first.restype = many.many_all.restype = c_size_t
+    return many
+
+
+_MANY, _MANY_UNLOCKED = _many_texts(PyDLL), _many_texts(CDLL)
+_CALLS = (c_void_p * 2)(cast(_C.colfind_first_in, c_void_p), cast(_C.colfind_all_in, c_void_p))
+# the handles of tables and patterns, and who has a search; in a process that was forked it is free
+_LOCK = RLock()
+os.register_at_fork(before=_LOCK.acquire, after_in_parent=_LOCK.release, after_in_child=_LOCK.release)
 
 
 class Kind(IntEnum):
@@ -132,6 +169,9 @@ class Fault(Exception):
         return Fault, (int(self.kind), self.at)
 
 
+_OF_CALLS = {Kind.NO_MEMORY, Kind.WRONG_HANDLE, Kind.ENDED}  # faults that no text has
+
+
 def _check(status: Structure) -> None:
     if status.kind:
         raise Fault(status.kind, status.at)
@@ -159,7 +199,8 @@ def _number(name: str, value: int) -> int:
 
 
 def _offset(start: int, length: int) -> int:
-    start = _number("start", start)
+    if type(start) is not int:
+        start = _number("start", start)
     if not 0 <= start <= length:
         raise ValueError(f"start is {start}, and the text has the offsets 0 to {length}")
     return start
@@ -175,38 +216,48 @@ class _View(c_char_p):
         except (TypeError, BufferError):
             raise _wrong_type(name, wanted, data) from None
         self.length = max(0, self.buffer.len - at)
+        owner = data.obj if isinstance(data, memoryview) else data
+        self.is_fixed = bool(self.buffer.readonly) and isinstance(owner, (bytes, mmap))  # no thread can change them
         super().__init__(self.buffer.buf + at if self.length else b"")
 
-    def __del__(self) -> None:
-        pythonapi.PyBuffer_Release(byref(self.buffer))
+    def release(self, release: Any = pythonapi.PyBuffer_Release, address_of: Any = byref) -> None:
+        release(address_of(self.buffer))
+
+    __del__ = release
 
 
-def _viewed(name: str, data: Bytes, wanted: str = _LIKE_BYTES) -> tuple[bytes | _View, int]:
-    """What C is given for bytes, and how many they are."""
-    if isinstance(data, bytes):
-        return data, len(data)
+def _over(name: str, data: Bytes, call: Callable[[bytes | _View, int], _Given], wanted: str = _LIKE_BYTES) -> _Given:
+    """What a call gives over bytes, and how many they are. They are let go then, also where it raises something."""
+    if type(data) is bytes:
+        return call(data, len(data))
     view = _View(name, data, wanted)
-    return view, view.length
+    try:
+        return call(view, view.length)
+    finally:
+        view.release()
 
 
 def _copied(name: str, data: Bytes, wanted: str = _LIKE_BYTES) -> bytes:
     """The bytes themselves, or a copy of those of another object."""
-    view, length = _viewed(name, data, wanted)
-    return view if isinstance(view, bytes) else string_at(view, length)
+    return _over(name, data, lambda view, length: view if isinstance(view, bytes) else string_at(view, length), wanted)
+
+
+def _library(data: bytes | _View, length: int) -> CDLL:
+    """What a call over bytes is made by. A long one lets the lock of the interpreter go, where no other thread can change the bytes."""
+    return _C if length < _LONG or isinstance(data, _View) and not data.is_fixed else _UNLOCKED
+
+
+def _loops(data: bytes) -> Any:
+    return _MANY if len(data) < _LONG else _MANY_UNLOCKED
+
+
+def _exact(text: str) -> str:
+    """A str that is nothing else: another class may say something else of its characters."""
+    return text if type(text) is str else str.__str__(text)
 
 
 def _encoded(text: str) -> bytes:
     return text.encode("utf-8", "surrogatepass")
-
-
-def _part(text: str | Bytes, at: int, size: int) -> tuple[bytes | _View, int]:
-    """What C is given for a part of a text, and how many bytes that has: none at the end."""
-    if isinstance(text, (str, bytes)):
-        part = text[at:at + size]
-        data = _encoded(part) if isinstance(part, str) else part
-        return data, len(data)
-    view = _View("text", text, _TEXT, at)
-    return view, min(size, view.length)
 
 
 def _characters_of(text: str, start: int) -> Callable[[int], int]:
@@ -241,6 +292,69 @@ def _in_characters(text: str, ranges: Ranges, start: int = 0) -> Ranges:
         raise _moved(fault, start_of) from None
 
 
+def _joined(texts: list[Any]) -> tuple[bytes, bool] | None:
+    """Texts with a zero byte between two, and whether they count in characters. None where one has such a byte, or they are no texts of
+    one kind."""
+    try:
+        try:
+            text = "\0".join(texts)
+        except TypeError:
+            data, in_characters = b"\0".join(texts), False
+        else:
+            data, in_characters = _encoded(text), not text.isascii()
+    except Exception:  # of an object that is no text: the call for it alone says what is wrong
+        return None
+    return (data, in_characters) if data.count(0) == len(texts) - 1 else None
+
+
+def _length(texts: list[Any]) -> int:
+    with suppress(Exception):  # of an object that is no text
+        return sum(map(len, texts))
+    return 0
+
+
+def _raised(wrong: Exception) -> Any:
+    raise wrong
+
+
+class _Ahead(Generic[_Given]):
+    """The answers of many texts, those of some at a time: `some` gives the first of them, and `one` that of each other text."""
+
+    def __init__(self, texts: Iterator[Any], one: Callable[[Any], _Given], some: Callable[[list[Any]], list[_Given]]) -> None:
+        self.texts, self.one, self.some, self.read = texts, one, some, list[Any]()
+
+    def __iter__(self) -> Iterator[Iterable[_Given]]:
+        return self
+
+    def __next__(self) -> Iterable[_Given]:
+        texts, answers = self.taken(), list[_Given]()
+        if not texts:
+            raise StopIteration
+        if len(texts) > 1 and not self.read or _length(texts) <= _MOST_JOINED:
+            with suppress(Fault):  # of a call, as where memory is refused: those for one text say it again
+                answers = self.some(texts)
+        return one_by_one(answers, map(self.one, texts[len(answers):])) if len(answers) < len(texts) else answers
+
+    def taken(self) -> list[Any]:
+        """The next texts, so many that they are not too long for one call."""
+        if not self.read:
+            try:
+                self.read.extend(islice(self.texts, _AHEAD))
+            except Exception as wrong:
+                if not self.read:
+                    raise
+                self.texts = map(_raised, [wrong])  # behind the answers of those before
+        count = max(1, len(self.read) * _MOST_JOINED // max(_length(self.read), _MOST_JOINED, 1))
+        texts, self.read = self.read[:count], self.read[count:]
+        return texts
+
+
+def _many(texts: Iterable[Any], one: Callable[[Any], _Given], some: Callable[[list[Any]], list[_Given]]) -> Iterator[_Given]:
+    if isinstance(texts, str) or not isinstance(texts, Iterable):
+        raise _wrong_type("texts", "an iterable of texts", texts)
+    return one_by_one.from_iterable(_Ahead(iter(texts), one, some)) if _MANY else map(one, texts)
+
+
 class _Owner:
     """Holds a handle, which is freed at the end of a `with`, or when nothing refers to it. So a copy must be made anew."""
 
@@ -253,9 +367,11 @@ class _Owner:
         return self
 
     def __exit__(self, *_: object) -> None:
-        _C.colfind_free(self._handle)
+        with _LOCK:
+            _C.colfind_free(self._handle)
 
-    __del__ = __exit__
+    def __del__(self, library: PyDLL = _C) -> None:
+        library.colfind_free(self._handle)
 
     def __reduce_ex__(self, _: object) -> tuple[Any, ...]:
         raise TypeError(f"a {type(self).__name__} can't be copied or pickled: save it")
@@ -269,17 +385,14 @@ class Table(_Owner):
 
     def __init__(self, base: Bytes, tailor: Bytes = b"") -> None:
         super().__init__()
-        self._files = _copied("base", base), _copied("tailor", tailor)
-        _check(_C.colfind_table(self._handle, self._files[0], len(self._files[0]), self._files[1], len(self._files[1])))
-
-    @cached_property
-    def _digest(self) -> bytes:
-        return b"".join(sha256(file).digest() for file in self._files)
+        self._files, self._digest = (_copied("base", base), _copied("tailor", tailor)), b""
+        _check(_UNLOCKED.colfind_table(self._handle, self._files[0], len(self._files[0]), self._files[1], len(self._files[1])))
 
     def __reduce_ex__(self, _: object) -> tuple[Any, ...]:
-        if self._handle.at:
+        self._digest = self._digest or b"".join(sha256(file).digest() for file in self._files)
+        if self._handle.at and type(self) is Table:
             _TABLES.setdefault(self._digest, self)
-        return _sent_table, (self._digest, *self._files)
+        return (_sent_table, (self._digest, *self._files)) if type(self) is Table else (type(self), self._files)
 
 
 _TABLES: WeakValueDictionary[bytes, Table] = WeakValueDictionary()  # by their digests: those that were pickled, or came so
@@ -304,43 +417,68 @@ class Pattern(_Owner):
         _typed("shifted", shifted, bool)
         if _number("strength", strength) not in (1, 2, 3):
             raise ValueError(f"strength is 1, 2 or 3, not {strength}")
-        data = _encoded(text) if isinstance(text, str) else _copied("text", text, _TEXT)
+        data = _encoded(_exact(text)) if isinstance(text, str) else _copied("text", text, _TEXT)
         self._made_of = table, data, int(strength), shifted
-        status = _C.colfind_pattern(table._handle, self._handle, data, len(data), strength, shifted)
+        own = _Owner()  # of the table too, for the call may be long
+        with _LOCK:
+            _check(_C.colfind_share(table._handle, own._handle))
+        library = _C if len(data) < _LONG // 32 else _UNLOCKED  # a byte of a pattern takes as long as many of a text
+        status = library.colfind_pattern(own._handle, self._handle, data, len(data), strength, shifted)
         if status.kind == Kind.BAD_ARGUMENT:
             raise ValueError("text is not UTF-8")
         _check(status)
-        self._titles, self._spare = Search(self), list[Search]()
+        self._spare = [Search(self)], list[Search]()  # that no thread has: all ranges, and a chain
 
     def __exit__(self, *_: object) -> None:
-        for search in self._titles, *self._spare:
-            search.__exit__()
-        self._spare.clear()
         super().__exit__()
+        searches, self._spare = self._spare, ([], [])
+        for spare in searches:
+            with suppress(IndexError):  # at its end; what another thread takes meanwhile is freed when that has used it
+                while True:
+                    spare.pop().__exit__()
 
     def __reduce_ex__(self, _: object) -> tuple[Any, ...]:
-        return Pattern, self._made_of
+        return type(self), self._made_of
+
+    def _lent(self, spare: list[Search], chain: bool = False) -> Search:
+        """A search that no other thread has. A call gives it back to where it was taken from, which is of no pattern that was freed."""
+        try:
+            return spare.pop()
+        except IndexError:
+            return Search(self, chain)
 
     def search(self, text: str | Bytes, chain: bool = False) -> Ranges:
         """The ranges of a text, all or a chain that do not overlap: offsets of characters in a str, of bytes in bytes. They are given as
-        they become known, and the text is read meanwhile, in parts. A fault of the text is raised behind the ranges before it."""
-        ranges = Search(self, chain)._through(text)
+        they become known, and a long text is read meanwhile, in parts. A fault of the text is raised behind the ranges before it."""
+        _typed("chain", chain, bool)
         if isinstance(text, str):
+            text = _exact(text)
+            ranges = self._at_once(_encoded(text), chain) if len(text) <= _LEAST else Search(self, chain)._through(text)
             return ranges if text.isascii() else _in_characters(text, ranges)
-        _viewed("text", text, _TEXT)
-        return ranges
+        is_short = _over("text", text, lambda _, length: length <= _LEAST, _TEXT)
+        return self._at_once(text, chain) if is_short else Search(self, chain)._through(text)
+
+    def _at_once(self, text: Bytes, chain: bool) -> Ranges:
+        spare = self._spare[chain]
+        search = self._lent(spare, chain)
+        try:
+            return _then_fault(*_over("text", text, search._all))
+        finally:
+            spare.append(search)
 
     def index(self, text: str | Bytes, start: int = 0) -> tuple[int, int] | None:
-        """The first range at or after an offset, or None. Many short texts are best searched by this."""
+        """The first range at or after an offset, or None."""
+        if type(text) is bytes:
+            return self._first(text, len(text), _offset(start, len(text)))
         if not isinstance(text, str):
-            view, length = _viewed("text", text, _TEXT)
-            return self._titles._first(view, length, _offset(start, length))
+            return _over("text", text, lambda data, length: self._first(data, length, _offset(start, length)), _TEXT)
+        text = _exact(text)
         start = _offset(start, len(text))
         if len(text) - start > _MOST:
             return self._first_in_parts(text, start)
         data = _encoded(text[start:])
         try:
-            found = self._titles._first(data, len(data), 0)
+            found = self._first(data, len(data), 0)
         except Fault as fault:
             raise _moved(fault, _characters_of(text, start)) from None
         if not found or not start and len(data) == len(text):
@@ -348,16 +486,60 @@ class Pattern(_Owner):
         place = _characters_of(text, start)
         return place(found[0]), place(found[1])
 
-    def _first_in_parts(self, text: str, start: int) -> tuple[int, int] | None:
+    def _first(self, data: bytes | _View, length: int, start: int) -> tuple[int, int] | None:
+        spare = self._spare[False]
+        search = self._lent(spare)
         try:
-            search = self._spare.pop()  # which no other thread has
-        except IndexError:
-            search = Search(self)
+            return search._first(data, length, start)
+        finally:
+            spare.append(search)
+
+    def _first_in_parts(self, text: str, start: int) -> tuple[int, int] | None:
+        spare = self._spare[False]
+        search = self._lent(spare)
         found = next(_in_characters(text, search._through(text, start), start), None)
         with suppress(Fault):  # where it is finished
-            search.first_in(b"")  # so that it is at the beginning of a text
-            self._spare.append(search)
+            search._first(b"", 0, 0)  # so that it is at the beginning of a text
+            spare.append(search)
         return found
+
+    def index_many(self, texts: Iterable[str | Bytes]) -> Iterator[tuple[int, int] | None]:
+        """The first range of each text, or None: what `map(pattern.index, texts)` gives, at the price of calls in C. Up to 512 texts are
+        read ahead. A fault is raised in the place of the answer of its text, and the next answer is that of the text behind."""
+        return _many(texts, self.index, self._firsts_of)
+
+    def _firsts_of(self, texts: list[Any]) -> list[tuple[int, int] | None]:
+        joined = _joined(texts)
+        if not joined:
+            return []
+        spare = self._spare[False]
+        search = self._lent(spare)
+        try:
+            count, numbers = search._many_first(*joined, len(texts))
+        finally:
+            spare.append(search)
+        firsts: list[tuple[int, int] | None] = [None] * count
+        for text, found in zip(numbers[::3], zip(numbers[1::3], numbers[2::3])):
+            firsts[text] = found
+        return firsts
+
+    def search_many(self, texts: Iterable[str | Bytes], chain: bool = False) -> Iterator[list[tuple[int, int]]]:
+        """A list of the ranges of each text, all or a chain. The texts are read, and faults raised, as by `index_many`."""
+        _typed("chain", chain, bool)
+        return _many(texts, lambda text: list(self.search(text, chain)), lambda some: self._ranges_of(some, chain))
+
+    def _ranges_of(self, texts: list[Any], chain: bool) -> list[list[tuple[int, int]]]:
+        joined = _joined(texts)
+        if not joined:
+            return []
+        spare = self._spare[chain]
+        search = self._lent(spare, chain)
+        try:
+            counts, numbers = search._many_all(*joined, len(texts))
+        finally:
+            spare.append(search)
+        ranges = list(zip(numbers[::2], numbers[1::2]))
+        return [ranges[end - count:end] if count else [] for count, end in zip(counts, accumulate(counts))]
 
     def resume(self, words: Iterable[int], chain: bool = False) -> Search:
         """The search that goes on from `Search.save`."""
@@ -368,12 +550,16 @@ class Search(_Owner):
     """A search that is fed with the bytes of a text, cut anywhere. Its ranges are in bytes from the beginning of the text. Where a call
     has both ranges and a fault, the fault is raised behind them."""
 
+    _is_taken = _is_freed = False  # by a call; at the end of a `with`
+
     def __init__(self, pattern: Pattern, chain: bool = False, words: Iterable[int] | None = None) -> None:
         super().__init__()
         _typed("pattern", pattern, Pattern)
         _typed("chain", chain, bool)
+        self._room = array("Q", [0])
         if words is None:
-            _check(_C.colfind_search(pattern._handle, self._handle, chain))
+            with _LOCK:
+                _check(_C.colfind_search(pattern._handle, self._handle, chain))
             return
         try:
             numbers = array("Q", list(words))
@@ -381,11 +567,33 @@ class Search(_Owner):
             raise ValueError("words has a number that is not from 0 to 2^64 - 1") from None
         except TypeError:
             raise _wrong_type("words", "a list of numbers", words) from None
-        held = (c_uint64 * (len(numbers) or 1))(*numbers)
-        _check(_C.colfind_resume(pattern._handle, self._handle, chain, held, len(numbers)))
+        held = numbers or self._room  # never nowhere
+        with _LOCK:
+            _check(_C.colfind_resume(pattern._handle, self._handle, chain, held.buffer_info()[0], len(numbers)))
+
+    def __exit__(self, *_: object) -> None:
+        with _LOCK:
+            self._is_freed = True
+            if not self._is_taken:  # else at the end of the call that has it
+                _C.colfind_free(self._handle)
+
+    def _alone(self, call: Callable[..., _Given], *words: Any) -> _Given:
+        """What a call gives that has the search alone."""
+        is_mine = False
+        try:
+            with _LOCK:
+                if self._is_taken:
+                    raise RuntimeError("a Search is in one call at a time, and this one is in another, as of another thread")
+                self._is_taken = is_mine = True
+            return call(*words)
+        finally:
+            if is_mine:
+                self._is_taken = False
+                if self._is_freed:
+                    self.__exit__()
 
     def _taken(self, status: Structure) -> Ranges:
-        if status.kind in (Kind.NO_MEMORY, Kind.WRONG_HANDLE, Kind.ENDED):
+        if status.kind in _OF_CALLS:
             _check(status)
         waiting = _C.colfind_pending(self._handle)
         if not waiting and not status.kind:
@@ -395,19 +603,40 @@ class Search(_Owner):
             _C.colfind_take(self._handle, numbers.buffer_info()[0], waiting)
         return _then_fault(numbers, status)
 
+    def _fed(self, data: bytes | _View, length: int) -> Ranges:
+        return self._taken(_library(data, length).colfind_feed(self._handle, data, length))
+
+    def _finished(self) -> Ranges:
+        return self._taken(_C.colfind_finish(self._handle))
+
     def _through(self, text: str | Bytes, at: int = 0) -> Ranges:
-        size = _LEAST
-        while (part := _part(text, at, size))[1]:
-            status = _C.colfind_feed(self._handle, *part)
-            del part  # while the ranges are given the bytes are not held
-            yield from self._taken(status)
+        """The ranges of a text, which is fed in parts. While they are given no part is held."""
+        size, ranges = _LEAST, self._fed_part(text, at, _LEAST)
+        while ranges is not None:
+            yield from ranges
             at, size = at + size, min(2 * size, _MOST)
-        yield from self.finish()
+            ranges = self._fed_part(text, at, size)
+        yield from self._finished()
+
+    def _fed_part(self, text: str | Bytes, at: int, size: int) -> Ranges | None:
+        if isinstance(text, str):
+            data = _encoded(text[at:at + size])
+        elif type(text) is bytes:
+            data = text[at:at + size]
+        else:
+            view = _View("text", text, _TEXT, at)
+            try:
+                return self._fed(view, min(size, view.length)) if view.length else None
+            finally:
+                view.release()
+        return self._fed(data, len(data)) if data else None
 
     def feed(self, piece: Bytes) -> Ranges:
         """Takes the next piece: the ranges that became known. Fault 81 says that memory was refused after `at` bytes of the piece: the
         next call, with the others, gives their ranges too."""
-        return self._taken(_C.colfind_feed(self._handle, *_viewed("piece", piece)))
+        if type(piece) is bytes:
+            return self._alone(self._fed, piece, len(piece))
+        return _over("piece", piece, lambda data, length: self._alone(self._fed, data, length))
 
     def feed_file(self, file: BinaryIO, size: int = 1 << 16) -> Ranges:
         """Takes the rest of an open file, and ends the text: the ranges as they become known."""
@@ -416,35 +645,64 @@ class Search(_Owner):
         return self._of_file(file, size)
 
     def _of_file(self, file: BinaryIO, size: int) -> Ranges:
-        while (piece := file.read(size)) != b"":
+        while _over("piece", piece := file.read(size), lambda _, length: length):
             yield from self.feed(piece)
         yield from self.finish()
 
     def finish(self) -> Ranges:
         """Ends the text: the rest of the ranges."""
-        return self._taken(_C.colfind_finish(self._handle))
+        return self._alone(self._finished)
 
     def stop(self) -> Ranges:
         """Gives the text up: the ranges before the end of its last whole character."""
-        return self._taken(_C.colfind_stop(self._handle))
+        return self._alone(lambda: self._taken(_C.colfind_stop(self._handle)))
 
     def first_in(self, text: Bytes, start: int = 0) -> tuple[int, int] | None:
         """The first range of a text at or after an offset, or None. What was fed before is given up."""
-        data, length = _viewed("text", text)
-        return self._first(data, length, _offset(start, length))
+        if type(text) is bytes:
+            return self._alone(self._first, text, len(text), _offset(start, len(text)))
+        return _over("text", text, lambda data, length: self._alone(self._first, data, length, _offset(start, length)))
 
     def _first(self, data: bytes | _View, length: int, start: int) -> tuple[int, int] | None:
-        first = _C.colfind_first_in(self._handle, data, length, start)
+        first = (_C if length < _LONG else _library(data, length)).colfind_first_in(self._handle, data, length, start)
         if first.is_found:
             return first.range.start, first.range.end
         _check(first.status)
         return None
 
+    def _room_for(self, count: int) -> int:
+        """Where there is room for so many numbers."""
+        if len(self._room) < count:
+            self._room = array("Q", bytes(8 * count))
+        return self._room.buffer_info()[0]
+
+    def _all(self, data: bytes | _View, length: int) -> tuple[array[int], Structure]:
+        """The numbers of all ranges of a text, of which at most one begins at a byte, and how the call has ended."""
+        found = _library(data, length).colfind_all_in(self._handle, data, length, self._room_for(2 * length), length)
+        return self._room[:2 * found.count], found.status
+
+    def _many_first(self, data: bytes, in_characters: bool, count: int) -> tuple[int, array[int]]:
+        """How many texts were searched, up to one with a fault, and of each that has a range its number and the first range."""
+        loops, found = _loops(data), c_size_t()
+        room = self._room_for(3 * count)
+        done = loops.many_first(_CALLS, self._handle, data, len(data), count, in_characters, room, byref(found))
+        return done, self._room[:3 * found.value]
+
+    def _many_all(self, data: bytes, in_characters: bool, count: int) -> tuple[array[int], array[int]]:
+        """How many ranges each text has, up to one with a fault, and the ranges."""
+        loops, counts = _loops(data), array("Q", bytes(8 * count))
+        room = self._room_for(2 * len(data))
+        done = loops.many_all(_CALLS, self._handle, data, len(data), count, in_characters, counts.buffer_info()[0], room, len(data))
+        counts = counts[:done]
+        return counts, self._room[:2 * sum(counts)]
+
     def save(self) -> list[int]:
         """The search as words, from which `Pattern.resume` goes on, in this process or another one."""
-        size = _C.colfind_save(self._handle, (c_uint64 * 1)(), 0)
-        if size.status.kind != Kind.SMALL_BUFFER:
-            _check(size.status)
-        words = (c_uint64 * size.words)()
-        _check(_C.colfind_save(self._handle, words, size.words).status)
-        return list(words)
+        return self._alone(self._saved)
+
+    def _saved(self) -> list[int]:
+        saved = _C.colfind_save(self._handle, self._room_for(1), len(self._room))
+        if saved.status.kind == Kind.SMALL_BUFFER:
+            saved = _C.colfind_save(self._handle, self._room_for(saved.words), saved.words)
+        _check(saved.status)
+        return self._room[:saved.words].tolist()

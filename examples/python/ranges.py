@@ -9,6 +9,8 @@ with open(table_path, "rb") as file:
 pattern = Pattern(table, sought, strength=1)
 text = "r\u00e9sum\u00e9, my resume"
 print([text[start:end] for start, end in pattern.search(text)], pattern.index(text, 1))  # a str: offsets of characters
+titles = ["my r\u00e9sum\u00e9", "notes", "resumed"]
+print([title for title, found in zip(titles, pattern.index_many(titles)) if found])  # many texts by one call
 try:
     with Search(pattern) as search, open(path, "rb") as file:  # a file, in pieces: offsets of bytes
         for start, end in search.feed_file(file):

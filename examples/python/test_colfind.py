@@ -1,5 +1,6 @@
 """Tests of colfind.py against the program. COLFIND may say its path, and REPOSITORY that of the repository, for tests of a module that is
 installed."""
+import _ctypes
 import copy
 import gc
 import io
@@ -10,6 +11,7 @@ import os
 import pickle
 import random
 import re
+import shutil
 import subprocess
 import sys
 import tempfile
@@ -17,6 +19,7 @@ import tracemalloc
 import unittest
 from array import array
 from concurrent.futures import ThreadPoolExecutor
+from contextlib import closing
 from pathlib import Path
 from unittest.mock import patch
 
@@ -50,6 +53,11 @@ def all_of(ranges) -> tuple[list[tuple[int, int]], str]:
     except Fault as fault:
         return found, str(fault).split(":")[0]
     return found, ""
+
+
+def freed(pattern: Pattern) -> Pattern:
+    with copy.copy(pattern) as one:
+        return one
 
 
 def times_seen(pattern: Pattern) -> int:
@@ -281,7 +289,7 @@ class Tests(unittest.TestCase):
         with patch.object(colfind._C, "colfind_free", handles.append):
             found.close()
             self.assertEqual(len(handles), 1)
-            pattern.search(data)
+            pattern.search("a" * 100_000)
             self.assertEqual(len(handles), 2)
         for handle in handles:
             colfind._C.colfind_free(handle)
@@ -306,6 +314,14 @@ class Tests(unittest.TestCase):
                 with one:
                     self.assertEqual((one.index("ae"), one.index("\u00e9")), (found or (1, 2), (0, 1)))
             self.assertEqual(pattern.index("\u00e9"), (0, 1))
+        class OwnTable(Table):
+            pass
+
+        class OwnPattern(Pattern):
+            pass
+
+        own = copy.deepcopy(OwnPattern(OwnTable(LETTERS.read_bytes()), "a"))
+        self.assertEqual((type(own), type(own._made_of[0]), own.index("ba")), (OwnPattern, OwnTable, (1, 2)))
         for shifted, found in (True, (1, 4)), (False, None):  # whether the hyphen counts
             self.assertEqual(copy.copy(Pattern(self.table, "ee", 1, shifted)).index(" e-e"), found)
 
@@ -313,7 +329,7 @@ class Tests(unittest.TestCase):
         """Also where the process has none, and where each pattern goes before the next one comes. One that was freed is read again."""
         pickles = [pickle.dumps(Pattern(Table(LETTERS.read_bytes(), b"#%d\n" % i), "a")) for i in range(6)]
         with patch.object(colfind, "_TABLES", colfind.WeakValueDictionary()), patch.object(colfind, "_SENT", colfind.deque(maxlen=4)):
-            with patch.object(colfind._C, "colfind_table", wraps=colfind._C.colfind_table) as read:
+            with patch.object(colfind._UNLOCKED, "colfind_table", wraps=colfind._UNLOCKED.colfind_table) as read:
                 for i in range(100):
                     self.assertEqual(pickle.loads(pickles[i % 4]).index("ba"), (1, 2))
                 self.assertEqual(read.call_count, 4)
@@ -341,12 +357,59 @@ class Tests(unittest.TestCase):
                 pool.apply(pattern.index, ("\ud800",))
             self.assertIs(fault.exception.kind, Kind.TEXT_ILL_FORMED)
 
+    def test_bytes_are_let_go_behind_an_error(self) -> None:
+        """So they can be changed where it is caught."""
+        pattern, long = Pattern(self.table, "a"), b"x" * 9_000 + b"\xff"
+        search = Search(pattern)
+        for text, call in [
+            (b"\xff", pattern.index), (long, pattern.index), (b"a", lambda data: pattern.index(data, 2)), (b"x", Table),
+            (b"\xff", lambda data: list(pattern.search(data))), (long, lambda data: list(pattern.search(data))),
+            (b"\xff", search.first_in), (b"a", lambda data: search.first_in(data, 2)), (b"\xff", lambda data: list(search.feed(data))),
+            (b"\xff", lambda data: Pattern(self.table, data)), (b"a", freed(pattern).index), (long, freed(pattern).search),
+        ]:
+            data = bytearray(text)
+            try:
+                call(data)
+                self.fail("no error")
+            except (Fault, ValueError):
+                data += b"longer than it was"
+
+    def test_texts_that_lie(self) -> None:
+        """What a class of one's own says of its length and characters is not believed."""
+        class Bytes(bytes):
+            def __len__(self):
+                return 1 << 40
+
+            def __getitem__(self, _):
+                return b"longer" * 99
+
+        class Str(str):
+            __len__, __getitem__ = Bytes.__len__, Bytes.__getitem__
+
+            def encode(self, *_):
+                return Bytes(b"a")
+
+        pattern = Pattern(Table(Bytes(LETTERS.read_bytes())), Str("resume"), 1)
+        for text in Bytes(b"my resume"), Str("my resume"):
+            self.assertEqual((pattern.index(text), pattern.index(text, 3), list(pattern.search(text))), ((3, 9), (3, 9), [(3, 9)]))
+        for text in Bytes(b"x" * 99_999 + b"resume"), Str("x" * 99_999 + "resume"):
+            self.assertEqual((pattern.index(text, 1), list(pattern.search(text))), ((99_999, 100_005), [(99_999, 100_005)]))
+        self.assertEqual(list(Search(pattern).feed(Bytes(b"resume, resume, "))), [(0, 6), (8, 14)])
+
+    def test_a_library_that_is_older(self) -> None:
+        """The error says what is wrong. The library is that of another module here, which has none of the calls."""
+        with tempfile.TemporaryDirectory() as folder:
+            for name, path in ("colfind.py", colfind.__file__), ("libcolfind.so.1", _ctypes.__file__):
+                shutil.copy(path, Path(folder) / name)
+            done = subprocess.run([sys.executable, "-c", "import colfind"], cwd=folder, capture_output=True, text=True)
+        self.assertRegex(done.stderr, "ImportError: .*libcolfind.so.1 is older than this module: .*undefined symbol: colfind_table\n$")
+
     def test_names(self) -> None:
         self.assertEqual(colfind.__all__, ["Fault", "Kind", "Pattern", "Search", "Table"])
         for name in colfind.__all__:
             for one in (getattr(colfind, name), *vars(getattr(colfind, name)).values()):
                 if getattr(one, "__module__", "") == "colfind" and not getattr(one, "__name__", "_").startswith("_"):
-                    self.assertTrue(one.__doc__, one)
+                    self.assertTrue(one.__doc__ or sys.flags.optimize > 1, one)
 
     def test_freed(self) -> None:
         with Search(Pattern(self.table, "a")) as search:
@@ -377,6 +440,23 @@ class Tests(unittest.TestCase):
         done = subprocess.run([sys.executable, "-c", code], cwd=Path(colfind.__file__).parent, capture_output=True, text=True)
         self.assertEqual((done.stdout, done.stderr, done.returncode), ("error\n" * 6, "", 0))
 
+    def test_files_that_are_none_of_bytes(self) -> None:
+        """Also where Python answers a comparison of a str with bytes by an error."""
+        code = """if True:
+            import colfind, io, sys
+            with open(sys.argv[1], "rb") as file:
+                pattern = colfind.Pattern(colfind.Table(file.read()), "a")
+            for file in io.StringIO(""), io.StringIO("a"), type("Raw", (), {"read": lambda *_: None})():
+                try:
+                    print(list(colfind.Search(pattern).feed_file(file)))
+                except TypeError as wrong:
+                    print(str(wrong).split(" ")[-1])
+            print(list(colfind.Search(pattern).feed_file(type("File", (), {"read": lambda *_: memoryview(b"")})())))
+            """
+        words = [sys.executable, "-bb", "-c", code, LETTERS]
+        done = subprocess.run(words, cwd=Path(colfind.__file__).parent, capture_output=True, text=True)
+        self.assertEqual((done.stdout, done.stderr, done.returncode), ("str\nstr\nNoneType\n[]\n", "", 0))
+
     def test_both_types_of_a_text_are_named(self) -> None:
         pattern = Pattern(self.table, "a")
         for call in (pattern.index, pattern.search, lambda text: Pattern(self.table, text)):
@@ -391,12 +471,14 @@ class Tests(unittest.TestCase):
             start, end = end, end + len(title.encode()) + 1
             if any(start <= one < end for one, _ in ranges):
                 expected.append(title)
-        rows = catalogue(titles, Pattern(self.table, "resume", 1)).execute("SELECT title FROM books WHERE found(title)")
-        self.assertEqual([title for title, in rows], expected)
+        with closing(catalogue(titles, Pattern(self.table, "resume", 1))) as database:
+            rows = database.execute("SELECT title FROM books WHERE found(title)")
+            self.assertEqual([title for title, in rows], expected)
 
     def test_title_that_is_null(self) -> None:
         """It is found neither by the function nor by its opposite, as SQL has it of each comparison with NULL."""
         database = catalogue(["resume", None, "a"], Pattern(self.table, "resume", 1))
+        self.addCleanup(database.close)
         for sql, rows in [
             ("SELECT found(title) FROM books", [(1,), (None,), (0,)]),
             ("SELECT title FROM books WHERE found(title)", [("resume",)]),

@@ -14,7 +14,7 @@ pub record ReadsOn (left_before left_after : Option (List ℕ)) (kept_before kep
 abbrev pub ReadsSome : Option (List ℕ) → Option (List ℕ) → Type 0
 ReadsSome before after = (piece : List ℕ) × (before ≡ after_piece piece after)
 
--- these bytes were read, and then a read failed
+-- these bytes were read, and one read failed
 abbrev pub FailsBehind : List ℕ → Option (List ℕ) → Option (List ℕ) → ℕ → ℕ → Type 0
 FailsBehind piece before after failures failures_after =
     (before ≡ after_piece piece after) × (failures_after ≡ failures + 1)

@@ -16,7 +16,7 @@ module _ {A : Type 0} (gives : List ℕ → Result A DeviceFault → Type 0) (le
   abbrev pub IsUnopened : List ℕ → Type 0
   IsUnopened path = gives path (Err (record {}))
 
-  -- a file was opened at the path, these bytes of it were read, and then a read of it failed
+  -- a file was opened at the path, these bytes of it were read, and one read of it failed
   pub record FailsAt (path piece : List ℕ) : Type 0 where
     pub opened : A
     pub after : A

@@ -15,19 +15,18 @@ const MOST_HELD: usize = 256;
 /// How many bytes that were passed by are so much that none are walked over next.
 const MUCH: usize = 24;
 
-/// The most keys of a pattern for which letters are found from the first piece on.
+/// The most keys of a pattern for which letters are found, and text is passed by, from the first piece on.
 const MOST_KEYS: usize = 1_024;
 
-/// The most bytes that go by steps first where the pattern has more keys: only a longer text gives back what finding its letters, and what
-/// passes it by, costs.
-const BY_STEPS: usize = 32_768;
-
-/// How many characters these are at most, unless most of them are of scripts that have thousands: of an alphabet few letters are found, and
-/// each serves often.
-const OF_AN_ALPHABET: usize = 1_536;
+/// The most bytes of a short text that go by steps alone where the pattern has more keys: of a script of many letters few come again.
+const BY_STEPS: usize = 3_072;
 
 /// How many bytes of a piece tell what its characters are.
 const FRONT: usize = 512;
+
+/// How many bytes are walked over first where the pattern has more keys: only a longer text gives back what it costs to find out what
+/// passes it by.
+const WALKED_FIRST: usize = 4_096;
 
 /// What a search has found out of the characters that it met, for its table and its pattern.
 #[derive(Drop)]
@@ -74,44 +73,38 @@ impl Cache {
         ensures at_once { length pattern.now.keys ≤ MOST_KEYS
             → IfOk result (λ cache. cache.by_steps ≡ 0) }
     {
+        let (by_steps, due) = if pattern.len() > MOST_KEYS {
+            (BY_STEPS, WALKED_FIRST)
+        } else {
+            (0, 0)
+        };
         Ok(Cache {
             letters: Letters::for_long_patterns(alloc, table)?,
             skip: Skip::new(alloc),
             hold: 0,
-            due: 0,
-            by_steps: if pattern.len() > MOST_KEYS {
-                BY_STEPS
-            } else {
-                0
-            },
+            due,
+            by_steps,
             alloc,
         })
     }
 
-    /// Prepares, before its first byte, for one text alone of `len` bytes: `by_steps` of these go by steps at least, and `due` are walked
-    /// over before any are passed by.
+    /// Prepares, before its first byte, for one text alone of `len` bytes: at least `by_steps` of these go by steps, and at least
+    /// `due` are walked over before any are passed by.
     pub fn prepare(&mut self, by_steps: usize, due: usize, len: usize)
         ensures { (table : TableMap) (pattern : Compiled)
             → AreRight table pattern self.old → AreRight table pattern self.new }
     {
         self.by_steps = self.by_steps.max(by_steps);
-        self.due = due;
+        self.due = self.due.max(due);
         self.skip.prepare(len);
     }
 
-    /// Whether a piece, whose bytes `by_steps` does not count any more, goes by steps alone: where most of its characters are of scripts
-    /// that have thousands, or where it and the pieces before it have few.
+    /// Whether a piece, whose bytes `by_steps` does not count any more, goes by steps alone: where it and the pieces before it are short, as
+    /// its front says how many letters its script has.
     pub fn leaves_to_steps(&self, piece: &[u8]) -> bool {
-        if self.by_steps >= BY_STEPS {
-            return true;
-        }
-        let front = &piece[..piece.len().min(FRONT)];
-        let (all, of_thousands) = characters(front);
-        if of_thousands > all / 2 {
-            return true;
-        }
         let gone = BY_STEPS.saturating_sub(self.by_steps);
-        gone.saturating_mul(all) <= OF_AN_ALPHABET.saturating_mul(front.len())
+        let front = &piece[..piece.len().min(FRONT)];
+        gone.saturating_mul(front.len()) <= FRONT.saturating_mul(most_by_steps(front))
     }
 
     /// Passes by text at the front of a piece, which stands at a byte offset, where no key waits. It ends at `reach` or before it.
@@ -164,16 +157,19 @@ impl Cache {
     }
 }
 
-/// How many characters a text has, if it is UTF-8, and how many of these are of scripts that have thousands, as Han and Hangul are.
-fn characters(text: &[u8]) -> (usize, usize) {
-    let mut all = 0usize;
-    let mut of_thousands = 0usize;
-    for byte in text {
-        all = all.wrapping_add(usize::from(*byte < 0x80 || *byte >= 0xC0));
-        let leads = (*byte >= 0xE4 && *byte <= 0xED) || *byte == 0xF0;
-        of_thousands = of_thousands.wrapping_add(usize::from(leads));
+/// How many bytes go by steps alone for a text that begins with these, as far as its characters say: none for ASCII, some for each of two
+/// bytes, more for each of three, and most for Han, Hangul and what has four.
+fn most_by_steps(front: &[u8]) -> usize {
+    let mut bytes = 0usize;
+    for byte in front {
+        bytes = bytes.wrapping_add(match *byte {
+            0xC0..=0xDF => 1,
+            0xE0..=0xE3 => 4,
+            0xE4.. => 32,
+            _ => 0,
+        });
     }
-    (all, of_thousands)
+    bytes
 }
 
 /// How many bytes are walked over before text is passed by again, where so many were before, and so many were passed by then: none where

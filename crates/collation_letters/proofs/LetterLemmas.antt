@@ -23,7 +23,7 @@ use Rattle.collation_letters.specs.declared.letter.Role.{Role}
 use Rattle.collation_letters.specs.declared.letter.Role.TheVariants.{Steps, Plain, Base, VariableBase, Silent, PrimaryMark, Mark}
 use Rattle.collation_letters.specs.Symbols.{AreLastSymbols, listed}
 use Rattle.std.proofs.lemmas.Bool.{false≢true}
-use Rattle.collation_letters.specs.Letters.{begins_cluster, not_mark, flag_after, counted, here, keys_alone, AreClosed, AreApart, IsPossible, HaveItems, IsKnown, IsPlain, IsLetter}
+use Rattle.collation_letters.specs.Letters.{begins_cluster, is_mark, flag_after, counted, here, keys_alone, AreClosed, AreApart, IsPossible, HaveItems, IsKnown, IsPlain, IsLetter}
 use Rattle.collation_letters.specs.Finding.{IsLastClass, IsAs, HasRole}
 use Rattle.collation_letters.proofs.SymbolLemmas.{last-nil}
 
@@ -160,7 +160,7 @@ plain-known table pattern ps l base k =
       count = k.count;
       few = k.few;
       class = k.class;
-      starter = k.starter ∙ ap not_mark base;
+      starter = λ no. k.starter (ap is_mark base ∙ no);
       one = λ yes. absurd (false≢true yes);
       items = λ after possible.
           subst (λ r. HaveItems table pattern ps after (begins_cluster r) (counted r after (listed l.symbols)) (flag_after r after)) base (k.items after possible);

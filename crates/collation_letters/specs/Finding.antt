@@ -6,7 +6,7 @@ use Rattle.nfd_points.specs.Points.{begins_with_starter}
 use Rattle.collation_elements.specs.declared.character.CharacterItems.{CharacterItems}
 use Rattle.collation_elements.specs.CharacterItems.{character_keys}
 use Rattle.collation_letters.specs.declared.letter.Role.{Role}
-use Rattle.collation_letters.specs.Letters.{begins_cluster, is_mark, not_mark, flag_after, counted}
+use Rattle.collation_letters.specs.Letters.{begins_cluster, is_mark, flag_after, counted}
 
 -- the class of the last of some points
 abbrev pub IsLastClass : List Point → ℕ → Type 0
@@ -28,4 +28,4 @@ Follows plain after role = IsAs plain role false plain × ForSome after (IsAs pl
 -- points of these items have the role
 abbrev pub HasRole : List Point → CharacterItems → Option CharacterItems → Role → Type 0
 HasRole ps plain after role =
-    (begins_with_starter ps ≡ not_mark role) × ((is_mark role ≡ true → length ps ≡ 1) × Follows plain after role)
+    (is_mark role ≡ false → begins_with_starter ps ≡ true) × ((is_mark role ≡ true → length ps ≡ 1) × Follows plain after role)

@@ -1,5 +1,5 @@
 -- What a letter says of the characters that it stands for, wherever they stand.
-use Rattle.std.specs.Prelude.{◌≡◌, ◌≢◌, ℕ, ◌≤◌, Bool, true, false, not, List, [], ◌∷◌, ◌++◌, map, length, slice_get, if◌then◌else◌}
+use Rattle.std.specs.Prelude.{◌≡◌, ◌≢◌, ℕ, ◌≤◌, Bool, true, false, List, [], ◌∷◌, ◌++◌, map, length, slice_get, if◌then◌else◌}
 use Rattle.std.specs.Option.{ForSome}
 use Rattle.nfd_points.specs.declared.limits.TheConstants.{MOST_WAITING}
 use Rattle.nfd_points.specs.declared.points.Point.{Point}
@@ -40,9 +40,6 @@ is_mark VariableBase = false
 is_mark Silent = false
 is_mark PrimaryMark = true
 is_mark Mark = true
-
-abbrev pub not_mark : Role → Bool
-not_mark role = not (is_mark role)
 
 -- Whether, after characters of the role, the last element that was variable or primary was variable, where `after` says so of
 -- what stands before them.
@@ -93,14 +90,15 @@ pub record HaveItems (table : TableMap) (pattern : Compiled) (ps : List Point) (
 -- ---- letters
 
 -- What a letter says that is not left to the steps: the points of the characters are in canonical order, so many, too few for a
--- run of non-starters that is a fault, the last of this class; they begin with a starter, or are one non-starter; and their items are as its role and its symbols say.
+-- run of non-starters that is a fault, the last of this class; they begin with a starter, or are the one point of a mark; and their
+-- items are as its role and its symbols say.
 pub record IsKnown (table : TableMap) (pattern : Compiled) (ps : List Point) (l : Letter) : Type 0 where
   pub some : 1 ≤ length ps
   pub in_order : is_in_order ps ≡ true
   pub count : l.points ≡ length ps
   pub few : length ps ≤ MOST_WAITING
   pub class : (before : List Point) (last : Point) → ps ≡ before ++ last ∷ [] → l.class ≡ last.ccc
-  pub starter : begins_with_starter ps ≡ not_mark l.role
+  pub starter : is_mark l.role ≡ false → begins_with_starter ps ≡ true
   pub one : is_mark l.role ≡ true → length ps ≡ 1
   pub items : (after : Bool) → IsPossible pattern.variable after
       → HaveItems table pattern ps after (begins_cluster l.role) (counted l.role after (listed l.symbols)) (flag_after l.role after)

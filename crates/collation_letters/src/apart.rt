@@ -11,7 +11,7 @@ use crate::letter::{Letter, Role};
 use collation_elements::units_stay_apart;
 
 /// Whether no unit reaches from the characters of a letter, which is not left to the steps, to the character that follows, and that
-/// begins with a starter, as far as is known.
+/// begins with a starter and is no mark, as far as is known.
 #[inline(always)]
 pub fn is_next(letter: &Letter, following: &Letter) -> bool
     ensures apart { result ≡ true

@@ -50,7 +50,7 @@ pub(crate) fn find_letter<W: Weights>(
     let letter = Letter {
         role,
         is_closed,
-        is_apart: are_apart(table, points),
+        is_apart: begin_apart(table, points, role),
         points: points.len() as u8,
         class: last_class(points),
         symbols,
@@ -88,6 +88,13 @@ pub(crate) fn are_apart<W: Weights>(table: &W, points: &[Point]) -> bool
         [] => false,
         [first, ..] => first.ccc == 0 && !table.continues_string(first.cp),
     }
+}
+
+/// The same of points that are no mark; of a mark it is not said, so that it begins no letter.
+fn begin_apart<W: Weights>(table: &W, points: &[Point], role: Role) -> bool
+    ensures { result ≡ true → AreApart (W.table table.now) points.now }
+{
+    !role.is_mark() && are_apart(table, points)
 }
 
 /// The class of the last of these points.
@@ -147,20 +154,35 @@ pub(crate) fn role_and_symbols(
     ensures symbols { let role = result.0 in role ≢ LeftToSteps
         → AreLastSymbols pattern.now.keys (character_keys plain.now) (listed result.1) }
 {
-    let role = if begins_with_starter(points) {
-        role_of_starter(plain, after)
-    } else if is_closed && points.len() == 1 {
-        role_of_mark(plain, after)
-    } else {
-        Role::Steps
-    };
     match symbols_of(pattern, lengths, plain) {
-        Some(symbols) => (role, symbols),
+        Some(symbols) => (role_of(points, is_closed, plain, after), symbols),
         None => (Role::Steps, NO_SYMBOLS),
     }
 }
 
-/// What a search does with points that begin with a starter.
+/// What a search does with points that have these items.
+fn role_of(
+    points: &[Point],
+    is_closed: bool,
+    plain: &CharacterItems,
+    after: &Option<CharacterItems>,
+) -> Role
+    ensures other { result ≢ Plain }
+    ensures role { result ≢ LeftToSteps → HasRole points.now plain.now after.now result }
+{
+    if begins_with_starter(points) {
+        let role = role_of_starter(plain, after);
+        if !role.is_steps() {
+            return role;
+        }
+    }
+    if is_closed && points.len() == 1 {
+        return role_of_mark(plain, after);
+    }
+    Role::Steps
+}
+
+/// What a search does with points that begin with a starter and are no mark.
 fn role_of_starter(plain: &CharacterItems, after: &Option<CharacterItems>) -> Role
     ensures other { result ≢ Plain }
     ensures role { result ≢ LeftToSteps → (is_mark result ≡ false)
@@ -179,7 +201,7 @@ fn role_of_starter(plain: &CharacterItems, after: &Option<CharacterItems>) -> Ro
     Role::Steps
 }
 
-/// What a search does with one point that is no starter.
+/// What a search does with one point as a mark.
 fn role_of_mark(plain: &CharacterItems, after: &Option<CharacterItems>) -> Role
     ensures other { result ≢ Plain }
     ensures role { result ≢ LeftToSteps → (is_mark result ≡ true)

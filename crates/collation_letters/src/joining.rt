@@ -5,6 +5,7 @@ ghost use Rattle.collation_letters.specs.Joining.{Joins};
 
 use crate::letter::{Letter, Role};
 use crate::symbols::Symbols;
+use collation_elements::units_stay_apart;
 use nfd_points::laws::laws_of_points;
 
 /// The most points of a letter: so many non-starters in a row are no fault.
@@ -17,7 +18,8 @@ impl Letter {
     ghost use Rattle.collation_letters.specs.Letters.{IsLetter};
 
     /// The letter of these characters and a mark that follows them; `None` where that is left to the steps: where a unit may reach
-    /// from one to the other, the mark's class is below that of the last point, so that it goes before it, or there is no room.
+    /// from one to the other, the mark is a non-starter of a class below that of the last point, so that it goes before it, or there is
+    /// no room.
     #[inline(always)]
     pub fn with_mark(self, mark: Letter) -> Option<Letter>
         ensures { IfSome result (λ both.
@@ -26,9 +28,10 @@ impl Letter {
             → IsLetter table pattern (cs ++ c ∷ []) both) }
     {
         laws_of_points();
-        if !self.is_closed
+        units_stay_apart();
+        if (!self.is_closed && !mark.is_apart)
             || !mark.is_closed
-            || mark.class < self.class
+            || (mark.class != 0 && mark.class < self.class)
             || self.points >= MOST_POINTS
         {
             return None;

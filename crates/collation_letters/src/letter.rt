@@ -18,10 +18,10 @@ pub enum Role {
     VariableBase,
     /// It begins with a starter, begins no cluster and has no key.
     Silent,
-    /// A non-starter whose keys count whatever stands before it. After it the last element that was variable or primary is not
-    /// variable.
+    /// A mark: one point, a non-starter, or a starter that begins no cluster and has a key. Its keys count whatever stands before it.
+    /// After it the last element that was variable or primary is not variable.
     PrimaryMark,
-    /// A non-starter whose keys do not count where the last element that was variable or primary was variable, in shifted weighting.
+    /// A mark whose keys do not count where the last element that was variable or primary was variable, in shifted weighting.
     Mark,
 }
 
@@ -91,7 +91,7 @@ impl Role {
         }
     }
 
-    /// Whether it is a non-starter.
+    /// Whether it is a mark: it joins the letter before it.
     #[inline(always)]
     pub fn is_mark(self) -> bool
         ensures { result ≡ is_mark self }
@@ -112,7 +112,7 @@ impl Letter {
     ghost use Rattle.collation_letters.specs.Symbols.{listed};
     ghost use Rattle.collation_letters.specs.declared.letter.Role.TheVariants.{Base};
 
-    /// Whether its characters are known to begin with a starter.
+    /// Whether its characters are known to begin with a starter, and are no mark.
     #[inline(always)]
     pub fn is_starter(&self) -> bool
         ensures { result ≡ true → (table : TableMap) (pattern : Compiled) (cs : List ℕ)

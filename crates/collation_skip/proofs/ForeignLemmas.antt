@@ -20,7 +20,7 @@ use Rattle.collation_pattern.specs.Border.{border}
 use Rattle.collation_pattern.specs.Compiled.{Compiled}
 use Rattle.collation_letters.specs.Apart.{IsNext}
 use Rattle.collation_letters.specs.declared.letter.Letter.{Letter}
-use Rattle.collation_letters.specs.Letters.{IsClean, begins_cluster, is_mark, not_mark, flag_after, IsLetter}
+use Rattle.collation_letters.specs.Letters.{IsClean, begins_cluster, is_mark, flag_after, IsLetter}
 use Rattle.collation_letters.specs.Symbols.{AreLastSymbols, is_symbol, NothingWaitsBehindForeignKeys, OneSymbolIsOfTheLastKey}
 use Rattle.collation_letters.specs.Laws.{LetterLaws}
 use Rattle.collation_letters.proofs.ApartLemmas.{from_none, next-more, next-none}
@@ -62,7 +62,7 @@ quiet-begin table pattern start c some starter =
     }
 
 quiet-none : (table : TableMap) (pattern : Compiled) (start c : ℕ) (l : Letter) → 0 < length pattern.keys → IsLetter table pattern (c ∷ []) l → IsClean l → AreQuiet table pattern start [] c
-quiet-none table pattern start c l some h clean = quiet-begin table pattern start c some ((h.known (plain-known l.role clean.0)).starter ∙ ap not_mark clean.0)
+quiet-none table pattern start c l some h clean = quiet-begin table pattern start c some ((h.known (plain-known l.role clean.0)).starter (ap is_mark clean.0))
 
 -- where some were passed by
 pub quiet-passed : ForeignLaws → (table : TableMap) (pattern : Compiled) (start last : ℕ) (cs : List ℕ) (c : ℕ) → 0 < length pattern.keys → IsPassed table pattern start last cs c → AreQuiet table pattern start cs c

@@ -10,6 +10,9 @@ use collation_table::Weights;
 /// The fewest bytes of a short text by which a place is chosen.
 const SHORTEST: usize = 33;
 
+/// How many bytes at the front of a text are ASCII where a place is chosen by it: of other scripts few blocks pass.
+const FRONT: usize = 16;
+
 /// The most bytes of one text alone for which no place is chosen.
 const LONGEST_WITHOUT_PLACE: usize = 6_000;
 
@@ -64,7 +67,7 @@ impl AsciiBlocks {
         ensures passes { IfSome result
             (PassesTo (W.table table.now) pattern.now piece.now reach) }
     {
-        if piece.len() >= self.wanted {
+        if piece.len() >= self.wanted && begins_with_ascii(piece) {
             self.choose(table, pattern, letters, piece);
         }
         let Some(classes) = &self.classes else {
@@ -120,6 +123,12 @@ impl AsciiBlocks {
     fn is_due(&self, len: usize) -> bool {
         len >= SAMPLE || (self.seen >= SAMPLE && len >= SHORTEST)
     }
+}
+
+/// Whether a text is ASCII at its front.
+#[inline(always)]
+fn begins_with_ascii(text: &[u8]) -> bool {
+    text[..text.len().min(FRONT)].is_ascii()
 }
 
 /// The fewest bytes of a text that is looked at for a choice, behind the choice by a text of so many.

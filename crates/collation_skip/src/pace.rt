@@ -11,6 +11,12 @@ const WORTH_MOVES: usize = 24;
 /// How far the automaton goes at once where blocks pay: over what stopped them, in bytes.
 const SHORT: usize = 64;
 
+/// How far it goes there once it was not asked `MANY` times in a row: of what it goes over, it leaves the last bytes, in which a match
+/// may begin, and of a long record these are many.
+const LONG: usize = 128;
+
+const MANY: u32 = 31;
+
 /// How many bytes are much, when it is seen whether the automaton comes to their end, and how many may be left then.
 const MUCH: usize = 512;
 
@@ -37,6 +43,8 @@ const NEAR: usize = 256;
 pub(crate) struct Pace {
     /// Whether the last text of ASCII passed in blocks.
     blocks_pay: bool,
+    /// How far the automaton goes next where blocks pay, in bytes.
+    short: usize,
     /// Whether the automaton came to the end of what it was asked last, and that was much: then few stops are expected.
     is_calm: bool,
     /// How many times the automaton is not asked now, and how many times it was not the last time.
@@ -57,6 +65,7 @@ impl Pace {
     pub(crate) fn new() -> Pace {
         Pace {
             blocks_pay: false,
+            short: SHORT,
             is_calm: false,
             rest: 0,
             last_rest: 0,
@@ -103,23 +112,44 @@ impl Pace {
 
     /// The most bytes over which the automaton goes this time.
     pub(crate) fn most_moves(&mut self) -> usize {
-        let most = if self.blocks_pay { SHORT } else { usize::MAX };
+        let most = if self.blocks_pay {
+            self.short
+        } else {
+            usize::MAX
+        };
         self.blocks_pay = false;
         most
     }
 
     /// The automaton passed by so many bytes of those that it was asked, and blocks by so many. Where that was not worth while, it is not
-    /// asked one time, then 3, 7, and so on. Where it passed no more than blocks did, that says nothing.
+    /// asked one time, then 3, 7, and so on. Where it passed no more than blocks did, that says nothing. Once it goes `LONG`, it is
+    /// asked half as seldom each time that it is worth while.
     pub(crate) fn after_moves(&mut self, asked: usize, passed: usize, in_blocks: usize) {
         if asked >= MUCH {
             self.is_calm = passed >= asked - LITTLE;
         }
         if passed < WORTH_MOVES {
             self.last_rest = next_rest(self.last_rest);
-        } else if passed > in_blocks {
-            self.last_rest = 0;
+            if self.last_rest >= MANY {
+                self.short = LONG;
+            }
+        } else if passed > in_blocks.max(self.least(asked)) {
+            self.last_rest = if self.short > SHORT {
+                self.last_rest / 2
+            } else {
+                0
+            };
         }
         self.rest = self.last_rest;
+    }
+
+    /// How many bytes have to pass, so that it was worth while to go `LONG`: half of them.
+    fn least(&self, asked: usize) -> usize {
+        if self.short > SHORT && asked <= LONG {
+            asked / 2
+        } else {
+            0
+        }
     }
 
     /// The automaton passed by so many bytes: whether sets are chosen now, by a piece of so many. Where they were, it waits twice as

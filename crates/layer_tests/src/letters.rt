@@ -92,7 +92,7 @@ fn letter_to_is(rt: &impl Abort, alloc: Global, pattern: &str, c: char, want: &s
 }
 
 /// Letters to a pattern of one key, with variable elements kept.
-const OF_CHARACTERS: [(char, &str); 14] = [
+const OF_CHARACTERS: [(char, &str); 15] = [
     ('a', "Plain 255 255 1; 1/0; closed apart"),
     ('A', "Plain 255 255 1; 1/0; closed apart"),
     ('b', "Plain 255 255 0; 1/0; closed apart"),
@@ -103,6 +103,8 @@ const OF_CHARACTERS: [(char, &str); 14] = [
     ('\u{301}', "PrimaryMark 255 255 0; 1/230; closed"),
     ('\u{327}', "PrimaryMark 255 255 0; 1/202; closed"),
     ('\u{AD}', "Silent 255 255 255; 1/0; closed apart"),
+    // a starter that begins no cluster, and has a key
+    ('\u{20DD}', "PrimaryMark 255 255 0; 1/0; closed"),
     // `e` and a mark; `u` begins a mapped string of two
     ('\u{E9}', "Plain 255 255 0; 2/230; closed apart"),
     ('\u{FA}', "Base 255 255 0; 2/230; apart"),
@@ -122,7 +124,7 @@ fn letters_of_characters(rt: HostRuntime) {
     }
 }
 
-/// The circle is a starter that begins no cluster, and has a key from strength two on. `y` has four keys.
+/// The circle is a starter that begins no cluster, and has a key from strength two on: it is a mark there. `y` has four keys.
 const SHIFTED_LETTERS: [(char, Strength, &str); 9] = [
     (' ', TWO, "VariableBase 255 255 255;"),
     ('a', TWO, "Plain 255 255 1;"),
@@ -131,7 +133,7 @@ const SHIFTED_LETTERS: [(char, Strength, &str); 9] = [
     ('\u{301}', ONE, "Mark 255 255 255;"),
     ('\u{AD}', TWO, "Silent 255 255 255;"),
     ('\u{20DD}', ONE, "Silent 255 255 255;"),
-    ('\u{20DD}', TWO, "Steps"),
+    ('\u{20DD}', TWO, "Mark 255 255 0; 1/0; closed"),
     ('y', TWO, "Steps"),
 ];
 
@@ -352,8 +354,9 @@ fn symbols_of_keys_that_share_a_place(rt: HostRuntime) {
 }
 
 /// A character with marks behind it, and its letter to a pattern with the keys of `e` and of U+0301; none where one of them does not
-/// join: a mark of a lower class, one behind what begins a mapped string, and a fourth key.
-const MARKED: [(&str, &str); 11] = [
+/// join: a mark of a lower class, one behind what begins a mapped string, and a fourth key. The circle joins as a mark does, behind
+/// marks of any class.
+const MARKED: [(&str, &str); 17] = [
     ("e\u{301}", "Base 255 1 2; 2/230;"),
     ("\u{E9}\u{301}", "Base 1 2 2; 3/230;"),
     ("\u{E9}\u{301}\u{301}", ""),
@@ -365,6 +368,12 @@ const MARKED: [(&str, &str); 11] = [
     ("\u{301}\u{301}", ""),
     ("\u{AD}\u{301}", ""),
     ("ee", ""),
+    ("e\u{20DD}", "Plain 255 255 0; 2/0; closed"),
+    ("e\u{301}\u{20DD}\u{301}", "Base 255 0 2; 4/230; closed"),
+    ("u\u{20DD}", ""),
+    (" \u{20DD}", "VariableBase 255 255 255; 2/0; closed"),
+    ("\u{20DD}\u{301}", ""),
+    ("\u{AD}\u{20DD}", ""),
 ];
 
 /// The letter of a letter, if there is one, and a mark.

@@ -71,6 +71,14 @@ const TEXTS: [(&str, &str, Option<Place>); 16] = [
     ("h", "mmch", Some((1, 2, 'c'))),
 ];
 
+/// The same where the circle, a starter that begins no cluster, has a key: it joins the letter before it.
+const CIRCLES: [(&str, &str, Option<Place>); 4] = [
+    ("b", "mm\u{20DD}mm", Some((5, 6, 'm'))),
+    ("b", "mm\u{301}\u{20DD}mbm", Some((7, 8, 'b'))),
+    ("b", "\u{20DD}mm", None),
+    ("e\u{20DD}", "mme\u{20DD}m", Some((1, 2, 'e'))),
+];
+
 /// Compares what is passed by of a whole text.
 fn text_passes(
     rt: &impl Abort,
@@ -86,6 +94,9 @@ fn text_passes(
 fn text_is_passed_by(rt: HostRuntime) {
     for (pattern, text, want) in &TEXTS {
         text_passes(&rt, rt.alloc(), (*pattern, ONE, KEPT), *text, *want);
+    }
+    for (pattern, text, want) in &CIRCLES {
+        text_passes(&rt, rt.alloc(), (*pattern, TWO, KEPT), *text, *want);
     }
 }
 

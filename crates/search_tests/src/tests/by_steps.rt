@@ -1,5 +1,5 @@
-//! Text that goes by steps alone, and text that goes by letters: on both sides of what decides between them the answers are those of
-//! steps.
+//! Text that goes by steps alone, text that letters walk over, and text that is passed by: on both sides of what decides between them the
+//! answers are those of steps.
 
 ghost use Rattle.std.specs.Prelude.{◌<◌};
 
@@ -15,17 +15,15 @@ use collation_table::Table;
 use std::alloc::Global;
 use std::process::Abort;
 
-/// How many letters `a` patterns have, on both sides of the most for which letters are found at once, and how many ranges there are in
-/// `runs`.
+/// How many letters `a` patterns have, on both sides of the most for which text is passed by from its first byte on, and how many ranges
+/// there are in `runs`.
 const LENGTHS: [(usize, usize); 3] = [(1_024, 33_131), (1_025, 33_128), (3_000, 27_203)];
 
-/// Sizes of pieces, on both sides of the 1,536 letters that go by steps first, and of the 32,768 bytes of Han that do; a search is resumed
-/// after each piece of the greatest.
-const SIZES: [usize; 5] = [64, 4_096, 1_535, 1_536, 1_537];
+/// Sizes of pieces, on both sides of the 3,072 bytes of Han that go by steps first where the pattern has more keys, and of the 4,096 that are
+/// walked over first; a search is resumed after each piece of the last size.
+const SIZES: [usize; 5] = [64, 3_072, 3_073, 4_096, 4_097];
 
-const SIZES_OF_HAN: [usize; 4] = [4_096, 32_767, 32_768, 32_769];
-
-/// Runs of letters `a`, of which one stands across the first 1,536 bytes and two behind them.
+/// Runs of letters `a`, of which the second stands across the first 4,096 bytes.
 fn runs(rt: &impl Abort, alloc: Global) -> String {
     let some = repeated(rt, alloc, "a", 3_100);
     let many = repeated(rt, alloc, "a", 30_000);
@@ -43,14 +41,13 @@ fn compare_sizes(
     alloc: Global,
     query: &Query<'_, Table>,
     text: &[u8],
-    sizes: &[usize],
     want: usize,
 ) {
     let (ranges, fault) = stepped(rt, alloc, query, text);
     count_is(rt, ranges.len(), want);
     let mut last = 1;
-    for size in sizes {
-        last = *size;
+    for size in SIZES {
+        last = size;
         compare_fed(rt, alloc, query, text, last.max(1), &ranges, fault);
     }
     let (again, _most) = resumed(rt, alloc, query, text, last.max(1));
@@ -84,7 +81,7 @@ fn compare_length(
 ) {
     let letters = repeated(rt, alloc, "a", len);
     let pattern = compile(rt, alloc, table, &letters, ONE, KEPT);
-    compare_sizes(rt, alloc, &for_all(table, &pattern), text, &SIZES, want);
+    compare_sizes(rt, alloc, &for_all(table, &pattern), text, want);
 }
 
 /// Patterns and pieces of each length.
@@ -107,7 +104,7 @@ fn long_pattern_of_han_answers_as_steps(rt: HostRuntime) {
     let pattern = compile(&rt, alloc, &table, &sought, ONE, KEPT);
     let text = repeated(&rt, alloc, "一", 12_000);
     let query = for_all(&table, &pattern);
-    compare_sizes(&rt, alloc, &query, text.as_bytes(), &SIZES_OF_HAN, 10_976);
+    compare_sizes(&rt, alloc, &query, text.as_bytes(), 10_976);
 }
 
 /// Compares the first range of a text, again and again, by one search.
@@ -119,7 +116,7 @@ fn first_of_many(rt: &impl Abort, alloc: Global, query: &Query<'_, Table>, text:
     }
 }
 
-/// The first range of each of many texts, which together have more bytes than go by steps first, by one search; and so by one for each.
+/// The first range of each of many texts, which together have more bytes than are walked over first, by one search; and so by one for each.
 #[test]
 fn first_range_of_many_texts(rt: HostRuntime) {
     let alloc = rt.alloc();

@@ -3,7 +3,7 @@
 use super::answers::{answered_is, compare_with_steps, fed, stepped};
 use super::calls::{Query, compile, for_all, joined, put_bytes, query_for, read, repeated};
 use super::checks::{count_is, fault_is, holds};
-use super::{KEPT, ONE, SHIFTED, TABLE, THREE};
+use super::{KEPT, ONE, SHIFTED, TABLE, THREE, TWO};
 use collation_elements::{Strength, Variable};
 use collation_search::Select;
 use collation_table::{Table, Weights};
@@ -98,6 +98,13 @@ const LINES: &str =
     a\u{344}e\u{344}\u{327}\u{e9}\u{344}\u{3b1}\u{1f84}\u{1f80}\u{3b1}\u{345}\u{3b1}\u{345}\u{313}\u{3b1}\u{313}\u{301}\u{345}\u{1fb7}\
     \u{3b7}\u{1f97}\u{1f91}\u{3b1}\u{1f80}\u{301}e\u{3b1}\u{f73}\u{345}a\n";
 
+/// Letters with circles, starters that begin no cluster and have a key from strength two on: behind marks and before them, behind what
+/// begins a contraction, behind a variable element, one that is ignored, and none at all.
+const CIRCLES: &str =
+    "a\u{20DD}b e\u{301}\u{20DD}a\u{20DD}\u{327}u\u{20DD}\u{301}c\u{20DD}h ch\u{20DD}\u{20DD}e-\u{20DD}a \u{20DD}b\u{AD}\u{20DD}\
+    a\u{20DD}\u{E9}\u{20DD}\u{327}\u{301}a\u{327}\u{20DD}\u{301}b \u{4E00}\u{20DD}a-a\u{20DD}b a\u{301}\u{20DD}a\u{20DD} \
+    b\u{20DD}\u{20DD}\u{20DD}\u{20DD}a\u{20DD}aab\u{20DD}\nmm mm\n";
+
 /// A pattern, a strength, a weighting, which matches are selected, and how many ranges there are before the end, as
 /// `tools/compare/states.py` says.
 type Case<'a> = (&'a str, Strength, Variable, Select, usize);
@@ -155,6 +162,17 @@ const PAST_ASCII: [Case; 9] = [
     ("bees", ONE, KEPT, Select::All, 1),
 ];
 
+const OF_CIRCLES: [Case; 8] = [
+    ("a", TWO, KEPT, Select::All, 4),
+    ("a\u{20DD}", TWO, KEPT, Select::All, 5),
+    ("a\u{20DD}b", THREE, KEPT, Select::All, 2),
+    ("e\u{301}\u{20DD}", TWO, KEPT, Select::All, 1),
+    ("ch\u{20DD}\u{20DD}", TWO, KEPT, Select::All, 1),
+    ("-\u{20DD}", TWO, KEPT, Select::All, 1),
+    ("a\u{20DD}", TWO, SHIFTED, Select::Chain, 5),
+    ("u\u{20DD}\u{301}", THREE, SHIFTED, Select::All, 1),
+];
+
 /// Patterns of one key and of several, with letters that begin a contraction and with none, in tables whose longest string has three
 /// code points, two, and one.
 #[test]
@@ -168,4 +186,5 @@ fn pieces_of_ascii_leave_what_steps_leave(rt: HostRuntime) {
 #[test]
 fn pieces_past_ascii_leave_what_steps_leave(rt: HostRuntime) {
     compare(&rt, rt.alloc(), [TABLE, MORE_ROWS], LINES, &PAST_ASCII);
+    compare(&rt, rt.alloc(), [TABLE, ""], CIRCLES, &OF_CIRCLES);
 }

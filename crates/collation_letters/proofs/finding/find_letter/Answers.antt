@@ -33,7 +33,7 @@ returns-clause-letter g c =
     c.settled.ensures table pattern (ch ∷ [])
     (letter-at table pattern (ch ∷ []) ps _ (value ∙ sym (from-one 0 ch)) other
     (λ yes. closed-alone c.units_stay_apart.ensures.alone table ps (c.are_closed-is_closed.ensures yes))
-    c.are_apart.ensures
+    c.begin_apart.ensures
     (λ known. elim c.match-items_of.branch [
       | in-Some w ↦
           let it = w.in-Some.ensures in
