@@ -1,0 +1,5 @@
+pub mod Anchored
+pub mod Answers
+pub mod Laws
+pub mod Comparing
+pub mod Compared
