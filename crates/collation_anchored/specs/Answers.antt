@@ -22,3 +22,7 @@ begun_by table pattern bytes = is_begun pattern.keys (text_keys table pattern.st
 abbrev pub equal_answer : TableMap → Compiled → List ℕ → List ℕ → Result Bool TextFault
 equal_answer table pattern p bytes =
     unless_fault (begun_by table pattern bytes) (fault bytes) (is_equal table pattern.strength pattern.variable p (good_prefix bytes))
+
+-- memory was refused
+abbrev pub no_memory : TextFault
+no_memory = record { kind = 36; offset = 0 }

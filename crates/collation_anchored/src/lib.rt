@@ -4,9 +4,11 @@
 //! where the answer is decided, and reads no further.
 #![tactic(auto)]
 
+mod anchored;
 mod comparison;
 mod cutting;
 mod keys;
 pub mod laws;
 
+pub use crate::anchored::{Anchored, equal};
 pub use collation_matches::TextFault;
