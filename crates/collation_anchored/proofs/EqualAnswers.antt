@@ -32,6 +32,11 @@ answered_fault true None answer at h = cc
 answered_fault true (Some other) answer at h = let same : at ≡ other = cc in ap (λ e. Err e) same
 answered_fault false fault answer at h = cc
 
+-- the keys differ, and so the answer is no
+pub apart_answers : (begun : Bool) (fault : Option TextFault) (answer : Bool) → begun ≡ false → answer ≡ false → Ok false ≡ unless_fault begun fault answer
+apart_answers true fault answer h e = cc
+apart_answers false fault answer h e = ap (λ b. Ok b) (sym e)
+
 -- ---- equal keys
 
 -- whether a text is equal, by its keys

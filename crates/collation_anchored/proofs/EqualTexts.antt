@@ -52,7 +52,7 @@ part_whole text range start end =
     ap (λ (a : ℕ). take (range.1 - a) (drop a text)) start ∙ ap (λ (b : ℕ). take (b - 0) (drop 0 text)) end
     ∙ take_all (length text - 0) text (omega arith)
 
-equal_is : (table : TableMap) (strength : Strength) (variable : Variable) (pattern text : List ℕ) → is_equal table strength variable pattern text ≡ true →
+pub equal_is : (table : TableMap) (strength : Strength) (variable : Variable) (pattern text : List ℕ) → is_equal table strength variable pattern text ≡ true →
     text_sort_key table strength variable pattern ≡ text_sort_key table strength variable text
 equal_is table strength variable pattern text h =
     let key = text_sort_key table strength variable in
@@ -63,7 +63,7 @@ equal_is table strength variable pattern text h =
     let same = (in_filter test (ranges_among (boundaries table text)) range there.1).1 in
     sym ((bytes_eq-Decides (key (part text range)) (key pattern)).0 same) ∙ ap key (part_whole text range (eqb-true range.0 0 ends.0) (eqb-true range.1 (length text) ends.1))
 
-equal_from : (table : TableMap) (strength : Strength) (variable : Variable) (pattern text : List ℕ) →
+pub equal_from : (table : TableMap) (strength : Strength) (variable : Variable) (pattern text : List ℕ) →
     text_sort_key table strength variable pattern ≡ text_sort_key table strength variable text → is_equal table strength variable pattern text ≡ true
 equal_from table strength variable pattern text e =
     let key = text_sort_key table strength variable in
