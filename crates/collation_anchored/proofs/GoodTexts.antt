@@ -1,10 +1,9 @@
 -- However bytes that a text may begin with go on, what stands before the first fault begins with their whole characters.
 use Rattle.std.specs.Str.{chars, IsUtf8}
-use Rattle.std.proofs.Common.{◌≡◌, ◌∙◌, ℕ, true, List, ◌++◌, take, drop, Some, None, sym, ap, subst, inl, inr}
+use Rattle.std.proofs.Common.{◌≡◌, ◌∙◌, ℕ, true, List, ◌++◌, take, drop, sym, ap, subst, inl, inr}
 use Rattle.utf8_cut.specs.Characters.{characters_end}
-use Rattle.collation_matches.specs.declared.faults.TextFault.{TextFault}
 use Rattle.collation_matches.specs.GoodPrefix.{fault, good_prefix, prefix_at, whole, is_good_so_far}
-use Rattle.collation_matches.proofs.LagTexts.{TextLaws, BeginsWith, begins-append, begins-take, begins-chars, fault_after, no_fault_text}
+use Rattle.collation_matches.proofs.LagTexts.{TextLaws, begins-append, begins-take, begins-chars, fault_after, no_fault_text}
 use Rattle.collation_matches.proofs.SearchLemmas.{either, good_prefix_found}
 
 -- its code points are those and others

@@ -5,3 +5,4 @@ pub mod ComparedTexts
 pub mod EqualAnswers
 pub mod GoodTexts
 pub mod NextCharacter
+pub mod WorkedRowLemmas

@@ -3,3 +3,4 @@ pub mod Answers
 pub mod Laws
 pub mod Comparing
 pub mod Compared
+pub mod WorkedRows

@@ -9,6 +9,7 @@ mod comparison;
 mod cutting;
 mod keys;
 pub mod laws;
+pub mod worked;
 
 pub use crate::anchored::{Anchored, equal};
 pub use collation_matches::TextFault;

@@ -3,6 +3,7 @@
 
 use collation_elements::{Strength, Variable};
 
+mod anchored;
 mod answers;
 mod by_steps;
 mod calls;

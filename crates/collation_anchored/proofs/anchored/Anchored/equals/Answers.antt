@@ -1,4 +1,4 @@
-use Rattle.std.proofs.Common.{◌≡◌, ◌∙◌, ℕ, Bool, true, false, ◌==◌, Result, Ok, sym, ap}
+use Rattle.std.proofs.Common.{◌∙◌, ℕ, Bool, ◌==◌, Result, Ok, sym, ap}
 use Rattle.collation_matches.specs.declared.faults.TextFault.{TextFault}
 use Rattle.collation_matches.specs.GoodPrefix.{fault, good_prefix}
 use Rattle.collation_matches.proofs.LagTexts.{TextLaws}

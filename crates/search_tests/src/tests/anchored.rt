@@ -1,0 +1,161 @@
+//! Whole texts that are matches: worked rows, asked one after the other of one value, and each by itself, by either table. Where memory
+//! is refused it is asked for again, so that each allocation may be refused in turn.
+
+use super::calls::{compile, read, read_plain};
+use super::checks::same_at;
+use super::{KEPT, ONE, SHIFTED, TABLE, THREE, TWO};
+use collation_anchored::{Anchored, equal};
+use collation_elements::{Strength, Variable};
+use collation_pattern::Pattern;
+use collation_search::TextFault;
+use collation_table::Weights;
+use std::alloc::Global;
+use std::process::Abort;
+
+/// A text, and whether it is equal, or at which offset an ill-formed sequence stands, or one that the end cuts.
+type Asked<'a> = (&'a [u8], Result<bool, u64>);
+
+/// A strength, a weighting, a pattern, and what is asked of it.
+type Row<'a> = (Strength, Variable, &'a str, &'a [Asked<'a>]);
+
+const COMPOSED: &[u8] = b"r\xc3\xa9sum\xc3\xa9";
+
+const DECOMPOSED: &[u8] = b"re\xcc\x81sume\xcc\x81";
+
+/// Three jamo, which are the decomposition of a syllable.
+const JAMO: &[u8] = b"\xe1\x84\x80\xe1\x85\xa1\xe1\x86\xa8";
+
+const ACCENTS: [Row; 4] = [
+    (
+        ONE,
+        KEPT,
+        "resume",
+        &[
+            (COMPOSED, Ok(true)),
+            (DECOMPOSED, Ok(true)),
+            (b"resumes", Ok(false)),
+            (b"resum", Ok(false)),
+        ],
+    ),
+    (
+        TWO,
+        KEPT,
+        "resume",
+        &[(COMPOSED, Ok(false)), (b"resume", Ok(true))],
+    ),
+    (
+        THREE,
+        KEPT,
+        "r\u{e9}sum\u{e9}",
+        &[(DECOMPOSED, Ok(true)), (b"resume", Ok(false))],
+    ),
+    (
+        ONE,
+        KEPT,
+        "a",
+        &[
+            (b"\xcc\x81a", Ok(true)),
+            (b"A\xcc\x81", Ok(true)),
+            (b"", Ok(false)),
+            (b"\xcc\x81", Ok(false)),
+        ],
+    ),
+];
+
+const OTHERS: [Row; 4] = [
+    (
+        THREE,
+        KEPT,
+        "c",
+        &[(b"ch", Ok(false)), (b"c\xc2\xad", Ok(true))],
+    ),
+    (
+        THREE,
+        SHIFTED,
+        "ab",
+        &[(b"-a - b ", Ok(true)), (b"a-", Ok(false))],
+    ),
+    (
+        THREE,
+        KEPT,
+        "\u{ac01}",
+        &[(JAMO, Ok(true)), (b"\xe1\x84\x80", Ok(false))],
+    ),
+    (
+        THREE,
+        KEPT,
+        "ab",
+        &[
+            (b"a\xff", Err(1)),
+            (b"ab\xc3", Err(2)),
+            (b"b\xff", Ok(false)),
+            (b"aba\xff", Ok(false)),
+        ],
+    ),
+];
+
+/// What asks texts for this pattern, asked for again where memory was refused.
+fn begin<'a, W: Weights>(
+    rt: &impl Abort,
+    alloc: Global,
+    table: &'a W,
+    pattern: &'a Pattern,
+) -> Anchored<'a, W> {
+    match Anchored::new(alloc, table, pattern) {
+        Ok(anchored) => anchored,
+        Err(_refused) => Anchored::new(alloc, table, pattern).expect(rt, "memory"),
+    }
+}
+
+/// Whether a text is equal, by a value that was made before.
+fn equals<W: Weights>(anchored: &mut Anchored<'_, W>, text: &[u8]) -> Result<bool, TextFault> {
+    anchored.equals(text)
+}
+
+/// Whether a text is equal, asked for again where memory was refused.
+fn equal_again<W: Weights>(
+    alloc: Global,
+    table: &W,
+    pattern: &Pattern,
+    text: &[u8],
+) -> Result<bool, TextFault> {
+    match equal(alloc, table, pattern, text) {
+        Err(fault) if fault.kind == TextFault::NO_MEMORY => equal(alloc, table, pattern, text),
+        answer => answer,
+    }
+}
+
+/// Compares what is answered of a row, of each text twice.
+fn compare<W: Weights>(rt: &impl Abort, alloc: Global, table: &W, row: &Row<'_>) {
+    let (strength, variable, letters, asked) = *row;
+    let pattern = compile(rt, alloc, table, letters, strength, variable);
+    let mut anchored = begin(rt, alloc, table, &pattern);
+    for (text, want) in asked {
+        let want = want.map_err(|offset| TextFault { kind: 31, offset });
+        same_at(rt, &equals(&mut anchored, text), &want, &letters);
+        same_at(rt, &equal_again(alloc, table, &pattern, text), &want, &letters);
+    }
+}
+
+/// Compares each of some rows.
+fn compare_each<W: Weights>(rt: &impl Abort, alloc: Global, table: &W, rows: &[Row<'_>]) {
+    for row in rows {
+        compare(rt, alloc, table, row);
+    }
+}
+
+/// Compares each of some rows, by either table.
+fn compare_all(rt: &impl Abort, alloc: Global, rows: &[Row<'_>]) {
+    compare_each(rt, alloc, &read(rt, alloc, TABLE), rows);
+    compare_each(rt, alloc, &read_plain(rt, alloc, TABLE), rows);
+}
+
+#[test]
+fn equal_accents(rt: HostRuntime) {
+    compare_all(&rt, rt.alloc(), &ACCENTS);
+}
+
+#[test]
+fn equal_texts(rt: HostRuntime) {
+    compare_all(&rt, rt.alloc(), &OTHERS);
+}
