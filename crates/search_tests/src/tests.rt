@@ -3,7 +3,6 @@
 
 use collation_elements::{Strength, Variable};
 
-mod anchored;
 mod answers;
 mod by_steps;
 mod calls;
