@@ -1,7 +1,6 @@
 //! Whole texts that are matches: worked rows, asked one after the other of one value, and each by itself, by either table. Where memory
 //! is refused it is asked for again, so that each allocation may be refused in turn.
 
-
 use collation_anchored::{Anchored, TextFault, equal};
 use collation_elements::{Strength, Variable};
 use collation_pattern::Pattern;
@@ -187,13 +186,25 @@ fn equal_again<W: Weights>(
     }
 }
 
+/// What is answered of a text that is equal or not, or has its first fault at this offset.
+fn answer_of(is_equal: Result<bool, u64>) -> Result<bool, TextFault> {
+    match is_equal {
+        Ok(is_so) => Ok(is_so),
+        Err(offset) => Err(TextFault {
+            kind: TextFault::ILL_FORMED,
+            offset,
+        }),
+    }
+}
+
 /// Compares what is answered of a row, of each text twice.
 fn compare<W: Weights>(rt: &impl Abort, alloc: Global, table: &W, row: &Row<'_>) {
     let (strength, variable, letters, asked) = *row;
     let pattern = compile(rt, alloc, table, letters, strength, variable);
     let mut anchored = begin(rt, alloc, table, &pattern);
-    for (text, want) in asked {
-        let want = want.map_err(|offset| TextFault { kind: 31, offset });
+    for one in asked {
+        let (text, is_equal) = *one;
+        let want = answer_of(is_equal);
         same_at(rt, &equals(&mut anchored, text), &want, &letters);
         same_at(
             rt,
