@@ -1,0 +1,28 @@
+-- Matches that are anchored: the whole of a text, one that begins it, one that ends it (UTS #10, section 11). They need not be
+-- minimal: ignorable characters at the ends of the text belong to them.
+use Rattle.std.specs.Prelude.{ℕ, Bool, ◌==◌, ◌&&◌, List, take, length}
+use Rattle.std.specs.List.{list_any}
+use Rattle.collation_table.specs.Table.{TableMap}
+use Rattle.collation_elements.specs.declared.settings.Variable.{Variable}
+use Rattle.collation_elements.specs.declared.settings.Strength.{Strength}
+use Rattle.collation_elements.specs.declared.keys.Key.{Key}
+use Rattle.collation_pattern.specs.Border.{same_keys}
+use Rattle.collation_pattern.specs.SortKey.{text_sort_key}
+use Rattle.collation_matches.specs.Matches.{ranges_with_sort_key}
+
+-- all matches of a pattern in a text, minimal or not, by rising start, and those of one start by rising end
+abbrev pub all_matches : TableMap → Strength → Variable → List ℕ → List ℕ → List (ℕ × ℕ)
+all_matches table strength variable pattern text =
+    ranges_with_sort_key table strength variable (text_sort_key table strength variable pattern) text
+
+-- the range is the whole of a text of this length
+abbrev pub is_whole : ℕ → ℕ × ℕ → Bool
+is_whole len range = range.0 == 0 && range.1 == len
+
+-- the whole text is a match
+abbrev pub is_equal : TableMap → Strength → Variable → List ℕ → List ℕ → Bool
+is_equal table strength variable pattern text = list_any (is_whole (length text)) (all_matches table strength variable pattern text)
+
+-- these keys are the first of the pattern's, or all of them
+abbrev pub is_begun : List Key → List Key → Bool
+is_begun pattern ks = same_keys (take (length ks) pattern) ks

@@ -1,0 +1,6 @@
+pub mod Anchored
+pub mod Answers
+pub mod Laws
+pub mod Comparing
+pub mod Compared
+pub mod WorkedRows

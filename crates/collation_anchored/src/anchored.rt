@@ -1,0 +1,105 @@
+//! Whether a whole text is a match.
+
+ghost use Rattle.std.specs.Prelude.{◌≡◌, ◌⊎◌, ℕ, List, Result, Bool, Err};
+ghost use Rattle.collation_table.specs.Table.{longest_mapped};
+ghost use Rattle.collation_pattern.specs.Compiled.{IsCompiledWith};
+ghost use Rattle.collation_anchored.specs.Answers.{equal_answer, no_memory};
+
+use crate::comparison::Comparison;
+use collation_matches::TextFault;
+use collation_pattern::Pattern;
+use collation_pattern::laws::key_law;
+use collation_table::Weights;
+use nfd_points::laws::laws_of_faults;
+use std::alloc::{AllocError, Global};
+use utf8_cut::whole_characters_are_the_longest_text;
+
+/// Whether a whole text is a match of a pattern, as [`Anchored::equals`] says. The pattern was compiled with this table.
+///
+/// # Errors
+///
+/// Those of [`Anchored::equals`], or 36 at 0 where [`Anchored::new`] was refused memory. That this is for no other reason no clause says,
+/// for none can name the request: it is read off the body, and tested.
+pub fn equal<W: Weights>(
+    alloc: Global,
+    table: &W,
+    pattern: &Pattern,
+    text: &[u8],
+) -> Result<bool, TextFault>
+    ensures answer { (p : List ℕ) → IsCompiledWith (W.table table.now) pattern.now p
+        → (result ≡ Err no_memory)
+        ⊎ (result ≡ equal_answer (W.table table.now) pattern.now p text.now) }
+{
+    let Ok(mut anchored) = Anchored::new(alloc, table, pattern) else {
+        return Err(TextFault {
+            kind: TextFault::NO_MEMORY,
+            offset: 0,
+        });
+    };
+    anchored.equals(text)
+}
+
+/// Asks texts in memory for matches that are anchored, one text after the other.
+#[derive(Drop)]
+pub struct Anchored<'a, W: Weights> {
+    table: &'a W,
+    pattern: &'a Pattern,
+    alloc: Global,
+    comparison: Comparison,
+    ghost longest: { comparison.longest_key ≡ longest_mapped (W.table table.now) },
+}
+
+impl<'a, W: Weights> Anchored<'a, W> {
+    ghost use Rattle.std.specs.Prelude.{◌≡◌, ℕ, List, IfOk};
+    ghost use Rattle.collation_pattern.specs.Compiled.{IsCompiledWith};
+    ghost use Rattle.collation_anchored.specs.Answers.{equal_answer};
+
+    /// Lends a table and a pattern that was compiled with it.
+    ///
+    /// # Errors
+    ///
+    /// Where memory was refused. That it is for no other reason no clause says: the body has no other `Err`, and it is tested.
+    pub fn new(alloc: Global, table: &'a W, pattern: &'a Pattern) -> Result<Self, AllocError>
+        ensures table { IfOk result (λ made. made.table.now ≡ table.now) }
+        ensures pattern { IfOk result (λ made. made.pattern.now ≡ pattern.now) }
+    {
+        Ok(Anchored {
+            table,
+            pattern,
+            alloc,
+            comparison: Comparison::new(alloc, table, pattern)?,
+        })
+    }
+
+    /// Whether the whole text is a match: its sort key is the pattern's (UTS #10, S3). Ignorable characters at its ends belong to it. It
+    /// reads no further than where that is decided: of a text that begins with another letter than the pattern its first characters alone.
+    /// No memory is taken.
+    ///
+    /// # Errors
+    ///
+    /// The first fault of the text, where it stands before the answer is decided: the text counts as ended there, and its keys are the
+    /// first of the pattern's, or all of them. A fault behind is not told.
+    pub fn equals(&mut self, text: &[u8]) -> Result<bool, TextFault>
+        ensures answer { (p : List ℕ)
+            → IsCompiledWith (W.table self.old.table.now) self.old.pattern.now p
+            → result ≡ equal_answer (W.table self.old.table.now) self.old.pattern.now p text.now }
+        ensures table { self.new.table.now ≡ self.old.table.now }
+        ensures pattern { self.new.pattern.now ≡ self.old.pattern.now }
+    {
+        key_law(self.table);
+        laws_of_faults();
+        whole_characters_are_the_longest_text();
+        let compared = self
+            .comparison
+            .compare(self.alloc, self.table, self.pattern, text);
+        match compared {
+            Ok(begun) => {
+                if !begun {
+                    return Ok(false);
+                }
+                Ok(self.comparison.matched == self.pattern.len())
+            }
+            Err(fault) => Err(fault),
+        }
+    }
+}

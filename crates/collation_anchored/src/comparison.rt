@@ -1,0 +1,296 @@
+//! The comparison of a text with a pattern, while the text's bytes come one by one.
+
+ghost use Rattle.std.specs.Prelude.{◌≡◌, ◌+◌, ◌≤◌, length, true, false, Some};
+ghost use Rattle.nfd_points.specs.Reordering.{is_closed};
+ghost use Rattle.nfd_points.specs.declared.limits.TheConstants.{MOST_GIVEN};
+ghost use Rattle.collation_anchored.specs.Answers.{unless_fault};
+
+use crate::cutting::{cut_units, push_points};
+use arrayvec::ArrayVec;
+use collation_elements::{Item, MOST_ITEMS, Weigher, Window, closed_points_append};
+use collation_matches::TextFault;
+use collation_pattern::Pattern;
+use collation_table::Weights;
+use nfd_points::laws::laws_of_faults;
+use nfd_points::{MOST_GIVEN, Point, PointFault, Reorder};
+use std::alloc::{AllocError, Global};
+use utf8_cut::{Cut, Cutting, any_bytes_may_follow, whole_characters_are_the_longest_text};
+
+/// How many bytes a text may have.
+const MOST_BYTES: u64 = 1 << 62;
+
+/// Takes the bytes of a text, and compares its keys with those of a pattern.
+#[derive(Drop)]
+pub(crate) struct Comparison {
+    pub(crate) cut: Cut,
+    pub(crate) reorder: Reorder,
+    pub(crate) window: Window,
+    pub(crate) weigher: Weigher,
+    /// How many of the pattern's keys the text began with so far.
+    pub(crate) matched: usize,
+    /// The number of code points of the table's longest key.
+    pub(crate) longest_key: usize,
+    /// What the reorderer gave last, and the items of the last unit. Their room is used again and again.
+    given: ArrayVec<Point, MOST_GIVEN>,
+    items: Box<ArrayVec<Item, MOST_ITEMS>>,
+    ghost capacity: { window.capacity ≡ longest_key + MOST_GIVEN },
+    ghost undecided: { length window.points ≤ longest_key },
+    ghost closed: { is_closed window.points ≡ true },
+    ghost not_ended: { window.has_ended ≡ false },
+}
+
+impl Comparison {
+    ghost use Rattle.std.specs.Prelude.{◌≡◌, ℕ, ◌+◌, ◌≤◌, List, [], ◌∷◌, ◌++◌, length, take, IfOk, OnOk, OnErr, IfErr, Ok, Some, None, true, false};
+    ghost use Rattle.std.specs.Str.{chars};
+    ghost use Rattle.utf8_cut.specs.Characters.{characters_end};
+    ghost use Rattle.nfd_points.specs.Points.{byte_len, points};
+    ghost use Rattle.nfd_points.specs.PointFaults.{point_fault};
+    ghost use Rattle.collation_table.specs.Table.{TableMap, longest_mapped};
+    ghost use Rattle.collation_elements.specs.Keys.{keys};
+    ghost use Rattle.collation_pattern.specs.Levels.{text_keys};
+    ghost use Rattle.collation_matches.specs.GoodPrefix.{fault as fault_of, good_prefix, whole};
+    ghost use Rattle.collation_anchored.specs.Anchored.{is_begun};
+    ghost use Rattle.collation_anchored.specs.Answers.{begun_by, unless_fault};
+    ghost use Rattle.collation_anchored.specs.Comparing.{HasCompared, HasTaken};
+
+    /// A comparison at the beginning of a text.
+    pub(crate) fn new<W: Weights>(
+        alloc: Global,
+        table: &W,
+        pattern: &Pattern,
+    ) -> Result<Self, AllocError>
+        ensures longest { IfOk result
+            (λ made. made.longest_key ≡ longest_mapped (W.table table.now)) }
+    {
+        let longest_key = table.longest_key();
+        Ok(Comparison {
+            cut: Cut::new(),
+            reorder: Reorder::new(alloc),
+            window: Window::with_capacity(alloc, longest_key)?,
+            weigher: Weigher::new(pattern.strength(), pattern.variable()),
+            matched: 0,
+            longest_key,
+            given: ArrayVec::new(),
+            items: Box::new(alloc, ArrayVec::new())?,
+        })
+    }
+
+    /// Goes to the beginning of a text.
+    pub(crate) fn begin(&mut self, alloc: Global, pattern: &Pattern)
+        ensures taken { (table : TableMap) → HasTaken table pattern.now self.new [] }
+        ensures longest { self.new.longest_key ≡ self.old.longest_key }
+    {
+        self.cut = Cut::new();
+        self.reorder = Reorder::new(alloc);
+        self.window.clear();
+        self.weigher = Weigher::new(pattern.strength(), pattern.variable());
+        self.matched = 0;
+    }
+
+    /// Takes the next character, which stands at a byte offset: whether the keys of the text may still be the first of the pattern's.
+    ///
+    /// # Errors
+    ///
+    /// That of the reorderer; then it represents what it did before.
+    fn take_character<W: Weights>(
+        &mut self,
+        table: &W,
+        pattern: &Pattern,
+        c: char,
+        offset: u64,
+    ) -> Result<bool, PointFault>
+        requires longest { self.old.longest_key ≡ longest_mapped (W.table table.now) }
+        ensures stands { (taken : List ℕ)
+            → HasCompared (W.table table.now) pattern.now self.old taken
+            → offset ≡ byte_len taken → result ≡ Ok true
+            → HasCompared (W.table table.now) pattern.now self.new (taken ++ c ∷ []) }
+        ensures differs { (taken rest : List ℕ)
+            → HasCompared (W.table table.now) pattern.now self.old taken
+            → offset ≡ byte_len taken → result ≡ Ok false
+            → is_begun pattern.now.keys
+            (keys (W.table table.now) pattern.now.strength pattern.now.variable
+            (points (taken ++ c ∷ rest)))
+            ≡ false }
+        ensures good { (taken : List ℕ)
+            → HasCompared (W.table table.now) pattern.now self.old taken
+            → offset ≡ byte_len taken → OnOk result (point_fault (taken ++ c ∷ []) ≡ None) }
+        ensures kept { (taken : List ℕ)
+            → HasCompared (W.table table.now) pattern.now self.old taken
+            → OnErr result (HasCompared (W.table table.now) pattern.now self.new taken) }
+        ensures fault { (taken rest : List ℕ)
+            → HasCompared (W.table table.now) pattern.now self.old taken
+            → IfErr result (λ f. point_fault (taken ++ c ∷ rest) ≡ Some (byte_len taken, f.kind)) }
+        ensures cut { self.new.cut ≡ self.old.cut }
+        ensures longest { self.new.longest_key ≡ self.old.longest_key }
+    {
+        closed_points_append();
+        self.reorder.push(c, offset, &mut self.given)?;
+        push_points(&mut self.window, self.given.as_slice());
+        match cut_units(
+            table,
+            pattern,
+            &mut self.window,
+            &mut self.weigher,
+            &mut *self.items,
+            self.matched,
+        ) {
+            Some(matched) => {
+                self.matched = matched;
+                Ok(true)
+            }
+            None => {
+                self.window.clear();
+                Ok(false)
+            }
+        }
+    }
+
+    /// Takes one byte of a text: whether the keys of the text may still be the first of the pattern's.
+    ///
+    /// # Errors
+    ///
+    /// The first fault of the text; then it represents the code points before it.
+    fn take<W: Weights>(
+        &mut self,
+        table: &W,
+        pattern: &Pattern,
+        byte: u8,
+    ) -> Result<bool, TextFault>
+        requires longest { self.old.longest_key ≡ longest_mapped (W.table table.now) }
+        ensures stands { (u : List ℕ) → HasTaken (W.table table.now) pattern.now self.old u
+            → result ≡ Ok true
+            → HasTaken (W.table table.now) pattern.now self.new (u ++ byte ∷ []) }
+        ensures differs { (u more : List ℕ) → HasTaken (W.table table.now) pattern.now self.old u
+            → result ≡ Ok false
+            → is_begun pattern.now.keys
+            (text_keys (W.table table.now) pattern.now.strength pattern.now.variable
+            (good_prefix (u ++ byte ∷ more)))
+            ≡ false }
+        ensures kept { (u : List ℕ) → HasTaken (W.table table.now) pattern.now self.old u
+            → OnErr result
+            (HasCompared (W.table table.now) pattern.now self.new (chars (whole u))) }
+        ensures fault { (u more : List ℕ) → HasTaken (W.table table.now) pattern.now self.old u
+            → IfErr result (λ f. fault_of (u ++ byte ∷ more) ≡ Some f) }
+        ensures offset { (u : List ℕ) → HasTaken (W.table table.now) pattern.now self.old u
+            → IfErr result (λ f. f.offset ≡ characters_end u) }
+        ensures longest { self.new.longest_key ≡ self.old.longest_key }
+    {
+        any_bytes_may_follow();
+        whole_characters_are_the_longest_text();
+        laws_of_faults();
+        if self.cut.count() >= MOST_BYTES {
+            let offset = self.cut.held_start();
+            return Err(TextFault {
+                kind: TextFault::TOO_LONG,
+                offset,
+            });
+        }
+        match self.cut.push(byte) {
+            Cutting::More => Ok(true),
+            Cutting::Bad(offset) => Err(TextFault {
+                kind: TextFault::ILL_FORMED,
+                offset,
+            }),
+            Cutting::Char(c, offset) => match self.take_character(table, pattern, c, offset) {
+                Ok(alike) => Ok(alike),
+                Err(fault) => Err(TextFault {
+                    kind: fault.kind,
+                    offset,
+                }),
+            },
+        }
+    }
+
+    /// Ends the text here, and compares the rest of its keys: whether all are the first of the pattern's.
+    fn end<W: Weights>(&mut self, table: &W, pattern: &Pattern) -> bool
+        requires longest { self.old.longest_key ≡ longest_mapped (W.table table.now) }
+        ensures begun { (taken : List ℕ)
+            → HasCompared (W.table table.now) pattern.now self.old taken
+            → result ≡ is_begun pattern.now.keys
+            (keys (W.table table.now) pattern.now.strength pattern.now.variable (points taken)) }
+        ensures matched { (taken : List ℕ)
+            → HasCompared (W.table table.now) pattern.now self.old taken → result ≡ true
+            → keys (W.table table.now) pattern.now.strength pattern.now.variable (points taken)
+            ≡ take self.new.matched pattern.now.keys }
+        ensures within { (taken : List ℕ)
+            → HasCompared (W.table table.now) pattern.now self.old taken → result ≡ true
+            → self.new.matched ≤ length pattern.now.keys }
+        ensures longest { self.new.longest_key ≡ self.old.longest_key }
+    {
+        self.reorder.finish(&mut self.given);
+        push_points(&mut self.window, self.given.as_slice());
+        self.window.end();
+        let compared = cut_units(
+            table,
+            pattern,
+            &mut self.window,
+            &mut self.weigher,
+            &mut *self.items,
+            self.matched,
+        );
+        self.window.clear();
+        match compared {
+            Some(matched) => {
+                self.matched = matched;
+                true
+            }
+            None => false,
+        }
+    }
+
+    /// Compares a text with a pattern, as far as it may be alike: whether all keys of the text are the first of the pattern's. It reads no
+    /// further than where they are not.
+    ///
+    /// # Errors
+    ///
+    /// The first fault of the text, where the keys before it are the first of the pattern's.
+    pub(crate) fn compare<W: Weights>(
+        &mut self,
+        alloc: Global,
+        table: &W,
+        pattern: &Pattern,
+        text: &[u8],
+    ) -> Result<bool, TextFault>
+        requires longest { self.old.longest_key ≡ longest_mapped (W.table table.now) }
+        ensures answer { let begun = begun_by (W.table table.now) pattern.now text.now in
+            result ≡ unless_fault begun (fault_of text.now) begun }
+        ensures matched { result ≡ Ok true
+            → text_keys (W.table table.now) pattern.now.strength pattern.now.variable
+            (good_prefix text.now)
+            ≡ take self.new.matched pattern.now.keys }
+        ensures within { result ≡ Ok true → self.new.matched ≤ length pattern.now.keys }
+        ensures longest { self.new.longest_key ≡ self.old.longest_key }
+    {
+        whole_characters_are_the_longest_text();
+        self.begin(alloc, pattern);
+        for byte in text {
+            match self.take(table, pattern, *byte) {
+                Ok(alike) => {
+                    if !alike {
+                        return Ok(false);
+                    }
+                }
+                Err(fault) => return unless_decided(self.end(table, pattern), fault),
+            }
+        }
+        let ended = self.cut.finish();
+        let begun = self.end(table, pattern);
+        match ended {
+            None => Ok(begun),
+            Some(offset) => unless_decided(
+                begun,
+                TextFault {
+                    kind: TextFault::ILL_FORMED,
+                    offset,
+                },
+            ),
+        }
+    }
+}
+
+/// The fault, unless the keys before it are not the first of the pattern's.
+fn unless_decided(begun: bool, fault: TextFault) -> Result<bool, TextFault>
+    ensures { result ≡ unless_fault begun (Some fault) begun }
+{
+    if begun { Err(fault) } else { Ok(false) }
+}

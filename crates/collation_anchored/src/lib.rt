@@ -1,0 +1,15 @@
+//! Anchored matches (UTS #10, section 11): whether a whole text is a match of a pattern.
+//!
+//! An [`Anchored`] goes by steps: the units of the text are weighed one by one, and their keys compared with the pattern's. It stops
+//! where the answer is decided, and reads no further.
+#![tactic(auto)]
+
+mod anchored;
+mod comparison;
+mod cutting;
+mod keys;
+pub mod laws;
+pub mod worked;
+
+pub use crate::anchored::{Anchored, equal};
+pub use collation_matches::TextFault;
