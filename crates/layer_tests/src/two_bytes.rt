@@ -491,7 +491,11 @@ fn turn_is(rt: &impl Abort, alloc: Global, len: usize, is_all: bool) {
         1,
         if is_all { all_of(&probe) } else { 39 },
     );
-    rows_with_sets(rt, alloc, &[all(&calm_text, 1), all(&near, 1), last], 0);
+    // by its front a place is chosen for blocks of ASCII
+    let mut sample = repeated(rt, alloc, "m", 16);
+    put(rt, &mut sample, &calm(rt, alloc, SAMPLE));
+    let rows = [all(&calm_text, 1), all(&near, 1), last];
+    rows_after(rt, alloc, "абв", FIRST_WAIT - 500, &sample, &rows, 0);
 }
 
 /// Where the first 256 bytes of what is passed by are of ASCII, blocks of ASCII come first then, and else those of two bytes.
