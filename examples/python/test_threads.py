@@ -72,7 +72,7 @@ class ThreadsTest(unittest.TestCase):
         with TemporaryFile() as file:
             file.write(TEXT)
             file.flush()
-            with mmap(file.fileno(), 0, access=ACCESS_READ) as mapped:
+            with mmap(file.fileno(), 0, access=ACCESS_READ) as mapped, mmap(file.fileno(), 0) as written, memoryview(written) as view:
                 sys.setswitchinterval(1000)
                 try:
                     many = [lambda: list(self.pattern.index_many(texts)), lambda: list(self.pattern.search_many(texts))]
@@ -83,8 +83,9 @@ class ThreadsTest(unittest.TestCase):
                                  *(many if colfind._MANY else ())):
                         self.assertTrue(self.was_seen_under_way(lambda: call() and None, TRIES))
                     changing = bytearray(TEXT)
-                    for data in changing, memoryview(changing), memoryview(changing).toreadonly():
-                        self.assertFalse(self.was_seen_under_way(lambda: self.pattern.index(data) and None, 3))
+                    with view.toreadonly() as read_only:
+                        for data in changing, memoryview(changing), memoryview(changing).toreadonly(), written, view, read_only:
+                            self.assertFalse(self.was_seen_under_way(lambda: self.pattern.index(data) and None, 3))
                 finally:
                     sys.setswitchinterval(interval)
 
