@@ -178,7 +178,7 @@ class ManyTextsTest(unittest.TestCase):
 
     def test_a_long_neighbour(self) -> None:
         """It alone is searched by itself, and no call has more characters than it may have."""
-        texts, sizes = ["x" * 70_000 + "resume", *["resume"] * 600, "x" * 70_000, *["x" * 30_000 + "resume"] * 5], []
+        texts, sizes = ["x" * 70_000 + "resume", *["resume, resume"] * 600, "x" * 70_000, *["x" * 30_000 + "resume"] * 5], []
 
         def firsts(pattern, some):
             sizes.append(sum(map(len, some)))

@@ -122,6 +122,7 @@ class ThreadsTest(unittest.TestCase):
                 found = pool.submit(search.feed, b"resume, " + b"x" * 10_000)
                 blocked.has_begun.wait()
                 for call in (search.finish, search.stop, search.save, lambda: search.feed(b"a"), lambda: search.first_in(b"a"),
+                             lambda: search.feed(bytearray(b"a")), lambda: search.first_in(bytearray(b"a")),
                              lambda: next(search.feed_file(BytesIO(b"a")))):
                     self.assertRaisesRegex(RuntimeError, "^a Search is in one call at a time", call)
                 self.assertEqual(list(self.pattern.search("x resume")), [(2, 8)])
@@ -143,6 +144,19 @@ class ThreadsTest(unittest.TestCase):
                 self.assertIn(getattr(answer.result(), "_made_of", answer.result())[0], (len(TEXT) - 6, table))
             for wrong in lambda: pattern.index("a"), lambda: pattern.index(TEXT), lambda: Pattern(table, "a"):
                 self.assertRaisesRegex(Fault, "^fault 82 at 0: it was freed", wrong)
+
+    def test_bytes_stay_while_a_call_has_them(self) -> None:
+        """They can be let go behind it."""
+        view = memoryview(TEXT)
+        with patch.object(colfind._UNLOCKED, "colfind_first_in", Blocked("colfind_first_in")) as blocked, ThreadPoolExecutor(1) as pool:
+            answer = pool.submit(self.pattern.index, view)
+            blocked.has_begun.wait()
+            try:
+                self.assertRaises(BufferError, view.release)
+            finally:
+                blocked.may_go_on.set()
+            self.assertEqual(answer.result(), (len(TEXT) - 6, len(TEXT)))
+        view.release()
 
     def test_what_is_freed_can_be_lent_to_none(self) -> None:
         """A search is taken from those that are lent before it is freed, or a thread could take it meanwhile."""
