@@ -44,7 +44,7 @@ class Blocked:
 
     def __call__(self, *words: object) -> object:
         self.has_begun.set()
-        self.may_go_on.wait()
+        self.may_go_on.wait(60)  # a test that fails ends all the same
         return self.call(*words)
 
 
@@ -120,7 +120,7 @@ class ThreadsTest(unittest.TestCase):
         with patch.object(colfind._UNLOCKED, "colfind_feed", Blocked("colfind_feed")) as blocked, ThreadPoolExecutor(1) as pool:
             with Search(self.pattern) as search:
                 found = pool.submit(search.feed, b"resume, " + b"x" * 10_000)
-                blocked.has_begun.wait()
+                blocked.has_begun.wait(60)
                 for call in (search.finish, search.stop, search.save, lambda: search.feed(b"a"), lambda: search.first_in(b"a"),
                              lambda: search.feed(bytearray(b"a")), lambda: search.first_in(bytearray(b"a")),
                              lambda: next(search.feed_file(BytesIO(b"a")))):
@@ -137,7 +137,7 @@ class ThreadsTest(unittest.TestCase):
             pattern = Pattern(table, "resume", 1)
             with patch.object(colfind._UNLOCKED, name, Blocked(name)) as blocked, ThreadPoolExecutor(1) as pool:
                 answer = pool.submit(call)
-                blocked.has_begun.wait()
+                blocked.has_begun.wait(60)
                 with pattern, table:
                     pass
                 blocked.may_go_on.set()
@@ -150,7 +150,7 @@ class ThreadsTest(unittest.TestCase):
         view = memoryview(TEXT)
         with patch.object(colfind._UNLOCKED, "colfind_first_in", Blocked("colfind_first_in")) as blocked, ThreadPoolExecutor(1) as pool:
             answer = pool.submit(self.pattern.index, view)
-            blocked.has_begun.wait()
+            blocked.has_begun.wait(60)
             try:
                 self.assertRaises(BufferError, view.release)
             finally:
