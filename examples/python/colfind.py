@@ -14,6 +14,7 @@ from __future__ import annotations
 import operator
 import os
 from array import array
+from bisect import bisect_right
 from collections import deque
 from collections.abc import Callable, Iterable, Iterator
 from contextlib import suppress
@@ -217,7 +218,7 @@ class _View(c_char_p):
             raise _wrong_type(name, wanted, data) from None
         self.length = max(0, self.buffer.len - at)
         owner = data.obj if isinstance(data, memoryview) else data
-        self.is_fixed = bool(self.buffer.readonly) and isinstance(owner, (bytes, mmap))  # no thread can change them
+        self.is_fixed = isinstance(owner, bytes) or isinstance(owner, mmap) and memoryview(owner).readonly  # no thread can change them
         super().__init__(self.buffer.buf + at if self.length else b"")
 
     def release(self, release: Any = pythonapi.PyBuffer_Release, address_of: Any = byref) -> None:
@@ -307,10 +308,11 @@ def _joined(texts: list[Any]) -> tuple[bytes, bool] | None:
     return (data, in_characters) if data.count(0) == len(texts) - 1 else None
 
 
-def _length(texts: list[Any]) -> int:
+def _fitting(texts: list[Any]) -> int:
+    """How many of them, from the first on, are searched by one call: those with no more characters than it may have."""
     with suppress(Exception):  # of an object that is no text
-        return sum(map(len, texts))
-    return 0
+        return bisect_right(list(accumulate(map(len, texts))), _MOST_JOINED)
+    return len(texts)
 
 
 def _raised(wrong: Exception) -> Any:
@@ -321,32 +323,31 @@ class _Ahead(Generic[_Given]):
     """The answers of many texts, those of some at a time: `some` gives the first of them, and `one` that of each other text."""
 
     def __init__(self, texts: Iterator[Any], one: Callable[[Any], _Given], some: Callable[[list[Any]], list[_Given]]) -> None:
-        self.texts, self.one, self.some, self.read = texts, one, some, list[Any]()
+        self.texts, self.one, self.some, self.read, self.wrong = texts, one, some, list[Any](), list[Exception]()
 
     def __iter__(self) -> Iterator[Iterable[_Given]]:
         return self
 
     def __next__(self) -> Iterable[_Given]:
-        texts, answers = self.taken(), list[_Given]()
-        if not texts:
-            raise StopIteration
-        if len(texts) > 1 and not self.read or _length(texts) <= _MOST_JOINED:
-            with suppress(Fault):  # of a call, as where memory is refused: those for one text say it again
+        self.read_on()
+        if not self.read:
+            if not self.wrong:
+                raise StopIteration
+            return map(_raised, [self.wrong.pop()])  # the texts behind it are read then
+        count, answers = _fitting(self.read), list[_Given]()
+        texts, self.read = self.read[:count or 1], self.read[count or 1:]
+        if count:
+            with suppress(Fault, MemoryError):  # of a call, as where memory is refused: those for one text say it again
                 answers = self.some(texts)
         return one_by_one(answers, map(self.one, texts[len(answers):])) if len(answers) < len(texts) else answers
 
-    def taken(self) -> list[Any]:
-        """The next texts, so many that they are not too long for one call."""
-        if not self.read:
+    def read_on(self) -> None:
+        """Reads the next texts, and what the iterable raises behind them."""
+        if not self.read and not self.wrong:
             try:
                 self.read.extend(islice(self.texts, _AHEAD))
             except Exception as wrong:
-                if not self.read:
-                    raise
-                self.texts = map(_raised, [wrong])  # behind the answers of those before
-        count = max(1, len(self.read) * _MOST_JOINED // max(_length(self.read), _MOST_JOINED, 1))
-        texts, self.read = self.read[:count], self.read[count:]
-        return texts
+                self.wrong.append(wrong)
 
 
 def _many(texts: Iterable[Any], one: Callable[[Any], _Given], some: Callable[[list[Any]], list[_Given]]) -> Iterator[_Given]:
@@ -505,7 +506,8 @@ class Pattern(_Owner):
 
     def index_many(self, texts: Iterable[str | Bytes]) -> Iterator[tuple[int, int] | None]:
         """The first range of each text, or None: what `map(pattern.index, texts)` gives, at the price of calls in C. Up to 512 texts are
-        read ahead. A fault is raised in the place of the answer of its text, and the next answer is that of the text behind."""
+        read ahead, so none may change meanwhile. A fault is raised in the place of the answer of its text, and the next answer is that of
+        the text behind. What is given serves one thread."""
         return _many(texts, self.index, self._firsts_of)
 
     def _firsts_of(self, texts: list[Any]) -> list[tuple[int, int] | None]:

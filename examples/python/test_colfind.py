@@ -273,6 +273,23 @@ class Tests(unittest.TestCase):
             self.assertEqual((fault.exception.kind, fault.exception.at), (Kind.TEXT_ILL_FORMED, 100_000))
             self.assertEqual(pattern.index(text), (0, 6))
 
+    def test_a_long_index_gives_its_search_back(self) -> None:
+        pattern = Pattern(self.table, "resume", 1)
+        lent = pattern._spare[False][:]
+        self.assertEqual(pattern.index("\u6f22" * 70_000 + "resume, " * 9), (70_000, 70_006))
+        self.assertEqual(pattern._spare[False], lent)
+
+    def test_memory_that_is_refused(self) -> None:
+        """The fault comes from the call, and says how many bytes were taken: no place of the text."""
+        pattern, refused, text = Pattern(self.table, "a"), colfind._Status(Kind.NO_MEMORY, 3), "\u00e9" * 5_000
+        search = Search(pattern)
+        with patch.object(colfind._C, "colfind_feed", return_value=refused), patch.object(colfind, "_UNLOCKED", colfind._C):
+            for call in lambda: search.feed(b"a b"), lambda: next(pattern.search(text)), lambda: next(pattern.search(text.encode())):
+                with self.assertRaises(Fault) as fault:
+                    call()
+                self.assertEqual((fault.exception.kind, fault.exception.at), (Kind.NO_MEMORY, 3))
+        self.assertEqual(list(search.feed(b"a b")), [(0, 1)])
+
     def test_threads_that_index(self) -> None:
         """A pattern serves them all, whatever the length of the texts."""
         pattern, texts = Pattern(self.table, "resume", 1), ["\u6f22" * count + "resume" for count in (9, 70_000, 80_000, 90_000)]

@@ -125,6 +125,20 @@ class ManyTextsTest(unittest.TestCase):
             self.assertRaisesRegex(OSError, "no more", next, answers)
             self.assertEqual(list(answers), [])
 
+    def test_an_iterable_that_goes_on(self) -> None:
+        """Its errors stand in the places of their texts, as by `map`."""
+        data = [b"resume", b"\xff", b"a resume", b"\xff", b"\xff", b"none"]
+        for _ in self.each_way():
+            for ahead in 1, 2, 512:
+                with patch.object(colfind, "_AHEAD", ahead):
+                    answers = self.pattern.index_many(map(bytes.decode, data))
+                    for wanted in (0, 6), UnicodeDecodeError, (2, 8), UnicodeDecodeError, UnicodeDecodeError, None:
+                        if wanted is UnicodeDecodeError:
+                            self.assertRaises(UnicodeDecodeError, next, answers)
+                        else:
+                            self.assertEqual(next(answers), wanted)
+                    self.assertEqual(list(answers), [])
+
     def test_wrong_arguments(self) -> None:
         for _ in self.each_way():
             for call in self.pattern.index_many, self.pattern.search_many:
@@ -162,12 +176,30 @@ class ManyTextsTest(unittest.TestCase):
                 self.assertEqual(list(self.pattern.index_many(texts)), [(i, i + 6) for i in range(1_000)])
             self.assertEqual(one.call_count, 0 if many else 1_000)
 
+    def test_a_long_neighbour(self) -> None:
+        """It alone is searched by itself, and no call has more characters than it may have."""
+        texts, sizes = ["x" * 70_000 + "resume", *["resume, resume"] * 600, "x" * 70_000, *["x" * 30_000 + "resume"] * 5], []
+
+        def firsts(pattern, some):
+            sizes.append(sum(map(len, some)))
+            return by_calls(pattern, some)
+
+        by_calls, wanted = Pattern._firsts_of, list(map(self.pattern.index, texts))
+        for many in self.each_way():
+            if many:
+                with patch.object(Pattern, "index", side_effect=self.pattern.index) as one, patch.object(Pattern, "_firsts_of", firsts):
+                    self.assertEqual(list(self.pattern.index_many(texts)), wanted)
+                self.assertEqual(one.call_count, 2)
+        self.assertLessEqual(max(sizes, default=0), 1 << 16)
+
     def test_memory_that_is_refused(self) -> None:
         """Then each text is asked for by itself, and what it needs is asked for again."""
         for many in self.each_way():
             if many:
-                with patch.object(Search, "_many_first", side_effect=Fault(Kind.NO_MEMORY, 0)):
-                    self.assertEqual(list(self.pattern.index_many(["resume", "a"])), [(0, 6), None])
+                for refused in Fault(Kind.NO_MEMORY, 0), MemoryError():
+                    with patch.object(Search, "_many_first", side_effect=refused), patch.object(Search, "_many_all", side_effect=refused):
+                        self.assertEqual(list(self.pattern.index_many(["resume", "a"])), [(0, 6), None])
+                        self.assertEqual(list(self.pattern.search_many(["resume", "a"])), [[(0, 6)], []])
 
 
 if __name__ == "__main__":

@@ -44,7 +44,7 @@ class Blocked:
 
     def __call__(self, *words: object) -> object:
         self.has_begun.set()
-        self.may_go_on.wait()
+        self.may_go_on.wait(60)  # a test that fails ends all the same
         return self.call(*words)
 
 
@@ -72,7 +72,7 @@ class ThreadsTest(unittest.TestCase):
         with TemporaryFile() as file:
             file.write(TEXT)
             file.flush()
-            with mmap(file.fileno(), 0, access=ACCESS_READ) as mapped:
+            with mmap(file.fileno(), 0, access=ACCESS_READ) as mapped, mmap(file.fileno(), 0) as written, memoryview(written) as view:
                 sys.setswitchinterval(1000)
                 try:
                     many = [lambda: list(self.pattern.index_many(texts)), lambda: list(self.pattern.search_many(texts))]
@@ -83,8 +83,9 @@ class ThreadsTest(unittest.TestCase):
                                  *(many if colfind._MANY else ())):
                         self.assertTrue(self.was_seen_under_way(lambda: call() and None, TRIES))
                     changing = bytearray(TEXT)
-                    for data in changing, memoryview(changing), memoryview(changing).toreadonly():
-                        self.assertFalse(self.was_seen_under_way(lambda: self.pattern.index(data) and None, 3))
+                    with view.toreadonly() as read_only:
+                        for data in changing, memoryview(changing), memoryview(changing).toreadonly(), written, view, read_only:
+                            self.assertFalse(self.was_seen_under_way(lambda: self.pattern.index(data) and None, 3))
                 finally:
                     sys.setswitchinterval(interval)
 
@@ -119,8 +120,9 @@ class ThreadsTest(unittest.TestCase):
         with patch.object(colfind._UNLOCKED, "colfind_feed", Blocked("colfind_feed")) as blocked, ThreadPoolExecutor(1) as pool:
             with Search(self.pattern) as search:
                 found = pool.submit(search.feed, b"resume, " + b"x" * 10_000)
-                blocked.has_begun.wait()
+                blocked.has_begun.wait(60)
                 for call in (search.finish, search.stop, search.save, lambda: search.feed(b"a"), lambda: search.first_in(b"a"),
+                             lambda: search.feed(bytearray(b"a")), lambda: search.first_in(bytearray(b"a")),
                              lambda: next(search.feed_file(BytesIO(b"a")))):
                     self.assertRaisesRegex(RuntimeError, "^a Search is in one call at a time", call)
                 self.assertEqual(list(self.pattern.search("x resume")), [(2, 8)])
@@ -135,13 +137,26 @@ class ThreadsTest(unittest.TestCase):
             pattern = Pattern(table, "resume", 1)
             with patch.object(colfind._UNLOCKED, name, Blocked(name)) as blocked, ThreadPoolExecutor(1) as pool:
                 answer = pool.submit(call)
-                blocked.has_begun.wait()
+                blocked.has_begun.wait(60)
                 with pattern, table:
                     pass
                 blocked.may_go_on.set()
                 self.assertIn(getattr(answer.result(), "_made_of", answer.result())[0], (len(TEXT) - 6, table))
             for wrong in lambda: pattern.index("a"), lambda: pattern.index(TEXT), lambda: Pattern(table, "a"):
                 self.assertRaisesRegex(Fault, "^fault 82 at 0: it was freed", wrong)
+
+    def test_bytes_stay_while_a_call_has_them(self) -> None:
+        """They can be let go behind it."""
+        view = memoryview(TEXT)
+        with patch.object(colfind._UNLOCKED, "colfind_first_in", Blocked("colfind_first_in")) as blocked, ThreadPoolExecutor(1) as pool:
+            answer = pool.submit(self.pattern.index, view)
+            blocked.has_begun.wait(60)
+            try:
+                self.assertRaises(BufferError, view.release)
+            finally:
+                blocked.may_go_on.set()
+            self.assertEqual(answer.result(), (len(TEXT) - 6, len(TEXT)))
+        view.release()
 
     def test_what_is_freed_can_be_lent_to_none(self) -> None:
         """A search is taken from those that are lent before it is freed, or a thread could take it meanwhile."""
