@@ -48,7 +48,10 @@ class ManyTextsTest(unittest.TestCase):
         """By the loops in C, if they are there, with each lock; and without them."""
         loops = colfind._MANY
         for many, long in ((loops, 1), (loops, 1 << 30), (None, 1)) if loops else ((None, 1),):
-            with self.subTest(many=many, long=long), patch.multiple(colfind, _MANY=many, _LONG=long):
+            way = patch.multiple(colfind, _MANY=many, _LONG=long)
+            way.start()
+            self.addCleanup(way.stop)  # also where a test fails, and so leaves this loop where it is
+            with self.subTest(many=many, long=long):
                 yield many
 
     def random_texts(self, rng: random.Random) -> list:
