@@ -1,5 +1,5 @@
--- Matches that are anchored: the whole of a text, one that begins it, one that ends it (UTS #10, section 11). They need not be
--- minimal: ignorable characters at the ends of the text belong to them.
+-- Matches that are the whole of a text (UTS #10, section 11). They need not be minimal: ignorable characters at the ends of the text belong
+-- to them.
 use Rattle.std.specs.Prelude.{ℕ, Bool, ◌==◌, ◌&&◌, List, take, length}
 use Rattle.std.specs.List.{list_any}
 use Rattle.collation_table.specs.Table.{TableMap}

@@ -72,8 +72,8 @@ impl<'a, W: Weights> Anchored<'a, W> {
     }
 
     /// Whether the whole text is a match: its sort key is the pattern's (UTS #10, S3). Ignorable characters at its ends belong to it. It
-    /// reads no further than where that is decided: of a text that begins with another letter than the pattern its first characters alone.
-    /// No memory is taken.
+    /// stops behind the first unit whose keys are others: of a text that begins with another letter than the pattern it reads its first
+    /// characters alone. No memory is taken.
     ///
     /// # Errors
     ///

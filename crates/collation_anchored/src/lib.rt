@@ -1,7 +1,7 @@
 //! Anchored matches (UTS #10, section 11): whether a whole text is a match of a pattern.
 //!
 //! An [`Anchored`] goes by steps: the units of the text are weighed one by one, and their keys compared with the pattern's. It stops
-//! where the answer is decided, and reads no further.
+//! behind the first unit whose keys are others.
 #![tactic(auto)]
 
 mod anchored;
