@@ -268,12 +268,12 @@ function Stream:finish()
   end
 end
 
--- How many ranges begin before an offset.
-function Stream:begun_before(offset)
-  local low, high = 0, self.count
+-- How many ranges have an end, `start` or `stop`, before an offset. None lies within another, so both are in order.
+local function before(stream, which, offset)
+  local low, high = 0, stream.count
   while low < high do
     local middle = math.floor((low + high) / 2)
-    if tonumber(self.ranges[middle].start) < offset then
+    if tonumber(stream.ranges[middle][which]) < offset then
       low = middle + 1
     else
       high = middle
@@ -282,18 +282,14 @@ function Stream:begun_before(offset)
   return low
 end
 
--- How many ranges end at or before an offset: none lies within another, so they end in the order in which they begin.
+-- How many ranges begin before an offset.
+function Stream:begun_before(offset)
+  return before(self, 'start', offset)
+end
+
+-- How many ranges end at or before an offset.
 function Stream:ended_by(offset)
-  local low, high = 0, self.count
-  while low < high do
-    local middle = math.floor((low + high) / 2)
-    if tonumber(self.ranges[middle].stop) <= offset then
-      low = middle + 1
-    else
-      high = middle
-    end
-  end
-  return low
+  return before(self, 'stop', offset + 1)
 end
 
 -- Where a range, counted from 0, begins and ends.
