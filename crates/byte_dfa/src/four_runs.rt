@@ -1,5 +1,4 @@
-//! Four runs over a piece at once, since a move waits for the one before it. The first run goes on from a cursor. The others begin
-//! further on, at a guess, and what such a run did counts where the run before it comes to its beginning in the same row.
+//! Four runs over a piece at once, three of them begun at a guess (README.md says why, and when what such a run did counts).
 ghost use Rattle.std.specs.Prelude.{◌≡◌, ◌+◌, ◌<◌, ◌≤◌, length, IfSome};
 ghost use Rattle.byte_dfa.specs.Moves.{Follows, HasRow, IsCursor, IsSpot, LeadToRows, Leads};
 ghost use Rattle.byte_dfa.specs.Runs.{AreSpots, HasRun, HaveRun};

@@ -4,10 +4,8 @@
 //! byte leads, or from [`STOP`] on: then a run ends there. A row *accepts* the bytes before it where it is odd, so that a run sees by
 //! the row alone what it has to note. Who makes rows and fills cells, and what they mean, is the caller's matter.
 //!
-//! A move waits for the one before it, and that is what a run costs. [`Cells::run_to_end`] goes by windows, each begun in a guessed row,
-//! and [`Cells::run_by_four`] makes four runs at once. Both come where single moves come: that is their clause, `Follows` of
-//! `specs/Moves.antt`. How far one run goes its clause `end` says; how far four go none says. [`Guesses`] cost time alone where they are
-//! wrong.
+//! [`Cells::run_to_end`] goes by windows and [`Cells::run_by_four`] makes four runs at once. Both come where single moves come: that is
+//! their clause, `Follows` of `specs/Moves.antt`. [`Guesses`] cost time alone where they are wrong.
 //!
 //! It stands on the standard library alone. `Cells` and `Guesses` take memory where their rows and guesses are made.
 #![tactic(auto)]

@@ -1,6 +1,4 @@
-//! A run by windows of a few bytes. A move waits for the one before it, so the row behind a window is guessed by the window's last
-//! bytes, and the processor begins with the next window in the guessed row before it has come there. A guess counts where the run
-//! comes to it, and else only time is lost.
+//! A run by windows of a few bytes, each begun in a guessed row, which counts where the run comes to it (README.md says why).
 ghost use Rattle.std.specs.Prelude.{◌≡◌, ◌⊎◌, ◌+◌, ◌<◌, ◌≤◌, length, slice_index, IfSome};
 ghost use Rattle.byte_dfa.specs.Moves.{Follows, HasEnded, IsCursor, IsSpot, LeadToRows, Leads};
 
