@@ -24,3 +24,4 @@ pub mod OffsetFaults
 pub mod OffsetAnswers
 pub mod OffsetChains
 pub mod OffsetLemmas
+pub mod PartLemmas

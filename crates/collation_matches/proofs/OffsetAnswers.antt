@@ -73,7 +73,7 @@ nil-fault : fault [] ≡ None
 unfolding computing fault_from
 nil-fault = refl
 
-moved-zero : (at : Option TextFault) → at ≡ fault_moved 0 at
+pub moved-zero : (at : Option TextFault) → at ≡ fault_moved 0 at
 moved-zero None = refl
 moved-zero (Some at) = let same : at.offset ≡ 0 + at.offset = omega arith in ap (λ n. Some (record { kind = at.kind; offset = n })) same
 

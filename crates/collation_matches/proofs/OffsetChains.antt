@@ -75,6 +75,13 @@ moved-first s text bytes by =
     ∙ ap (option_map (range_moved by)) (first-selected s.select all)
     ∙ sym (slice_get-map (range_moved by) all 0)
 
+pub all-kept : (rs : List (ℕ × ℕ)) → map (range_moved 0) rs ≡ ranges_from 0 rs
+all-kept [] = refl
+all-kept (r ∷ rs) =
+    let one : 0 + r.0 ≡ r.0 = omega arith in
+    let two : 0 + r.1 ≡ r.1 = omega arith in
+    ap₂ (λ (q : ℕ × ℕ) (l : List (ℕ × ℕ)). q ∷ l) (ap₂ (λ a b. (a, b)) one two) (all-kept rs) ∙ sym (cond-true (nat_le 0 r.0) (r ∷ ranges_from 0 rs) (ranges_from 0 rs) (le-leb 0 r.0 (omega arith)))
+
 module _ (laws : RestLaws) (s : Sought) (text bytes : List ℕ) (few : length bytes ≤ most_bytes) where
   abbrev all : List (ℕ × ℕ)
   all = (answer s.table s.pattern.strength s.pattern.variable text bytes).ranges
@@ -89,13 +96,6 @@ module _ (laws : RestLaws) (s : Sought) (text bytes : List ℕ) (few : length by
   finds-next from m =
       moved-first s text (drop from bytes) from
       ∙ ap (λ (a : Answer). slice_get a.ranges 0) (answer-from laws s.table s.pattern.strength s.pattern.variable text bytes from m)
-
-  all-kept : (rs : List (ℕ × ℕ)) → map (range_moved 0) rs ≡ ranges_from 0 rs
-  all-kept [] = refl
-  all-kept (r ∷ rs) =
-      let one : 0 + r.0 ≡ r.0 = omega arith in
-      let two : 0 + r.1 ≡ r.1 = omega arith in
-      ap₂ (λ (q : ℕ × ℕ) (l : List (ℕ × ℕ)). q ∷ l) (ap₂ (λ a b. (a, b)) one two) (all-kept rs) ∙ sym (cond-true (nat_le 0 r.0) (r ∷ ranges_from 0 rs) (ranges_from 0 rs) (le-leb 0 r.0 (omega arith)))
 
   finds-first : FindsNext 0
   finds-first = moved-first s text bytes 0 ∙ ap (λ (rs : List (ℕ × ℕ)). slice_get rs 0) (all-kept all)

@@ -7,7 +7,7 @@ use Rattle.unicode_normalization.specs.StreamSafe.{has_short_runs}
 use Rattle.unicode_normalization.proofs.Computing.{unicode_normalization}
 use Rattle.nfd_points.specs.Points.{byte_len, points_at, points_from, is_reorderable, is_in_order, sink, ordered}
 use Rattle.nfd_points.specs.PointFaults.{run_after, fault_of_code_point, fault_from}
-use Rattle.collation_matches.specs.WorkedRows.{OverlappingLetters, ComposedPrimary, ComposedSecondary, DecomposedPrimary, DecomposedSecondary, InsideContraction, RestAmidContraction, HyphenShifted, HyphenKept, SoftHyphen, Discontiguous, DiscontiguousSecondary, BlockedAccent, BlockedBase, AccentBefore, BadByte, IncompleteSequence, ChainOfLetters, ChainAtBadByte}
+use Rattle.collation_matches.specs.WorkedRows.{OverlappingLetters, ComposedPrimary, ComposedSecondary, DecomposedPrimary, DecomposedSecondary, InsideContraction, RestAmidContraction, HyphenShifted, HyphenKept, SoftHyphen, Discontiguous, DiscontiguousSecondary, BlockedAccent, BlockedBase, AccentBefore, BadByte, IncompleteSequence, ChainOfLetters, ChainAtBadByte, PartsOfLetters, PartsAtBadByte}
 
 -- `unfolding rows` lets `refl` compute a row
 unfoldable rows : Unit {0}
@@ -89,3 +89,11 @@ chain_of_letters_lem = refl
 pub chain_at_bad_byte_lem : ChainAtBadByte
 unfolding rows
 chain_at_bad_byte_lem = refl
+
+pub parts_of_letters_lem : PartsOfLetters
+unfolding rows
+parts_of_letters_lem = refl
+
+pub parts_at_bad_byte_lem : PartsAtBadByte
+unfolding rows
+parts_at_bad_byte_lem = refl

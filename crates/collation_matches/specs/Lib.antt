@@ -4,6 +4,7 @@ pub mod Answer
 pub mod Selecting
 pub mod ByClusters
 pub mod ByClustersLaws
+pub mod PartLaws
 pub mod WorkedRows
 pub mod Lag
 pub mod Sought

@@ -1,11 +1,14 @@
 -- Worked rows over the worked table: what the definitions give for small texts.
-use Rattle.std.specs.Prelude.{◌≡◌, ℕ, List, [], ◌∷◌, ◌++◌, drop, codes, Some}
+use Rattle.std.specs.Prelude.{◌≡◌, ℕ, List, [], ◌∷◌, ◌++◌, drop, codes, None, Some}
 use Rattle.collation_elements.specs.declared.settings.Variable.TheVariants.{NonIgnorable, Shifted}
 use Rattle.collation_elements.specs.declared.settings.Strength.TheVariants.{One, Two, Three}
 use Rattle.collation_matches.specs.Matches.{matches}
 use Rattle.collation_matches.specs.Answer.{answer}
-use Rattle.collation_matches.specs.declared.select.Select.TheVariants.{Chain}
+use Rattle.collation_matches.specs.declared.select.Select.TheVariants.{All, Chain}
 use Rattle.collation_matches.specs.Selecting.{chain, selected_answer}
+use Rattle.collation_matches.specs.Sought.{Sought, seeking}
+use Rattle.collation_matches.specs.PartLaws.{answer_of_parts}
+use Rattle.collation_pattern.specs.Levels.{text_keys}
 use Rattle.collation_elements.specs.WorkedTable.{worked_table}
 
 -- UTF-8 of U+00E9, U+00FA, U+0300, U+0301, U+0327
@@ -103,3 +106,20 @@ abbrev pub ChainAtBadByte : Type 0
 ChainAtBadByte =
     selected_answer Chain (answer worked_table Three NonIgnorable (codes "aa") (codes "aaaaa" ++ 0xFF ∷ []))
     ≡ record { ranges = (0, 2) ∷ (2, 4) ∷ []; fault = Some (record { kind = 31; offset = 5 }) }
+
+-- what is looked for at strength three, non-ignorable
+abbrev pub worked_sought : List ℕ → Sought
+worked_sought pattern =
+    seeking worked_table (record { keys = text_keys worked_table Three NonIgnorable pattern; strength = Three; variable = NonIgnorable }) All
+
+-- `aa` in `aaaa`, cut behind the first and the third letter: each range once, by the part in which it begins
+abbrev pub PartsOfLetters : Type 0
+PartsOfLetters =
+    answer_of_parts (worked_sought (codes "aa")) (codes "aa") (codes "aaaa") 0 (1 ∷ 3 ∷ [])
+    ≡ record { ranges = (0, 2) ∷ (1, 3) ∷ (2, 4) ∷ []; fault = None }
+
+-- `aa` in `aaa`, the byte ff and `aa`, cut behind the first letter and behind the bad byte: the text ends at that
+abbrev pub PartsAtBadByte : Type 0
+PartsAtBadByte =
+    answer_of_parts (worked_sought (codes "aa")) (codes "aa") (codes "aaa" ++ 0xFF ∷ codes "aa") 0 (1 ∷ 4 ∷ [])
+    ≡ record { ranges = (0, 2) ∷ []; fault = Some (record { kind = 31; offset = 3 }) }

@@ -4,7 +4,7 @@
 //! (`Answer`), all of its ranges or a chain of them (`Selecting`), what is looked for (`Sought`). A law is the contract of a
 //! function without code: that the minimal matches are the ranges found cluster by cluster ([`matches_by_clusters`]), how late
 //! a search may find them ([`answers_in_time`]), how many there may be ([`one_range_begins_at_an_offset`]), from where on the rest of
-//! a text has the same ones ([`matches_from_a_boundary`]). Worked rows stand in [`worked`], each proved by computing. Nothing here
+//! a text has the same ones ([`matches_from_a_boundary`]), that its parts have the answer of the whole ([`parts_give_the_answer`]). Worked rows stand in [`worked`], each proved by computing. Nothing here
 //! runs.
 #![tactic(auto)]
 
@@ -13,6 +13,7 @@ mod faults;
 mod few_ranges;
 mod lag;
 mod offsets;
+mod parts;
 mod select;
 pub mod worked;
 
@@ -21,4 +22,5 @@ pub use crate::faults::TextFault;
 pub use crate::few_ranges::one_range_begins_at_an_offset;
 pub use crate::lag::{answers_in_time, matches_in_time, ranges_in_time};
 pub use crate::offsets::{calls_give_the_chain, matches_from_a_boundary};
+pub use crate::parts::parts_give_the_answer;
 pub use crate::select::Select;

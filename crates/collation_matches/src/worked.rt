@@ -1,6 +1,6 @@
 //! Worked rows: small texts whose matches the definitions give, one row a function, proved by computing.
 
-ghost use Rattle.collation_matches.specs.WorkedRows.{OverlappingLetters, ComposedPrimary, ComposedSecondary, DecomposedPrimary, DecomposedSecondary, InsideContraction, RestAmidContraction, HyphenShifted, HyphenKept, SoftHyphen, Discontiguous, DiscontiguousSecondary, BlockedAccent, BlockedBase, AccentBefore, BadByte, IncompleteSequence, ChainOfLetters, ChainAtBadByte};
+ghost use Rattle.collation_matches.specs.WorkedRows.{OverlappingLetters, ComposedPrimary, ComposedSecondary, DecomposedPrimary, DecomposedSecondary, InsideContraction, RestAmidContraction, HyphenShifted, HyphenKept, SoftHyphen, Discontiguous, DiscontiguousSecondary, BlockedAccent, BlockedBase, AccentBefore, BadByte, IncompleteSequence, ChainOfLetters, ChainAtBadByte, PartsOfLetters, PartsAtBadByte};
 
 /// `aa` in `aaa`: ranges that overlap are all found.
 pub fn overlapping_letters()
@@ -95,4 +95,14 @@ pub fn chain_of_letters()
 /// The chain of `aa` in `aaaaa` and the byte ff: of the settled ranges.
 pub fn chain_at_bad_byte()
     ensures { ChainAtBadByte }
+{}
+
+/// The parts of `aaaa` for `aa`, cut behind the first and the third letter.
+pub fn parts_of_letters()
+    ensures { PartsOfLetters }
+{}
+
+/// The parts of `aaa`, the byte ff and `aa`, cut behind the first letter and behind the bad byte.
+pub fn parts_at_bad_byte()
+    ensures { PartsAtBadByte }
 {}
