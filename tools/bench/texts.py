@@ -1,17 +1,24 @@
 """The texts of the benchmark. Each is made from word lists and a seed, and is the same each time.
 
-The words are those of words.txt, and of Debian's packages wamerican and wfrench; source code is that of Python's library."""
+The words are those of words.txt, and of Debian's packages wamerican and wfrench; prose is that of pidgin-data and
+installation-guide-amd64; source code is that of Python's library."""
 
 import functools
 import glob
+import html.parser
 import os
 import random
+import struct
 import sysconfig
 import unicodedata
 
 WORDS = os.path.join(os.path.dirname(os.path.abspath(__file__)), "words.txt")
 AMERICAN, FRENCH = "/usr/share/dict/american-english", "/usr/share/dict/french"
+MESSAGES = "/usr/share/locale/{}/LC_MESSAGES/pidgin.mo"
+GUIDE = "/usr/share/doc/installation-guide-amd64/{}/*.html"
 LINE_LENGTH = 72
+SHORTEST_SENTENCE = 20  # in code points
+OTHER_THAN_WORDS = set("%_/<>&$\\\0")
 
 VIETNAMESE_STARTS = "b c ch d đ g gh h kh l m n ng ngh nh p ph qu r s t th tr v x".split()
 VIETNAMESE_VOWELS = "a ă â e ê i o ô ơ u ư y ai ao au âu ay ây eo êu ia iê iêu oa oai oe oi ôi ơi ua uâ uê ui uô uôi ươ ươi yê".split()
@@ -82,6 +89,55 @@ def greek_word(choice):
         if place == accented:
             word += "\u0301" if choice.random() < 0.85 else "\u0342"
     return word + choice.choice(["", "ς", "ν"])
+
+
+# ---- sentences
+
+
+def messages(language):
+    """The translated messages of Pidgin, without those that have a sign which stands for other words or a key."""
+    with open(MESSAGES.format(language), "rb") as file:
+        data = file.read()
+    _, _, count, _, table = struct.unpack_from("<5I", data)
+    for number in range(count):
+        length, start = struct.unpack_from("<2I", data, table + 8 * number)
+        message = data[start : start + length].decode()
+        if not set(message) & OTHER_THAN_WORDS:
+            yield message
+
+
+class Paragraphs(html.parser.HTMLParser):
+    """The text of each paragraph of a page."""
+
+    def __init__(self, page):
+        super().__init__()
+        self.is_within, self.all = False, []
+        self.feed(page)
+
+    def handle_starttag(self, tag, _attributes):
+        if tag == "p":
+            self.all.append("")
+            self.is_within = True
+
+    def handle_endtag(self, tag):
+        self.is_within &= tag != "p"
+
+    def handle_data(self, data):
+        if self.is_within:
+            self.all[-1] += data
+
+
+def guide(language):
+    """The paragraphs of Debian's installation guide."""
+    for path in glob.glob(GUIDE.format(language)):
+        with open(path, encoding="utf-8") as file:
+            yield from Paragraphs(file.read()).all
+
+
+def sentences_of(parts):
+    """Those that are long enough and not in English, each once, in one order."""
+    sentences = {" ".join(part.split()) for part in parts}
+    return sorted(sentence for sentence in sentences if len(sentence) >= SHORTEST_SENTENCE and not sentence.isascii())
 
 
 # ---- makers of words: each is made with a choice, and then gives a word at each call
@@ -188,6 +244,22 @@ def words_of(name, separators):
     return made
 
 
+def prose(source, language):
+    """A text of all sentences of a source in random order, then in another order, and so on."""
+
+    def made(choice, size):
+        sentences, parts, length = sentences_of(source(language)), [], 0
+        if not sentences:
+            raise FileNotFoundError(f"no sentences of {language}: README.md says which packages have them")
+        while length < size:
+            choice.shuffle(sentences)
+            parts += sentences
+            length += sum(len(sentence.encode()) + 1 for sentence in sentences)
+        return "\n".join(parts)
+
+    return made
+
+
 def letters(_choice, size):
     return "a" * size
 
@@ -211,6 +283,11 @@ TEXTS = {
     "lao": (words_of("lao", PLAIN), 2),
     "burmese": (words_of("burmese", PLAIN), 2),
     "polish": (words_of("polish", PLAIN), 2),
+    "telugu": (prose(messages, "te"), 2),
+    "khmer": (prose(messages, "km"), 2),
+    "bengali": (prose(messages, "bn"), 2),
+    "korean": (prose(guide, "ko"), 2),
+    "chinese": (prose(guide, "zh_CN"), 2),
     "emoji and quotes": (words_of("emoji and quotes", PLAIN), 2),
     "source code": (source_code, 2),
 }

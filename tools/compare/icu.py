@@ -25,6 +25,18 @@ PATTERNS = {
     "east asian": ["검색", "一", "か", "뚪"],
     "russian": ["система", "она", "и"],
     "polish": ["książka", "zrodlo", "do"],
+    "korean": ["네트워크", "있습니다"],
+    "chinese": ["安装程序", "的"],
+    "japanese": ["検索", "する"],
+    "arabic": ["المدينة", "في"],
+    "hebrew": ["ישראל", "של"],
+    "hindi": ["विद्यालय", "किया"],
+    "bengali": ["বার্তা", "তালিকা"],
+    "tamil": ["கோவில்", "அந்த"],
+    "telugu": ["సందేశం", "చేయండి", "మీరు"],
+    "thai": ["ภาษา", "หนึ่ง"],
+    "lao": ["ພາສາ"],
+    "burmese": ["သော", "နိုင်ငံ"],
     "source code": ["example", "self.", "not in"],
 }
 NOT_SHIFTED = {"一"}
@@ -46,6 +58,8 @@ DIFFERENCES = [
     # a match takes in the marks behind it
     ("မျာ", "များ", (1,), False, ["0:12"], ["0:9"]),
     ("မျာ", "များ", (2, 3), False, [], ["0:9"]),
+    # and in ignored characters
+    ("មិន", "មិន\u200bឆ", (1, 2, 3), False, ["0:12"], ["0:9"]),
     # ICU takes some ideographs for others
     ("一", "丁", (1, 2, 3), True, [], ["0:3"]),
     # the same text, as one code point and as three: no match ends inside a code point
