@@ -4,4 +4,10 @@
 #![tactic(auto)]
 
 #[cfg(test)]
-mod tests;
+mod asking;
+#[cfg(test)]
+mod beginnings;
+#[cfg(test)]
+mod equal_texts;
+#[cfg(test)]
+mod long_strings;

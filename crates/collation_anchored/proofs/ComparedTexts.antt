@@ -1,41 +1,38 @@
--- What a comparison says of a text, where it ends.
-use Rattle.std.proofs.Common.{◌≡◌, ◌≤◌, ◌∙◌, ℕ, Bool, true, false, List, ◌++◌, length, take, Option, Some, None, Ok, refl, sym, ap}
+-- What a comparison says of a text, where its end or its first fault was reached, or the pattern's keys were completed.
+use Rattle.std.specs.Str.{chars}
+use Rattle.std.proofs.Common.{◌≡◌, ◌≤◌, ◌∙◌, ℕ, true, false, List, ◌++◌, length, take, Option, Some, None, is_some, sym, ap, refl}
 use Rattle.std.proofs.lemmas.List.{take-append-le}
 use Rattle.utf8_cut.specs.Characters.{characters_end}
+use Rattle.nfd_points.specs.Points.{points, points_from, byte_len, ordered}
 use Rattle.collation_table.specs.Table.{TableMap}
 use Rattle.collation_pattern.specs.Compiled.{Compiled}
-use Rattle.collation_pattern.specs.Levels.{text_keys}
 use Rattle.collation_matches.specs.declared.faults.TextFault.{TextFault}
 use Rattle.collation_matches.specs.GoodPrefix.{fault, good_prefix, prefix_at, whole}
-use Rattle.collation_anchored.specs.Anchored.{is_begun}
-use Rattle.collation_anchored.specs.Answers.{unless_fault, begun_by}
-
--- the keys differ
-pub apart_answers : (begun : Bool) (at : Option TextFault) → begun ≡ false → Ok false ≡ unless_fault begun at begun
-apart_answers true at h = cc
-apart_answers false at h = refl
-
--- the text has no fault
-pub whole_answers : (begun : Bool) → Ok begun ≡ unless_fault begun None begun
-whole_answers true = refl
-whole_answers false = refl
+use Rattle.collation_matches.proofs.LagTexts.{TextLaws}
+use Rattle.collation_anchored.specs.declared.comparison.Comparison.{Comparison}
+use Rattle.collation_anchored.specs.Compared.{completed}
+use Rattle.collation_anchored.specs.Comparing.{HasTaken}
+use Rattle.collation_anchored.proofs.GoodTexts.{codes_go_on}
+use Rattle.collation_anchored.proofs.KeysSoFar.{completed_stays}
 
 -- where a fault stands, the text before it is the whole characters of the bytes so far
 pub good_at_fault : (text u rest : List ℕ) (f : TextFault) → text ≡ u ++ rest → characters_end u ≤ length u → fault text ≡ Some f → f.offset ≡ characters_end u → good_prefix text ≡ whole u
 good_at_fault text u rest f parts within faulty offset =
     ap (prefix_at text) faulty ∙ ap (λ n. take n text) offset ∙ ap (take (characters_end u)) parts ∙ take-append-le (characters_end u) u rest within
 
--- so the keys compared are those of it
-pub fault_answers : (table : TableMap) (pattern : Compiled) (text good : List ℕ) (f : TextFault) (begun : Bool) →
-    begun ≡ is_begun pattern.keys (text_keys table pattern.strength pattern.variable good) → good_prefix text ≡ good → fault text ≡ Some f →
-    unless_fault begun (Some f) begun ≡ unless_fault (begun_by table pattern text) (fault text) (begun_by table pattern text)
-fault_answers table pattern text good f begun is same faulty =
-    let there : begun ≡ begun_by table pattern text = is ∙ ap (λ (t : List ℕ). is_begun pattern.keys (text_keys table pattern.strength pattern.variable t)) (sym same) in
-    ap (λ (b : Bool). unless_fault b (Some f) b) there ∙ ap (λ (o : Option TextFault). unless_fault (begun_by table pattern text) o (begun_by table pattern text)) (sym faulty)
+-- once the pattern's keys are completed, they are so in the text, however it goes on
+pub completed_text : TextLaws → (table : TableMap) (pattern : Compiled) (comparison : Comparison) (u later : List ℕ) → HasTaken table pattern comparison u → comparison.window.has_ended ≡ false →
+    is_some comparison.progress.completed ≡ true → comparison.progress.completed ≡ completed table pattern (points (chars (good_prefix (u ++ later))))
+completed_text laws table pattern comparison u later h open_window found = go comparison.progress.completed refl found
+  where
+    never : comparison.window.has_ended ≡ true → ⊥
+    never ended = let both : true ≡ false = sym ended ∙ open_window in cc
 
-pub good_answers : (table : TableMap) (pattern : Compiled) (text good : List ℕ) (begun : Bool) →
-    begun ≡ is_begun pattern.keys (text_keys table pattern.strength pattern.variable good) → good_prefix text ≡ good → fault text ≡ None →
-    Ok begun ≡ unless_fault (begun_by table pattern text) (fault text) (begun_by table pattern text)
-good_answers table pattern text good begun is same none =
-    let there : begun ≡ begun_by table pattern text = is ∙ ap (λ (t : List ℕ). is_begun pattern.keys (text_keys table pattern.strength pattern.variable t)) (sym same) in
-    whole_answers begun ∙ ap (λ (b : Bool). unless_fault b None b) there ∙ ap (λ (o : Option TextFault). unless_fault (begun_by table pattern text) o (begun_by table pattern text)) (sym none)
+    go : (end : Option ℕ) → comparison.progress.completed ≡ end → is_some end ≡ true → comparison.progress.completed ≡ completed table pattern (points (chars (good_prefix (u ++ later))))
+    go None is some = cc
+    go (Some end) is some =
+        let on = codes_go_on laws u later h.open_bytes in
+        let compared = h.compared in
+        let rest = ordered (comparison.reorder.held ++ points_from (byte_len (chars (whole u))) on.rest) in
+        completed_stays table pattern comparison.window comparison.weigher comparison.progress compared.points rest end compared.came (λ ended. absurd (never ended)) is
+        ∙ ap (completed table pattern) (sym (ap points on.codes ∙ compared.reordered.continues on.rest))

@@ -15,22 +15,16 @@ use Rattle.collation_anchored.specs.Answers.{unless_fault}
 use Rattle.collation_anchored.proofs.BegunKeys.{begun-from}
 use Rattle.collation_anchored.proofs.EqualTexts.{equal_is, equal_from}
 
--- ---- what was answered of a comparison
+-- ---- what is answered
 
-pub answered_alike : {A : Type 0} (begun : Bool) (fault : Option TextFault) (answer : A) → Ok true ≡ unless_fault begun fault begun → Ok answer ≡ unless_fault begun fault answer
-answered_alike true None answer h = refl
-answered_alike true (Some at) answer h = cc
-answered_alike false fault answer h = cc
+-- a fault, before which the keys are the first of the pattern's
+pub fault_answers : (begun : Bool) (fault : Option TextFault) (f : TextFault) (answer : Bool) → begun ≡ true → fault ≡ Some f → Err f ≡ unless_fault begun fault answer
+fault_answers begun fault f answer h is = sym (ap (λ (b : Bool). unless_fault b fault answer) h ∙ ap (λ (o : Option TextFault). unless_fault true o answer) is)
 
-pub answered_apart : (begun : Bool) (fault : Option TextFault) → Ok false ≡ unless_fault begun fault begun → begun ≡ false
-answered_apart true None h = cc
-answered_apart true (Some at) h = cc
-answered_apart false fault h = refl
-
-pub answered_fault : {A : Type 0} (begun : Bool) (fault : Option TextFault) (answer : A) (at : TextFault) → Err at ≡ unless_fault begun fault begun → Err at ≡ unless_fault begun fault answer
-answered_fault true None answer at h = cc
-answered_fault true (Some other) answer at h = let same : at ≡ other = cc in ap (λ e. Err e) same
-answered_fault false fault answer at h = cc
+-- no fault
+pub whole_answers : (begun : Bool) (fault : Option TextFault) (answer : Bool) → fault ≡ None → Ok answer ≡ unless_fault begun fault answer
+whole_answers true fault answer none = sym (ap (λ (o : Option TextFault). unless_fault true o answer) none)
+whole_answers false fault answer none = refl
 
 -- the keys differ, and so the answer is no
 pub apart_answers : (begun : Bool) (fault : Option TextFault) (answer : Bool) → begun ≡ false → answer ≡ false → Ok false ≡ unless_fault begun fault answer

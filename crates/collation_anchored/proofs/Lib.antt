@@ -1,8 +1,12 @@
 pub mod BegunKeys
+pub mod CompletedKeys
 pub mod KeysSoFar
 pub mod EqualTexts
+pub mod BeginningTexts
 pub mod ComparedTexts
 pub mod EqualAnswers
+pub mod CompletedTexts
+pub mod BeginsAnswers
 pub mod GoodTexts
 pub mod NextCharacter
 pub mod WorkedRowLemmas

@@ -7,7 +7,7 @@ use Rattle.unicode_normalization.specs.StreamSafe.{has_short_runs}
 use Rattle.unicode_normalization.proofs.Computing.{unicode_normalization}
 use Rattle.nfd_points.specs.Points.{byte_len, points_at, points_from, is_reorderable, is_in_order, sink, ordered}
 use Rattle.nfd_points.specs.PointFaults.{run_after, fault_of_code_point, fault_from}
-use Rattle.collation_anchored.specs.WorkedRows.{ResumeAtEachStrength, ComposedAndDecomposed, AccentInFront, ContractionAtTheEnds, HyphensAround, TooLongAndTooShort, AtAFault}
+use Rattle.collation_anchored.specs.WorkedRows.{ResumeAtEachStrength, ComposedAndDecomposed, AccentInFront, ContractionAtTheEnds, HyphensAround, TooLongAndTooShort, AtAFault, ResumeBegins, AccentFirst, AccentNext, ContractionBegins, HyphensFirst, LongerAndShorter, HangulBegins, BeginsAtAFault}
 
 -- `unfolding rows` lets `refl` compute a row
 unfoldable rows : Unit {0}
@@ -41,3 +41,35 @@ too_long_and_too_short_lem = record { longer = refl; shorter = refl; empty = ref
 pub at_a_fault_lem : AtAFault
 unfolding rows
 at_a_fault_lem = record { begun = refl; all = refl; apart = refl }
+
+pub resume_begins_lem : ResumeBegins
+unfolding rows
+resume_begins_lem = record { one = refl; two = refl; three = refl; composed = refl }
+
+pub accent_first_lem : AccentFirst
+unfolding rows
+accent_first_lem = record { one = refl; two = refl }
+
+pub accent_next_lem : AccentNext
+unfolding rows
+accent_next_lem = record { one = refl; two = refl }
+
+pub contraction_begins_lem : ContractionBegins
+unfolding rows
+contraction_begins_lem = record { amid = refl; behind = refl; apart = refl }
+
+pub hyphens_first_lem : HyphensFirst
+unfolding rows
+hyphens_first_lem = record { shifted = refl; kept = refl }
+
+pub longer_and_shorter_lem : LongerAndShorter
+unfolding rows
+longer_and_shorter_lem = record { longer = refl; shorter = refl; later = refl; empty = refl }
+
+pub hangul_begins_lem : HangulBegins
+unfolding rows
+hangul_begins_lem = record { syllable = refl; jamo = refl }
+
+pub begins_at_a_fault_lem : BeginsAtAFault
+unfolding rows
+begins_at_a_fault_lem = record { begun = refl; all = refl; before = refl; ignorable = refl; apart = refl }

@@ -1,6 +1,6 @@
--- Matches that are the whole of a text (UTS #10, section 11). They need not be minimal: ignorable characters at the ends of the text belong
--- to them.
-use Rattle.std.specs.Prelude.{ℕ, Bool, ◌==◌, ◌&&◌, List, take, length}
+-- Matches that are the whole of a text or begin where it begins (UTS #10, section 11). They need not be minimal: ignorable characters at
+-- the ends of the text belong to them.
+use Rattle.std.specs.Prelude.{ℕ, Bool, ◌==◌, ◌&&◌, List, map, filter, take, length, Option, slice_get}
 use Rattle.std.specs.List.{list_any}
 use Rattle.collation_table.specs.Table.{TableMap}
 use Rattle.collation_elements.specs.declared.settings.Variable.{Variable}
@@ -22,6 +22,15 @@ is_whole len range = range.0 == 0 && range.1 == len
 -- the whole text is a match
 abbrev pub is_equal : TableMap → Strength → Variable → List ℕ → List ℕ → Bool
 is_equal table strength variable pattern text = list_any (is_whole (length text)) (all_matches table strength variable pattern text)
+
+-- the ends of the matches that begin at 0, rising
+abbrev pub ends_from_the_beginning : TableMap → Strength → Variable → List ℕ → List ℕ → List ℕ
+ends_from_the_beginning table strength variable pattern text =
+    map (λ range. range.1) (filter (λ range. range.0 == 0) (all_matches table strength variable pattern text))
+
+-- the least end of a match that begins at 0
+abbrev pub begins : TableMap → Strength → Variable → List ℕ → List ℕ → Option ℕ
+begins table strength variable pattern text = slice_get (ends_from_the_beginning table strength variable pattern text) 0
 
 -- these keys are the first of the pattern's, or all of them
 abbrev pub is_begun : List Key → List Key → Bool

@@ -15,7 +15,7 @@ use Rattle.collation_anchored.specs.Compared.{KeysCame}
 pub record HasCompared (table : TableMap) (pattern : Compiled) (comparison : Comparison) (taken : List ℕ) : Type 0 where
   pub points : List Point
   pub reordered : HasReordered comparison.reorder taken points
-  pub came : KeysCame table pattern comparison.window comparison.weigher comparison.matched points
+  pub came : KeysCame table pattern comparison.window comparison.weigher comparison.progress points
 
 -- the bytes went in, which a longer text may begin with
 pub record HasTaken (table : TableMap) (pattern : Compiled) (comparison : Comparison) (taken : List ℕ) : Type 0 where

@@ -1,10 +1,10 @@
--- What it means that a whole text is a match.
-use Rattle.std.specs.Prelude.{◌≡◌, ℕ, true, ◌↔◌, List}
+-- What it means that a whole text is a match, or that one begins where a text begins.
+use Rattle.std.specs.Prelude.{◌≡◌, ℕ, ◌≤◌, true, ◌↔◌, Contains, List, take, Some, is_some}
 use Rattle.collation_table.specs.Table.{TableMap}
 use Rattle.collation_elements.specs.declared.settings.Variable.{Variable}
 use Rattle.collation_elements.specs.declared.settings.Strength.{Strength}
 use Rattle.collation_pattern.specs.SortKey.{text_sort_key}
-use Rattle.collation_anchored.specs.Anchored.{is_equal}
+use Rattle.collation_anchored.specs.Anchored.{all_matches, is_equal, begins}
 
 -- equal texts are those with equal sort keys
 abbrev pub EqualTextsHaveEqualSortKeys : Type 0
@@ -24,3 +24,24 @@ abbrev pub EqualInTurn : Type 0
 EqualInTurn =
     (table : TableMap) (strength : Strength) (variable : Variable) (a b c : List ℕ) →
     is_equal table strength variable a b ≡ true → is_equal table strength variable b c ≡ true → is_equal table strength variable a c ≡ true
+
+-- ---- matches that begin where a text begins
+
+-- no match that begins at 0 ends before the one that is told
+abbrev pub BeginningsAreLeast : Type 0
+BeginningsAreLeast =
+    (table : TableMap) (strength : Strength) (variable : Variable) (pattern text : List ℕ) (end : ℕ) →
+    Contains (all_matches table strength variable pattern text) (0, end) →
+    (least : ℕ) × (begins table strength variable pattern text ≡ Some least) × (least ≤ end)
+
+-- the text up to where it ends is equal
+abbrev pub BeginningsAreEqual : Type 0
+BeginningsAreEqual =
+    (table : TableMap) (strength : Strength) (variable : Variable) (pattern text : List ℕ) (end : ℕ) →
+    begins table strength variable pattern text ≡ Some end → is_equal table strength variable pattern (take end text) ≡ true
+
+-- and a text that is equal begins so
+abbrev pub EqualTextsBegin : Type 0
+EqualTextsBegin =
+    (table : TableMap) (strength : Strength) (variable : Variable) (pattern text : List ℕ) →
+    is_equal table strength variable pattern text ≡ true → is_some (begins table strength variable pattern text) ≡ true

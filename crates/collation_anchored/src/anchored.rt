@@ -1,11 +1,12 @@
-//! Whether a whole text is a match.
+//! Whether a whole text is a match, and where a match ends that begins with it.
 
 ghost use Rattle.std.specs.Prelude.{◌≡◌, ◌⊎◌, ℕ, List, Result, Bool, Err};
 ghost use Rattle.collation_table.specs.Table.{longest_mapped};
 ghost use Rattle.collation_pattern.specs.Compiled.{IsCompiledWith};
-ghost use Rattle.collation_anchored.specs.Answers.{equal_answer, no_memory};
+ghost use Rattle.collation_anchored.specs.Answers.{equal_answer, begins_answer, no_memory};
 
-use crate::comparison::Comparison;
+use crate::comparison::{Asked, Comparison, Reading};
+use collation_elements::clusters_are_parts;
 use collation_matches::TextFault;
 use collation_pattern::Pattern;
 use collation_pattern::laws::key_law;
@@ -39,6 +40,32 @@ pub fn equal<W: Weights>(
     anchored.equals(text)
 }
 
+/// Where the least match of a pattern ends that begins where a text begins, as [`Anchored::begins`] says. The pattern was compiled with
+/// this table.
+///
+/// # Errors
+///
+/// Those of [`Anchored::begins`], or 36 at 0 where [`Anchored::new`] was refused memory. That this is for no other reason no clause says,
+/// for none can name the request: it is read off the body, and tested.
+pub fn begins<W: Weights>(
+    alloc: Global,
+    table: &W,
+    pattern: &Pattern,
+    text: &[u8],
+) -> Result<Option<u64>, TextFault>
+    ensures answer { (p : List ℕ) → IsCompiledWith (W.table table.now) pattern.now p
+        → (result ≡ Err no_memory)
+        ⊎ (result ≡ begins_answer (W.table table.now) pattern.now p text.now) }
+{
+    let Ok(mut anchored) = Anchored::new(alloc, table, pattern) else {
+        return Err(TextFault {
+            kind: TextFault::NO_MEMORY,
+            offset: 0,
+        });
+    };
+    anchored.begins(text)
+}
+
 /// Asks texts in memory for matches that are anchored, one text after the other.
 #[derive(Drop)]
 pub struct Anchored<'a, W: Weights> {
@@ -52,7 +79,7 @@ pub struct Anchored<'a, W: Weights> {
 impl<'a, W: Weights> Anchored<'a, W> {
     ghost use Rattle.std.specs.Prelude.{◌≡◌, ℕ, List, IfOk};
     ghost use Rattle.collation_pattern.specs.Compiled.{IsCompiledWith};
-    ghost use Rattle.collation_anchored.specs.Answers.{equal_answer};
+    ghost use Rattle.collation_anchored.specs.Answers.{equal_answer, begins_answer};
 
     /// Lends a table and a pattern that was compiled with it.
     ///
@@ -89,17 +116,65 @@ impl<'a, W: Weights> Anchored<'a, W> {
         key_law(self.table);
         laws_of_faults();
         whole_characters_are_the_longest_text();
-        let compared = self
+        match self
             .comparison
-            .compare(self.alloc, self.table, self.pattern, text);
-        match compared {
-            Ok(begun) => {
+            .read(self.alloc, self.table, self.pattern, text, Asked::Whole)
+        {
+            Reading::Decided => Ok(false),
+            Reading::Ended(at) => {
+                let begun = self.comparison.end(self.table, self.pattern);
                 if !begun {
                     return Ok(false);
                 }
-                Ok(self.comparison.matched == self.pattern.len())
+                match at {
+                    Some(fault) => Err(fault),
+                    None => Ok(self.comparison.progress.matched == self.pattern.len()),
+                }
             }
-            Err(fault) => Err(fault),
+        }
+    }
+
+    /// Where the least match ends that begins where the text begins: in bytes from there, the end not included; `None` where no match
+    /// begins there. It is a match in the sense of [`Anchored::equals`], and need not be minimal: ignorable characters in front belong to
+    /// it. It stops behind the first unit whose keys are others, and where the cluster has ended that completes the pattern's keys. No
+    /// memory is taken.
+    ///
+    /// # Errors
+    ///
+    /// The first fault of the text, where it stands before the answer is decided: the text counts as ended there, its keys are the first
+    /// of the pattern's, or all of them, and no match ends before the fault. A match that ends at the fault is not told. A fault behind
+    /// is not told.
+    pub fn begins(&mut self, text: &[u8]) -> Result<Option<u64>, TextFault>
+        ensures answer { (p : List ℕ)
+            → IsCompiledWith (W.table self.old.table.now) self.old.pattern.now p
+            → result ≡ begins_answer (W.table self.old.table.now) self.old.pattern.now p text.now }
+        ensures table { self.new.table.now ≡ self.old.table.now }
+        ensures pattern { self.new.pattern.now ≡ self.old.pattern.now }
+    {
+        key_law(self.table);
+        clusters_are_parts();
+        laws_of_faults();
+        whole_characters_are_the_longest_text();
+        let most = self.pattern.len();
+        match self.comparison.read(self.alloc, self.table, self.pattern, text, Asked::Beginning) {
+            Reading::Decided => Ok(self.comparison.progress.completed),
+            Reading::Ended(at) => {
+                let begun = self.comparison.end(self.table, self.pattern);
+                let completed = self.comparison.progress.completed;
+                if completed.is_some() || !begun {
+                    return Ok(completed);
+                }
+                match at {
+                    Some(first) => Err(first),
+                    None => {
+                        if self.comparison.progress.matched == most {
+                            Ok(Some(text.len() as u64))
+                        } else {
+                            Ok(None)
+                        }
+                    }
+                }
+            }
         }
     }
 }

@@ -1,11 +1,11 @@
 //! The comparison of a text with a pattern, while the text's bytes come one by one.
 
-ghost use Rattle.std.specs.Prelude.{◌≡◌, ◌+◌, ◌≤◌, length, true, false, Some};
+ghost use Rattle.std.specs.Prelude.{◌≡◌, ◌+◌, ◌≤◌, length, true, false};
 ghost use Rattle.nfd_points.specs.Reordering.{is_closed};
 ghost use Rattle.nfd_points.specs.declared.limits.TheConstants.{MOST_GIVEN};
-ghost use Rattle.collation_anchored.specs.Answers.{unless_fault};
 
 use crate::cutting::{cut_units, push_points};
+use crate::keys::Progress;
 use arrayvec::ArrayVec;
 use collation_elements::{Item, MOST_ITEMS, Weigher, Window, closed_points_append};
 use collation_matches::TextFault;
@@ -19,6 +19,23 @@ use utf8_cut::{Cut, Cutting, any_bytes_may_follow, whole_characters_are_the_long
 /// How many bytes a text may have.
 const MOST_BYTES: u64 = 1 << 62;
 
+/// What is asked of a text.
+#[derive(Clone, Copy, PartialEq)]
+pub(crate) enum Asked {
+    /// Whether all of it is a match.
+    Whole,
+    /// Where a match ends that begins with it.
+    Beginning,
+}
+
+/// How far a text was read.
+pub(crate) enum Reading {
+    /// As far as the answer was open.
+    Decided,
+    /// To its end or, where it has one, to its first fault.
+    Ended(Option<TextFault>),
+}
+
 /// Takes the bytes of a text, and compares its keys with those of a pattern.
 #[derive(Drop)]
 pub(crate) struct Comparison {
@@ -26,8 +43,8 @@ pub(crate) struct Comparison {
     pub(crate) reorder: Reorder,
     pub(crate) window: Window,
     pub(crate) weigher: Weigher,
-    /// How many of the pattern's keys the text began with so far.
-    pub(crate) matched: usize,
+    /// How far the text has gone through the pattern's keys.
+    pub(crate) progress: Progress,
     /// The number of code points of the table's longest key.
     pub(crate) longest_key: usize,
     /// What the reorderer gave last, and the items of the last unit. Their room is used again and again.
@@ -40,7 +57,7 @@ pub(crate) struct Comparison {
 }
 
 impl Comparison {
-    ghost use Rattle.std.specs.Prelude.{◌≡◌, ℕ, ◌+◌, ◌≤◌, List, [], ◌∷◌, ◌++◌, length, take, IfOk, OnOk, OnErr, IfErr, Ok, Some, None, true, false};
+    ghost use Rattle.std.specs.Prelude.{◌≡◌, ℕ, ◌+◌, ◌≤◌, List, [], ◌∷◌, ◌++◌, length, take, IfOk, OnOk, OnErr, IfErr, Ok, Option, Some, None, true, false};
     ghost use Rattle.std.specs.Str.{chars};
     ghost use Rattle.utf8_cut.specs.Characters.{characters_end};
     ghost use Rattle.nfd_points.specs.Points.{byte_len, points};
@@ -50,8 +67,12 @@ impl Comparison {
     ghost use Rattle.collation_pattern.specs.Levels.{text_keys};
     ghost use Rattle.collation_matches.specs.GoodPrefix.{fault as fault_of, good_prefix, whole};
     ghost use Rattle.collation_anchored.specs.Anchored.{is_begun};
-    ghost use Rattle.collation_anchored.specs.Answers.{begun_by, unless_fault};
+    ghost use Rattle.collation_anchored.specs.Answers.{begun_by};
+    ghost use Rattle.collation_anchored.specs.Compared.{completed};
     ghost use Rattle.collation_anchored.specs.Comparing.{HasCompared, HasTaken};
+    ghost use Rattle.collation_matches.specs.declared.faults.TextFault.{TextFault};
+    ghost use Rattle.collation_anchored.specs.declared.comparison.Asked.TheVariants.{Whole};
+    ghost use Rattle.collation_anchored.specs.declared.comparison.Reading.TheVariants.{Decided, Ended};
 
     /// A comparison at the beginning of a text.
     pub(crate) fn new<W: Weights>(
@@ -68,7 +89,7 @@ impl Comparison {
             reorder: Reorder::new(alloc),
             window: Window::with_capacity(alloc, longest_key)?,
             weigher: Weigher::new(pattern.strength(), pattern.variable()),
-            matched: 0,
+            progress: Progress::new(),
             longest_key,
             given: ArrayVec::new(),
             items: Box::new(alloc, ArrayVec::new())?,
@@ -84,7 +105,7 @@ impl Comparison {
         self.reorder = Reorder::new(alloc);
         self.window.clear();
         self.weigher = Weigher::new(pattern.strength(), pattern.variable());
-        self.matched = 0;
+        self.progress = Progress::new();
     }
 
     /// Takes the next character, which stands at a byte offset: whether the keys of the text may still be the first of the pattern's.
@@ -111,6 +132,11 @@ impl Comparison {
             (keys (W.table table.now) pattern.now.strength pattern.now.variable
             (points (taken ++ c ∷ rest)))
             ≡ false }
+        ensures completed { (taken rest : List ℕ)
+            → HasCompared (W.table table.now) pattern.now self.old taken
+            → offset ≡ byte_len taken → result ≡ Ok false
+            → self.new.progress.completed
+            ≡ completed (W.table table.now) pattern.now (points (taken ++ c ∷ rest)) }
         ensures good { (taken : List ℕ)
             → HasCompared (W.table table.now) pattern.now self.old taken
             → offset ≡ byte_len taken → OnOk result (point_fault (taken ++ c ∷ []) ≡ None) }
@@ -126,22 +152,19 @@ impl Comparison {
         closed_points_append();
         self.reorder.push(c, offset, &mut self.given)?;
         push_points(&mut self.window, self.given.as_slice());
-        match cut_units(
+        let alike = cut_units(
             table,
             pattern,
             &mut self.window,
             &mut self.weigher,
             &mut *self.items,
-            self.matched,
-        ) {
-            Some(matched) => {
-                self.matched = matched;
-                Ok(true)
-            }
-            None => {
-                self.window.clear();
-                Ok(false)
-            }
+            &mut self.progress,
+        );
+        if alike {
+            Ok(true)
+        } else {
+            self.window.clear();
+            Ok(false)
         }
     }
 
@@ -166,6 +189,11 @@ impl Comparison {
             (text_keys (W.table table.now) pattern.now.strength pattern.now.variable
             (good_prefix (u ++ byte ∷ more)))
             ≡ false }
+        ensures completed { (u more : List ℕ)
+            → HasTaken (W.table table.now) pattern.now self.old u → result ≡ Ok false
+            → self.new.progress.completed
+            ≡ completed (W.table table.now) pattern.now
+            (points (chars (good_prefix (u ++ byte ∷ more)))) }
         ensures kept { (u : List ℕ) → HasTaken (W.table table.now) pattern.now self.old u
             → OnErr result
             (HasCompared (W.table table.now) pattern.now self.new (chars (whole u))) }
@@ -202,7 +230,7 @@ impl Comparison {
     }
 
     /// Ends the text here, and compares the rest of its keys: whether all are the first of the pattern's.
-    fn end<W: Weights>(&mut self, table: &W, pattern: &Pattern) -> bool
+    pub(crate) fn end<W: Weights>(&mut self, table: &W, pattern: &Pattern) -> bool
         requires longest { self.old.longest_key ≡ longest_mapped (W.table table.now) }
         ensures begun { (taken : List ℕ)
             → HasCompared (W.table table.now) pattern.now self.old taken
@@ -211,86 +239,78 @@ impl Comparison {
         ensures matched { (taken : List ℕ)
             → HasCompared (W.table table.now) pattern.now self.old taken → result ≡ true
             → keys (W.table table.now) pattern.now.strength pattern.now.variable (points taken)
-            ≡ take self.new.matched pattern.now.keys }
+            ≡ take self.new.progress.matched pattern.now.keys }
         ensures within { (taken : List ℕ)
             → HasCompared (W.table table.now) pattern.now self.old taken → result ≡ true
-            → self.new.matched ≤ length pattern.now.keys }
+            → self.new.progress.matched ≤ length pattern.now.keys }
+        ensures completed { (taken : List ℕ)
+            → HasCompared (W.table table.now) pattern.now self.old taken
+            → self.new.progress.completed
+            ≡ completed (W.table table.now) pattern.now (points taken) }
         ensures longest { self.new.longest_key ≡ self.old.longest_key }
     {
         self.reorder.finish(&mut self.given);
         push_points(&mut self.window, self.given.as_slice());
         self.window.end();
-        let compared = cut_units(
+        let alike = cut_units(
             table,
             pattern,
             &mut self.window,
             &mut self.weigher,
             &mut *self.items,
-            self.matched,
+            &mut self.progress,
         );
         self.window.clear();
-        match compared {
-            Some(matched) => {
-                self.matched = matched;
-                true
-            }
-            None => false,
-        }
+        alike
     }
 
-    /// Compares a text with a pattern, as far as it may be alike: whether all keys of the text are the first of the pattern's. It reads no
-    /// further than where they are not.
-    ///
-    /// # Errors
-    ///
-    /// The first fault of the text, where the keys before it are the first of the pattern's.
-    pub(crate) fn compare<W: Weights>(
+    /// Takes the bytes of a text, from its beginning, for as long as what is asked is open: its keys are the first of the pattern's so far
+    /// and, where a beginning is asked for, no cluster began behind all of them.
+    pub(crate) fn read<W: Weights>(
         &mut self,
         alloc: Global,
         table: &W,
         pattern: &Pattern,
         text: &[u8],
-    ) -> Result<bool, TextFault>
+        asked: Asked,
+    ) -> Reading
         requires longest { self.old.longest_key ≡ longest_mapped (W.table table.now) }
-        ensures answer { let begun = begun_by (W.table table.now) pattern.now text.now in
-            result ≡ unless_fault begun (fault_of text.now) begun }
-        ensures matched { result ≡ Ok true
-            → text_keys (W.table table.now) pattern.now.strength pattern.now.variable
-            (good_prefix text.now)
-            ≡ take self.new.matched pattern.now.keys }
-        ensures within { result ≡ Ok true → self.new.matched ≤ length pattern.now.keys }
+        ensures apart { result ≡ Decided → asked ≡ Whole
+            → begun_by (W.table table.now) pattern.now text.now ≡ false }
+        ensures none { result ≡ Decided → self.new.progress.completed ≡ None
+            → begun_by (W.table table.now) pattern.now text.now ≡ false }
+        ensures completed { result ≡ Decided
+            → self.new.progress.completed
+            ≡ completed (W.table table.now) pattern.now
+            (points (chars (good_prefix text.now))) }
+        ensures fault { (at : Option TextFault) → result ≡ Ended at → at ≡ fault_of text.now }
+        ensures stands { (at : Option TextFault) → result ≡ Ended at
+            → HasCompared (W.table table.now) pattern.now self.new
+            (chars (good_prefix text.now)) }
         ensures longest { self.new.longest_key ≡ self.old.longest_key }
     {
         whole_characters_are_the_longest_text();
+        laws_of_faults();
         self.begin(alloc, pattern);
         for byte in text {
             match self.take(table, pattern, *byte) {
                 Ok(alike) => {
                     if !alike {
-                        return Ok(false);
+                        return Reading::Decided;
+                    }
+                    if asked == Asked::Beginning && self.progress.completed.is_some() {
+                        return Reading::Decided;
                     }
                 }
-                Err(fault) => return unless_decided(self.end(table, pattern), fault),
+                Err(fault) => return Reading::Ended(Some(fault)),
             }
         }
-        let ended = self.cut.finish();
-        let begun = self.end(table, pattern);
-        match ended {
-            None => Ok(begun),
-            Some(offset) => unless_decided(
-                begun,
-                TextFault {
-                    kind: TextFault::ILL_FORMED,
-                    offset,
-                },
-            ),
+        match self.cut.finish() {
+            None => Reading::Ended(None),
+            Some(offset) => Reading::Ended(Some(TextFault {
+                kind: TextFault::ILL_FORMED,
+                offset,
+            })),
         }
     }
-}
-
-/// The fault, unless the keys before it are not the first of the pattern's.
-fn unless_decided(begun: bool, fault: TextFault) -> Result<bool, TextFault>
-    ensures { result ≡ unless_fault begun (Some fault) begun }
-{
-    if begun { Err(fault) } else { Ok(false) }
 }

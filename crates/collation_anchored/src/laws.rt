@@ -1,6 +1,6 @@
 //! What the answers mean: each law is the contract of a function that does nothing.
 
-ghost use Rattle.collation_anchored.specs.Laws.{EqualTextsHaveEqualSortKeys, EqualToItself, EqualBothWays, EqualInTurn};
+ghost use Rattle.collation_anchored.specs.Laws.{EqualTextsHaveEqualSortKeys, EqualToItself, EqualBothWays, EqualInTurn, BeginningsAreLeast, BeginningsAreEqual, EqualTextsBegin};
 
 /// A whole text is a match of a pattern exactly where both have the same sort key (UTS #10, S3), at each strength, under any table. So
 /// texts that are equal in this sense are so both ways, and in turn.
@@ -9,4 +9,11 @@ pub fn equal_texts()
     ensures itself { EqualToItself }
     ensures both_ways { EqualBothWays }
     ensures in_turn { EqualInTurn }
+{}
+
+/// Where a match begins at 0, the least one is told; the text up to its end is equal; and a text that is equal begins so.
+pub fn beginnings()
+    ensures least { BeginningsAreLeast }
+    ensures equal { BeginningsAreEqual }
+    ensures whole { EqualTextsBegin }
 {}

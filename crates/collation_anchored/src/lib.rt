@@ -11,5 +11,5 @@ mod keys;
 pub mod laws;
 pub mod worked;
 
-pub use crate::anchored::{Anchored, equal};
+pub use crate::anchored::{Anchored, begins, equal};
 pub use collation_matches::TextFault;

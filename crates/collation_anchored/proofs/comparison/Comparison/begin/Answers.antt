@@ -1,5 +1,6 @@
-use Rattle.std.proofs.Common.{◌∙◌, [], rules, refl, ap, arith}
+use Rattle.std.proofs.Common.{◌∙◌, [], take, rules, sym, ap, arith}
 use Rattle.std.proofs.lemmas.Str.{chars-nil}
+use Rattle.collation_anchored.specs.declared.keys.Progress.{Progress}
 use Rattle.collation_anchored.proofs.comparison.Comparison.begin.Goals as goal
 
 pub returns-clause-taken : goal.returns-clause-taken
@@ -18,8 +19,9 @@ returns-clause-taken c = λ table.
           weighed = c.new-self-3.ensures.stands table;
           strength = ap (λ w. w.strength) c.new-self-3.ensures.value ∙ c.strength.ensures;
           variable = ap (λ w. w.variable) c.new-self-3.ensures.value ∙ c.variable.ensures;
-          keys = refl;
-          within = omega arith;
+          keys = ap (λ (p : Progress). take p.matched c.args.pattern.now.keys) (sym c.new-self-4.ensures);
+          within = let none = ap (λ (p : Progress). p.matched) c.new-self-4.ensures in omega (arith, none);
+          completed = ap (λ (p : Progress). p.completed) c.new-self-4.ensures;
         };
       };
       open_bytes = search (rules, chars-nil);

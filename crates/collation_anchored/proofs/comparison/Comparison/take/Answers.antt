@@ -11,6 +11,7 @@ use Rattle.collation_matches.specs.GoodPrefix.{most_bytes, good_prefix, whole, i
 use Rattle.collation_matches.proofs.LagTexts.{TextLaws}
 use Rattle.collation_matches.proofs.TextCheckLemmas.{fault_by_length, open_good, same_codes, still_open, fault_by_code, code_at_fault, ill_after, fault_ill}
 use Rattle.collation_anchored.specs.Anchored.{is_begun}
+use Rattle.collation_anchored.specs.Compared.{completed}
 use Rattle.collation_anchored.specs.Comparing.{HasCompared}
 use Rattle.collation_anchored.proofs.GoodTexts.{codes_go_on}
 use Rattle.collation_anchored.proofs.NextCharacter.{next_character}
@@ -103,6 +104,30 @@ returns-in-Ok-clause-differs g c = λ u more h apart.
     ∙ append_assoc (chars (whole u)) (c.in-Char.c ∷ []) on.rest in
     ap (λ (cs : List ℕ). is_begun pattern.keys (keys table pattern.strength pattern.variable (points cs))) all
     ∙ c.in-Ok.ensures.differs (chars (whole u)) on.rest (record { points = h.compared.points; reordered = h.compared.reordered; came = h.compared.came }) known.offset (ap ok_of apart_is)
+
+pub returns-in-Ok-clause-completed : goal.returns-in-Ok-clause-completed
+returns-in-Ok-clause-completed g c = λ u more h apart.
+    let apart_is : c.in-Ok.alike ≡ false = cc in
+    let table = g.W.Weights.table c.args.table.now in
+    let pattern = c.args.pattern.now in
+    let b = c.args.byte in
+    let x = u ++ b ∷ [] in
+    let text_laws = c.whole_characters_are_the_longest_text.ensures in
+    let laws : TextLaws = record { text = text_laws.text; longest = text_laws.longest; within = text_laws.within; faults = c.laws_of_faults.ensures.following } in
+    let count = c.count.ensures.stands_for u (characters u) h.cut_stands in
+    let short : length u < most_bytes = omega (arith, c.if-count-ge-MOST_BYTES.false) in
+    let known = next_character u b c.in-Char.c c.in-Char.offset c.args.self.now.cut c.push.new.self h.cut_stands (c.in-Char.ensures.stands_for u (characters u) h.cut_stands)
+    c.in-Char.ensures.char_start (text_laws.text u) (text_laws.within u)
+    (λ later now. c.any_bytes_may_follow.ensures.begins c.push.new.self x later (characters x) now) in
+    let formed = c.in-Char.ensures.bad u (characters u) h.cut_stands in
+    let good = c.in-Ok.ensures.good (chars (whole u)) (record { points = h.compared.points; reordered = h.compared.reordered; came = h.compared.came }) known.offset in
+    let opened : is_good_so_far x ≡ true = still_open u b short (sym formed) (ap point_fault known.codes ∙ good) in
+    let on = codes_go_on laws x more opened in
+    let all : chars (good_prefix (u ++ b ∷ more)) ≡ chars (whole u) ++ c.in-Char.c ∷ on.rest =
+    ap (λ (bs : List ℕ). chars (good_prefix bs)) (sym (append_assoc u (b ∷ []) more)) ∙ on.codes ∙ ap (λ (cs : List ℕ). cs ++ on.rest) known.codes
+    ∙ append_assoc (chars (whole u)) (c.in-Char.c ∷ []) on.rest in
+    c.in-Ok.ensures.completed (chars (whole u)) on.rest (record { points = h.compared.points; reordered = h.compared.reordered; came = h.compared.came }) known.offset (ap ok_of apart_is)
+    ∙ sym (ap (λ (cs : List ℕ). completed table pattern (points cs)) all)
 
 pub returns-in-Err-clause-fault : goal.returns-in-Err-clause-fault
 returns-in-Err-clause-fault g c = λ u more h.

@@ -1,7 +1,7 @@
 use Rattle.std.proofs.Common.{◌≡◌, take}
 use Rattle.collation_table.specs.Table.{longest_mapped}
 use Rattle.collation_anchored.specs.Comparing.{HasTaken}
-use Rattle.collation_anchored.proofs.comparison.Comparison.compare.Given as goal
+use Rattle.collation_anchored.proofs.comparison.Comparison.read.Given as goal
 
 -- the bytes so far were taken, and the keys of their units are the first of the pattern's
 abbrev pub invariant-loop-byte : goal.invariant-loop-byte

@@ -1,54 +1,21 @@
-//! Whole texts that are matches: worked rows, asked one after the other of one value, and each by itself, by either table. Where memory
-//! is refused it is asked for again, so that each allocation may be refused in turn.
+//! Whole texts that are matches: worked rows, asked one after the other of one value, and each by itself, by either table.
 
+use crate::asking::{
+    COMPOSED, DECOMPOSED, JAMO, KEPT, ONE, SHIFTED, THREE, TWO, begin, compile, ill_formed, read,
+    read_plain, same_at,
+};
 use collation_anchored::{Anchored, TextFault, equal};
 use collation_elements::{Strength, Variable};
 use collation_pattern::Pattern;
-use collation_table::{PlainTable, Table, Weights};
+use collation_table::Weights;
 use std::alloc::Global;
-use std::fmt::Debug;
 use std::process::Abort;
-
-const TABLE: &str = "@version 0.0.0
-0020 ; [*0201.0020.0002]
-002D ; [*0202.0020.0002]
-0061 ; [.1C00.0020.0002]
-0041 ; [.1C00.0020.0008]
-0062 ; [.1C10.0020.0002]
-0063 ; [.1C20.0020.0002]
-0063 0068 ; [.1C28.0020.0002]
-0065 ; [.1C40.0020.0002]
-0068 ; [.1C50.0020.0002]
-006D ; [.1C60.0020.0002]
-0072 ; [.1C70.0020.0002]
-0073 ; [.1C80.0020.0002]
-0075 ; [.1C90.0020.0002]
-0301 ; [.0000.0024.0002]
-00AD ; [.0000.0000.0000]
-";
-
-const KEPT: Variable = Variable::NonIgnorable;
-
-const SHIFTED: Variable = Variable::Shifted;
-
-const ONE: Strength = Strength::One;
-
-const TWO: Strength = Strength::Two;
-
-const THREE: Strength = Strength::Three;
 
 /// A text, and whether it is equal, or at which offset an ill-formed sequence stands, or one that the end cuts.
 type Asked<'a> = (&'a [u8], Result<bool, u64>);
 
 /// A strength, a weighting, a pattern, and what is asked of it.
 type Row<'a> = (Strength, Variable, &'a str, &'a [Asked<'a>]);
-
-const COMPOSED: &[u8] = b"r\xc3\xa9sum\xc3\xa9";
-
-const DECOMPOSED: &[u8] = b"re\xcc\x81sume\xcc\x81";
-
-/// Three jamo, which are the decomposition of a syllable.
-const JAMO: &[u8] = b"\xe1\x84\x80\xe1\x85\xa1\xe1\x86\xa8";
 
 const ACCENTS: [Row; 4] = [
     (
@@ -119,58 +86,6 @@ const OTHERS: [Row; 4] = [
     ),
 ];
 
-/// The table of these lines, read again where memory was refused.
-fn read(rt: &impl Abort, alloc: Global) -> Table {
-    match Table::read(alloc, TABLE.as_bytes()) {
-        Ok(table) => table,
-        Err(_refused) => Table::read(alloc, TABLE.as_bytes()).expect(rt, "the table"),
-    }
-}
-
-/// The same table, whose rows stand in an ordered map.
-fn read_plain(rt: &impl Abort, alloc: Global) -> PlainTable {
-    match PlainTable::read(alloc, TABLE.as_bytes()) {
-        Ok(table) => table,
-        Err(_refused) => PlainTable::read(alloc, TABLE.as_bytes()).expect(rt, "the plain table"),
-    }
-}
-
-/// The pattern of these letters, compiled again where memory was refused.
-fn compile<W: Weights>(
-    rt: &impl Abort,
-    alloc: Global,
-    table: &W,
-    letters: &str,
-    strength: Strength,
-    variable: Variable,
-) -> Pattern {
-    match Pattern::compile(alloc, table, letters, strength, variable) {
-        Ok(pattern) => pattern,
-        Err(_refused) => Pattern::compile(alloc, table, letters, strength, variable).expect(
-            rt,
-            "the pattern",
-        ),
-    }
-}
-
-/// Two values are the same. A proof goes through what a comparison prints once, for any type.
-fn same_at<T: PartialEq + Debug, A: Debug>(rt: &impl Abort, got: &T, want: &T, row: &A) {
-    assert_eq!(rt; *got, *want, "{row:?}");
-}
-
-/// What asks texts for this pattern, asked for again where memory was refused.
-fn begin<'a, W: Weights>(
-    rt: &impl Abort,
-    alloc: Global,
-    table: &'a W,
-    pattern: &'a Pattern,
-) -> Anchored<'a, W> {
-    match Anchored::new(alloc, table, pattern) {
-        Ok(anchored) => anchored,
-        Err(_refused) => Anchored::new(alloc, table, pattern).expect(rt, "memory"),
-    }
-}
-
 /// Whether a text is equal, by a value that was made before.
 fn equals<W: Weights>(anchored: &mut Anchored<'_, W>, text: &[u8]) -> Result<bool, TextFault> {
     anchored.equals(text)
@@ -193,10 +108,7 @@ fn equal_again<W: Weights>(
 fn answer_of(is_equal: Result<bool, u64>) -> Result<bool, TextFault> {
     match is_equal {
         Ok(is_so) => Ok(is_so),
-        Err(offset) => Err(TextFault {
-            kind: TextFault::ILL_FORMED,
-            offset,
-        }),
+        Err(offset) => Err(ill_formed(offset)),
     }
 }
 
