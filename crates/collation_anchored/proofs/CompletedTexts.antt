@@ -154,7 +154,7 @@ not_reached pattern front ks begun (ClusterStart start ∷ rest) sum h = elim (c
 
 -- ---- a text
 
-bound_end : (end : ℕ) (cs : List Cluster) → bound end cs (length cs) ≡ end
+pub bound_end : (end : ℕ) (cs : List Cluster) → bound end cs (length cs) ≡ end
 bound_end end [] = refl
 bound_end end (c ∷ cs) = bound_end end cs
 

@@ -6,6 +6,7 @@ pub mod BeginningTexts
 pub mod ComparedTexts
 pub mod EqualAnswers
 pub mod CompletedTexts
+pub mod EndingTexts
 pub mod BeginsAnswers
 pub mod GoodTexts
 pub mod NextCharacter

@@ -1,10 +1,12 @@
--- What it means that a whole text is a match, or that one begins where a text begins.
-use Rattle.std.specs.Prelude.{◌≡◌, ℕ, ◌≤◌, true, ◌↔◌, Contains, List, take, Some, is_some}
+-- What it means that a whole text is a match, or that one begins or ends where a text does.
+use Rattle.std.specs.Prelude.{◌≡◌, ℕ, ◌≤◌, true, ◌↔◌, Contains, List, take, drop, Option, None, Some, is_some, if◌then◌else◌}
+use Rattle.std.specs.Str.{IsUtf8}
 use Rattle.collation_table.specs.Table.{TableMap}
 use Rattle.collation_elements.specs.declared.settings.Variable.{Variable}
 use Rattle.collation_elements.specs.declared.settings.Strength.{Strength}
 use Rattle.collation_pattern.specs.SortKey.{text_sort_key}
-use Rattle.collation_anchored.specs.Anchored.{all_matches, is_equal, begins}
+use Rattle.collation_matches.specs.Matches.{matches}
+use Rattle.collation_anchored.specs.Anchored.{all_matches, is_equal, begins, last_of, ends}
 
 -- equal texts are those with equal sort keys
 abbrev pub EqualTextsHaveEqualSortKeys : Type 0
@@ -45,3 +47,18 @@ abbrev pub EqualTextsBegin : Type 0
 EqualTextsBegin =
     (table : TableMap) (strength : Strength) (variable : Variable) (pattern text : List ℕ) →
     is_equal table strength variable pattern text ≡ true → is_some (begins table strength variable pattern text) ≡ true
+
+-- ---- matches that end where a text ends
+
+-- where a range begins, if the text from there on is equal
+abbrev pub start_of_equal : TableMap → Strength → Variable → List ℕ → List ℕ → Option (ℕ × ℕ) → Option ℕ
+start_of_equal table strength variable pattern text None = None
+start_of_equal table strength variable pattern text (Some range) =
+    if is_equal table strength variable pattern (drop range.0 text) then Some range.0 else None
+
+-- the greatest start of a match that ends there is that of the last minimal match, or there is none
+abbrev pub EndsByLastRange : TableMap → Type 0
+EndsByLastRange table =
+    (strength : Strength) (variable : Variable) (pattern text : List ℕ) → IsUtf8 pattern → IsUtf8 text →
+    ends table strength variable pattern text
+    ≡ start_of_equal table strength variable pattern text (last_of (matches table strength variable pattern text))
