@@ -40,7 +40,7 @@ const LONG: usize = 200_000;
 
 /// Whether the contraction of this bit is in the table.
 fn has(bits: u32, bit: usize) -> bool {
-    bits.wrapping_shr(bit as u32) & 1 == 1
+    bits.wrapping_shr((bit % 32) as u32) & 1 == 1
 }
 
 /// Whether a letter is in one of these contractions, one for each bit that is set.
