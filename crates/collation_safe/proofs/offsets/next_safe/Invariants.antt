@@ -1,0 +1,9 @@
+use Rattle.std.proofs.Common.{ℕ, ◌<◌, ◌≤◌}
+use Rattle.collation_table.specs.Table.{longest_mapped}
+use Rattle.collation_safe.specs.Safe.{IsSafeOffset}
+use Rattle.collation_safe.proofs.offsets.next_safe.Given as goal
+
+-- no offset passed by is known to be safe
+abbrev pub invariant-loop-at : goal.invariant-loop-at
+invariant-loop-at g l =
+    let T = g.W.Weights.table l.fn.table in longest_mapped T ≤ 1 → (at : ℕ) → l.fn.from ≤ at → at < l.at → IsSafeOffset T l.fn.bytes at → ⊥

@@ -1,0 +1,4 @@
+pub mod Safe
+pub mod Found
+pub mod Laws
+pub mod WorkedRows
