@@ -14,7 +14,7 @@
  * Offsets are in bytes from the beginning of the text; the end of a range is not part of it. */
 #ifndef COLFIND_H
 #define COLFIND_H
-#define COLFIND_VERSION "1.3.0"
+#define COLFIND_VERSION "1.4.0"
 #include <stddef.h>
 #include <stdint.h>
 #ifdef __cplusplus
@@ -140,6 +140,26 @@ colfind_first colfind_first_in(colfind_handle *search, const uint8_t *text, size
 /* Whether a text in memory has a range, by a search that was made before: 1 or 0, or the number of the fault before it. What the search was
  * fed is given up, as by colfind_first_in. */
 uint32_t colfind_has(colfind_handle *search, const uint8_t *text, size_t n);
+
+/* Whether a whole text in memory is equal to the pattern: `is_equal` is 1 where their sort keys are the same, else 0. Ignorable characters at
+ * the ends of the text belong to it. It stops behind the first letter that differs. A fault is told where it stands before the answer is
+ * decided. Memory is asked for at each call; where it is refused, 36 at 0. */
+typedef struct { colfind_status status; uint32_t is_equal; } colfind_equality;
+colfind_equality colfind_equal(colfind_handle *pattern, const uint8_t *text, size_t n);
+
+/* The shortest match that begins where the text begins: `range` is from 0 to its end. Ignorable characters in front belong to it. It stops
+ * where that is decided, and asks for memory as colfind_equal. A fault is told where it stands before that. */
+colfind_first colfind_begins(colfind_handle *pattern, const uint8_t *text, size_t n);
+
+/* An offset, if `is_found` is 1. */
+typedef struct { colfind_status status; uint32_t is_found; uint64_t at; } colfind_place;
+
+/* The nearest safe offset at `from` or behind it, and the nearest one before `before`: a search that begins there finds what the whole text
+ * has from there on, whatever stands before. `from` and `before` may be within a character, or behind the end. The handle holds a table, or
+ * a pattern or a search that was made with it, and stays as it is. No memory is needed. All bytes are looked at up to the offset, and all
+ * that there are where none is safe. */
+colfind_place colfind_next_safe(colfind_handle *handle, const uint8_t *bytes, size_t n, size_t from);
+colfind_place colfind_previous_safe(colfind_handle *handle, const uint8_t *bytes, size_t n, size_t before);
 
 /* All ranges of a text in memory, by a search that was made before, for many texts; of one for a chain, the chain. With a fault of the text
  * they are those before it. Where there are more than have room, the first of them are written, and 84 and `count` say how many there are.

@@ -13,6 +13,7 @@
 /* ---- requests for memory: the one of this number is refused, 0 for none */
 
 static long refuse_at, asked, refusals;
+static long wholes, fronts, undecided, safe_places; /* how often each answer has come */
 void *__real_malloc(size_t n);
 void *__real_realloc(void *p, size_t n);
 void *__wrap_malloc(size_t n) { return ++asked == refuse_at ? NULL : __real_malloc(n); }
@@ -179,11 +180,76 @@ static void all_at_once(colfind_handle *pattern, const uint8_t *text, size_t n, 
     colfind_free(&search);
 }
 
+/* Whether a text is equal to the pattern, and which match begins it, beside the first range of the text between letters that stand nowhere
+ * else, for a pattern between these. */
+#define GUARD "\344\270\201"
+static void from_the_beginning(colfind_handle *table, colfind_handle *pattern, const char *word, int strength, int shifted,
+                               const uint8_t *text, size_t n) {
+    colfind_handle whole = {0}, front = {0};
+    colfind_status status;
+    colfind_equality equality;
+    colfind_first first, wanted;
+    uint8_t guarded[MOST + 6];
+    char sought_whole[64];
+    snprintf(sought_whole, sizeof sought_whole, GUARD "%s" GUARD, word);
+    memcpy(guarded, GUARD, 3), memcpy(guarded + 3, text, n), memcpy(guarded + 3 + n, GUARD, 3);
+    assert(colfind_pattern(table, &whole, BYTES(sought_whole), (uint8_t)strength, (uint8_t)shifted).kind == 0);
+    assert(colfind_pattern(table, &front, (uint8_t *)sought_whole, strlen(sought_whole) - 3, (uint8_t)strength, (uint8_t)shifted).kind == 0);
+    IN_TURN(status, *pattern, (equality = colfind_equal(pattern, text, n)).status);
+    wanted = colfind_index(&whole, guarded, n + 6);
+    assert(equality.is_equal == wanted.is_found && (!status.kind || is(wanted.status, status.kind, status.at + 3)));
+    IN_TURN(status, *pattern, (first = colfind_begins(pattern, text, n)).status);
+    wanted = colfind_index(&front, guarded, n + 3);
+    assert(first.is_found == wanted.is_found && (!status.kind || is(wanted.status, status.kind, status.at + 3)));
+    if (first.is_found) assert(!status.kind && first.range.start == 0 && first.range.end + 3 == wanted.range.end);
+    wholes += equality.is_equal, fronts += first.is_found, undecided += status.kind != 0;
+    colfind_free(&whole), colfind_free(&front);
+}
+
+/* The word in the midst of characters of which some are ignored. */
+static size_t text_around(const char *word, uint8_t *text) {
+    static const char *around[] = {"", "", "\302\255", "-", " ", "\314\201", "s", "\377"};
+    return (size_t)sprintf((char *)text, "%s%s%s", around[below(7)], word, around[below(8)]);
+}
+
+/* Safe offsets, asked of each offset, and what is found from each of them on. */
+static void safe_offsets(colfind_handle *table, colfind_handle *pattern, const uint8_t *text, size_t n) {
+    colfind_handle search = {0}, *handles[] = {table, pattern, &search};
+    static answer all, rest;
+    assert(colfind_search(pattern, &search, COLFIND_ALL).kind == 0);
+    colfind_all found = colfind_all_in(&search, text, n, all.ranges, MOST);
+    size_t last = SIZE_MAX, offset = 0; /* the safe offset before the one that is asked, and the next one; none is SIZE_MAX */
+    for (size_t at = 0; at <= n + 1; at++) {
+        colfind_place next = colfind_next_safe(handles[at % 3], text, n, at), before = colfind_previous_safe(handles[at % 2], text, n, at);
+        assert(is(next.status, COLFIND_GOOD, 0) && is(before.status, COLFIND_GOOD, 0));
+        assert(before.is_found == (last != SIZE_MAX) && (!before.is_found || before.at == last));
+        size_t found_at = next.is_found ? next.at : SIZE_MAX;
+        assert(at == 0 || offset < at || found_at == offset);
+        offset = found_at;
+        assert(next.is_found ? next.at >= at && next.at < n : next.at == 0);
+        int is_safe = offset == at;
+        if (at < n && text[at] == 'a') assert(is_safe);
+        if (at < n && (text[at] == 'h' || (text[at] & 0xC0) == 0x80)) assert(!is_safe);
+        if (!is_safe) continue;
+        last = at;
+        if (found.status.kind && at >= found.status.at) continue;
+        colfind_all from = colfind_all_in(&search, text + at, n - at, rest.ranges, MOST);
+        assert(is(from.status, found.status.kind, found.status.kind ? found.status.at - at : 0) && from.count <= found.count);
+        for (size_t i = 0; i < from.count; i++) {
+            colfind_range wanted = all.ranges[found.count - from.count + i];
+            assert(rest.ranges[i].start + at == wanted.start && rest.ranges[i].end + at == wanted.end);
+        }
+        assert(from.count == found.count || all.ranges[found.count - from.count - 1].start < at);
+        safe_places++;
+    }
+    colfind_free(&search);
+}
+
 static void random_round(const char *table_name, const char *program, colfind_handle *table, int refuses) {
     colfind_handle pattern = {0}, search = {0};
     colfind_status status;
     static answer wanted, got;
-    uint8_t text[MOST];
+    uint8_t text[MOST], around[64];
     size_t n = random_text(text), from = below(n + 1);
     const char *word = sought[below(sizeof sought / sizeof *sought)];
     int strength = 1 + (int)below(3), chain = (int)below(2), shifted = (int)below(2);
@@ -194,6 +260,9 @@ static void random_round(const char *table_name, const char *program, colfind_ha
     assert(got.fault.kind == wanted.fault.kind && got.fault.at == wanted.fault.at && got.count == wanted.count);
     assert(memcmp(got.ranges, wanted.ranges, got.count * sizeof *got.ranges) == 0);
     all_at_once(&pattern, text, n, chain, &wanted);
+    from_the_beginning(table, &pattern, word, strength, shifted, text, n);
+    safe_offsets(table, &pattern, text, n);
+    from_the_beginning(table, &pattern, word, strength, shifted, around, text_around(word, around));
     /* the first range, with a new search each time and with one for all */
     assert(colfind_search(&pattern, &search, COLFIND_ALL).kind == 0 && colfind_feed(&search, BYTES("resume aa res")).kind == 0);
     for (int twice = 0; twice < 2; twice++) {
@@ -281,6 +350,12 @@ static void statuses_of_calls(colfind_handle *table) {
             assert(is(colfind_resume(wrong[i], &out, COLFIND_ALL, words, count), COLFIND_WRONG_HANDLE, 0));
             assert(is(colfind_index(wrong[i], BYTES("a")).status, COLFIND_WRONG_HANDLE, 0));
             assert(is(colfind_index_from(wrong[i], BYTES("a"), 0).status, COLFIND_WRONG_HANDLE, 0));
+            assert(is(colfind_equal(wrong[i], BYTES("resume")).status, COLFIND_WRONG_HANDLE, 0));
+            assert(is(colfind_begins(wrong[i], BYTES("resume")).status, COLFIND_WRONG_HANDLE, 0));
+        }
+        if (wrong[i] == &empty) {
+            colfind_place next = colfind_next_safe(&empty, BYTES("a"), 0), before = colfind_previous_safe(&empty, BYTES("a"), 1);
+            assert(is(next.status, COLFIND_WRONG_HANDLE, 0) && is(before.status, COLFIND_WRONG_HANDLE, 0) && !next.is_found && !before.is_found);
         }
         if (wrong[i] == &empty || wrong[i] == &search) assert(is(colfind_share(wrong[i], &out), COLFIND_WRONG_HANDLE, 0));
         if (wrong[i] != &search) {
@@ -347,6 +422,12 @@ static void refusals_in_turn(const uint8_t *base, size_t n) {
         assert(status.kind == 0);
         IN_TURN(status, pattern, colfind_index_from(&pattern, BYTES("a resume"), 1).status);
         assert(status.kind == 0);
+        IN_TURN(status, pattern, colfind_equal(&pattern, BYTES("resume")).status);
+        assert(status.kind == 0 && colfind_equal(&pattern, BYTES("resume")).is_equal == 1);
+        IN_TURN(status, pattern, colfind_begins(&pattern, BYTES("resume a")).status);
+        assert(status.kind == 0 && colfind_begins(&pattern, BYTES("resume a")).range.end == 6);
+        asked = 0;
+        assert(colfind_next_safe(&pattern, BYTES("ha"), 0).at == 1 && colfind_previous_safe(&pattern, BYTES("ah"), 2).is_found && asked == 0);
         ONCE_IN_TURN(status, search, twice ? colfind_finish(&search) : colfind_stop(&search));
         assert(status.kind == 0);
     }
@@ -424,6 +505,7 @@ int main(int argc, char **argv) {
     refusals_in_turn(base, n);
     for (size_t i = 0; i < sizeof kinds / sizeof *kinds; i++)
         if (!reached[kinds[i]]) { printf("status %u has not come\n", kinds[i]); return 1; }
-    printf("all passed, %ld refusals\n", refusals);
+    assert(atol(argv[3]) < 50 || (wholes && fronts > wholes && undecided && safe_places));
+    printf("all passed, %ld refusals, %ld whole texts, %ld beginnings, %ld safe offsets\n", refusals, wholes, fronts, safe_places);
     return 0;
 }

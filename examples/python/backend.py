@@ -1,6 +1,6 @@
-"""Makes the package `colfind` of colfind.py, for `pip install .` (PEP 517), by the standard library alone. The files that `./build` makes
-go into the package where they are there: libcolfind.so.1, else the package loads the one of the system, and many_texts.so, else it calls
-that for each text."""
+"""Makes the package `colfind` of colfind.py, and the module colfind_dask beside it, for `pip install .` (PEP 517), by the standard library
+alone. The files that `./build` makes go into the package where they are there: libcolfind.so.1, else the package loads the one of the
+system, and many_texts.so, else it calls that for each text."""
 from __future__ import annotations
 
 import base64
@@ -20,6 +20,9 @@ Name: colfind
 Version: {VERSION}
 Summary: Finds a pattern in text by Unicode collation
 Requires-Python: >=3.9
+Provides-Extra: dask
+Requires-Dist: dask >=2022.12 ; extra == "dask"
+Requires-Dist: distributed >=2022.12 ; extra == "dask"
 """
 
 
@@ -36,6 +39,7 @@ def build_wheel(wheel_directory: str, config_settings: object = None, metadata_d
     wheel = f"Wheel-Version: 1.0\nGenerator: colfind\nRoot-Is-Purelib: {str(not built).lower()}\nTag: {tag}\n"
     files = {
         "colfind/__init__.py": MODULE.encode(), "colfind/py.typed": b"", **built,
+        "colfind_dask.py": (HERE / "colfind_dask.py").read_bytes(),
         f"{about}/METADATA": METADATA.encode(), f"{about}/WHEEL": wheel.encode(),
     }
     record = "".join(_record(*file) for file in files.items()) + f"{about}/RECORD,,\n"
@@ -52,7 +56,7 @@ def build_sdist(sdist_directory: str, config_settings: object = None) -> str:
     """Writes the sources into a folder: the name of the archive."""
     name = f"colfind-{VERSION}"
     with tarfile.open(Path(sdist_directory) / f"{name}.tar.gz", "w:gz", format=tarfile.PAX_FORMAT) as out:
-        for path in ("pyproject.toml", "backend.py", "colfind.py"):
+        for path in ("pyproject.toml", "backend.py", "colfind.py", "colfind_dask.py"):
             out.add(HERE / path, f"{name}/{path}")
         entry = tarfile.TarInfo(f"{name}/PKG-INFO")
         entry.size = len(METADATA.encode())

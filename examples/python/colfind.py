@@ -7,7 +7,7 @@
 The library is the file libcolfind.so.1 beside this module, or else the one that the system finds by this name. An argument of a wrong type
 or value gives a TypeError or a ValueError that names it; what is wrong with a table, a pattern or a text is a Fault.
 
-Threads may share tables and patterns. A call that takes long lets the lock of the interpreter go, so that other threads run meanwhile. A
+Threads may share tables and patterns. A search that takes long lets the lock of the interpreter go, so that other threads run meanwhile. A
 Search is in one call at a time: another one meanwhile is a RuntimeError."""
 from __future__ import annotations
 
@@ -24,19 +24,21 @@ from enum import IntEnum
 from hashlib import sha256
 from itertools import accumulate, islice
 from itertools import chain as one_by_one
-from mmap import mmap
+from mmap import ACCESS_READ, mmap
 from pathlib import Path
 from threading import RLock
 from typing import TYPE_CHECKING, Any, BinaryIO, Generic, TypeVar
 from weakref import WeakValueDictionary
 
 if TYPE_CHECKING:
+    from concurrent.futures import Future
+
     from _typeshed import ReadableBuffer as Bytes
 else:
     Bytes = object  # with bytes; each version of Python has another name for it
 
 __all__ = ["Fault", "Kind", "Pattern", "Search", "Table"]
-__version__ = "1.3.0"
+__version__ = "1.4.0"
 
 
 def _struct(**fields: type) -> type[Structure]:
@@ -45,15 +47,20 @@ def _struct(**fields: type) -> type[Structure]:
 
 _Handle, _Range, _Status = _struct(at=c_void_p), _struct(start=c_uint64, end=c_uint64), _struct(kind=c_uint32, at=c_uint64)
 _Saved, _First = _struct(status=_Status, words=c_size_t), _struct(status=_Status, is_found=c_uint32, range=_Range)
-_All = _struct(status=_Status, count=c_size_t)
+_All, _Equality = _struct(status=_Status, count=c_size_t), _struct(status=_Status, is_equal=c_uint32)
+_Place = _struct(status=_Status, is_found=c_uint32, at=c_uint64)
 _Buffer = _struct(buf=c_void_p, obj=c_void_p, len=c_ssize_t, itemsize=c_ssize_t, readonly=c_int, ndim=c_int, format=c_char_p,
                   shape=c_void_p, strides=c_void_p, suboffsets=c_void_p, internal=c_void_p)  # Py_buffer
 Ranges = Iterator[tuple[int, int]]
 _LIKE_BYTES = "bytes, or an object with bytes in one piece"
 _TEXT = f"a str, {_LIKE_BYTES}"
 _LEAST, _MOST = 1 << 12, 1 << 16  # the sizes of the first part of a text that is taken in parts, and of the later ones
+_NEAR = 16  # how many characters are asked first for a safe one
 _LONG = 1 << 12  # how many bytes a call has that lets the lock of the interpreter go: to get it back costs as much as a shorter one
 _AHEAD, _MOST_JOINED = 512, 1 << 16  # how many texts are read, and searched by one call, and how many characters they have at most
+_PART, _SELDOM = 1 << 22, 256  # the bytes of a part that one of some threads searches, and of a text that have room for one range at first
+_BEHIND, _MOST_BEHIND = 1 << 8, 1 << 12  # how many bytes are read at once behind a part, first and at most
+_CLUSTER, _MATCHED, _OLDEST = 12, 15, 20  # words of a search: where its cluster starts; how many keys match, and where the first of these stands
 _Owning = TypeVar("_Owning", bound="_Owner")
 _Given = TypeVar("_Given")
 _FOLDER = Path(__file__).parent
@@ -69,6 +76,8 @@ for _dll in _C, _UNLOCKED:
         ("finish", _Status, [_HANDLE]), ("stop", _Status, [_HANDLE]), ("free", None, [_HANDLE]), ("pending", c_size_t, [_HANDLE]),
         ("take", c_size_t, [_HANDLE, c_void_p, c_size_t]), ("save", _Saved, [_HANDLE, c_void_p, c_size_t]),
         ("first_in", _First, [_HANDLE, *_BYTES, c_size_t]), ("all_in", _All, [_HANDLE, *_BYTES, c_void_p, c_size_t]),
+        ("equal", _Equality, [_HANDLE, *_BYTES]), ("begins", _First, [_HANDLE, *_BYTES]),
+        ("next_safe", _Place, [_HANDLE, *_BYTES, c_size_t]), ("previous_safe", _Place, [_HANDLE, *_BYTES, c_size_t]),
         ("message", c_size_t, [_Status, c_char_p, c_size_t]),
     ]:
         try:
@@ -166,7 +175,7 @@ class Fault(Exception):
         super().__init__(freed if kind == Kind.WRONG_HANDLE else text.value.decode())
         self.kind, self.at = Kind(kind), at
 
-    def __reduce__(self) -> tuple[type[Fault], tuple[int, int]]:
+    def __reduce__(self) -> tuple[type[Fault], tuple[Any, ...]]:
         return Fault, (int(self.kind), self.at)
 
 
@@ -199,11 +208,17 @@ def _number(name: str, value: int) -> int:
         raise _wrong_type(name, "a number", value) from None
 
 
-def _offset(start: int, length: int) -> int:
+def _above_0(name: str, value: int) -> int:
+    if _number(name, value) <= 0:
+        raise ValueError(f"{name} is above 0, not {value}")
+    return int(value)
+
+
+def _offset(start: int, length: int, name: str = "start") -> int:
     if type(start) is not int:
-        start = _number("start", start)
+        start = _number(name, start)
     if not 0 <= start <= length:
-        raise ValueError(f"start is {start}, and the text has the offsets 0 to {length}")
+        raise ValueError(f"{name} is {start}, and the text has the offsets 0 to {length}")
     return start
 
 
@@ -261,6 +276,10 @@ def _encoded(text: str) -> bytes:
     return text.encode("utf-8", "surrogatepass")
 
 
+def _characters_in(data: bytes) -> int:
+    return len(data.decode("utf-8", "surrogatepass"))
+
+
 def _characters_of(text: str, start: int) -> Callable[[int], int]:
     """The offsets of characters from those of bytes behind one character, which rise from call to call."""
     if text.isascii():
@@ -270,11 +289,11 @@ def _characters_of(text: str, start: int) -> Callable[[int], int]:
     def character(place: int) -> int:
         nonlocal count, part, at, end, size
         while place > end:
-            count += len(part[at:].decode("utf-8", "surrogatepass"))
+            count += _characters_in(part[at:])
             part, at, size = _encoded(text[count:count + size]), 0, min(2 * size, _MOST)
             end += len(part)
         begin, at = at, len(part) - (end - place)
-        count += len(part[begin:at].decode("utf-8", "surrogatepass"))
+        count += _characters_in(part[begin:at])
         return count
     return character
 
@@ -395,6 +414,45 @@ class Table(_Owner):
             _TABLES.setdefault(self._digest, self)
         return (_sent_table, (self._digest, *self._files)) if type(self) is Table else (type(self), self._files)
 
+    def next_safe(self, text: str | Bytes, start: int = 0) -> int | None:
+        """The nearest offset, from `start` on, from which a search with this table finds what the whole text has from there on, whatever
+        stands before; or None. Of a str it reads, and encodes, no more than twice the way to it."""
+        if not isinstance(text, str):
+            return _over("text", text, lambda data, length: self._place(_C.colfind_next_safe, data, length, _offset(start, length)), _TEXT)
+        text = _exact(text)
+        start, size = _offset(start, len(text)), _NEAR
+        while True:
+            data = _encoded(text[start:start + size])
+            place = self._place(_C.colfind_next_safe, data, len(data), 0)
+            if place is not None:
+                return start + _characters_in(data[:place])
+            start, size = start + size, min(2 * size, _MOST)
+            if start >= len(text):
+                return None
+
+    def previous_safe(self, text: str | Bytes, before: int) -> int | None:
+        """The same before an offset, the last one there is. None says that a search begins at 0."""
+        if not isinstance(text, str):
+            return _over("text", text,
+                         lambda data, length: self._place(_C.colfind_previous_safe, data, length, _offset(before, length, "before")), _TEXT)
+        text = _exact(text)
+        before, size = _offset(before, len(text), "before"), _NEAR
+        while True:
+            start = max(0, before - size)
+            data = _encoded(text[start:before])
+            place = self._place(_C.colfind_previous_safe, data, len(data), len(data))
+            if place is not None:
+                return start + _characters_in(data[:place])
+            before, size = start, min(2 * size, _MOST)
+            if before == 0:
+                return None
+
+    def _place(self, call: Callable[..., Structure], data: bytes | _View, length: int, offset: int) -> int | None:
+        with _LOCK:
+            place = call(self._handle, data, length, offset)
+        _check(place.status)
+        return place.at if place.is_found else None
+
 
 _TABLES: WeakValueDictionary[bytes, Table] = WeakValueDictionary()  # by their digests: those that were pickled, or came so
 _SENT: deque[Table] = deque(maxlen=4)
@@ -487,6 +545,33 @@ class Pattern(_Owner):
         place = _characters_of(text, start)
         return place(found[0]), place(found[1])
 
+    def fullmatch(self, text: str | Bytes) -> bool:
+        """Whether the whole text is equal to the pattern, by their sort keys. It stops behind the first letter that differs."""
+        return bool(self._of_whole(text, _C.colfind_equal).is_equal)
+
+    def match(self, text: str | Bytes) -> tuple[int, int] | None:
+        """The shortest match that begins where the text begins, as 0 and its end, or None. It stops where that is decided."""
+        first = self._of_whole(text, _C.colfind_begins)
+        if not first.is_found:
+            return None
+        return 0, _characters_of(_exact(text), 0)(first.range.end) if isinstance(text, str) else first.range.end
+
+    def _of_whole(self, text: str | Bytes, call: Callable[..., Structure]) -> Structure:
+        if not isinstance(text, str):
+            return _over("text", text, lambda data, length: self._answered(call, data, length), _TEXT)
+        text = _exact(text)
+        data = _encoded(text)
+        try:
+            return self._answered(call, data, len(data))
+        except Fault as fault:
+            raise _moved(fault, _characters_of(text, 0)) from None
+
+    def _answered(self, call: Callable[..., Structure], data: bytes | _View, length: int) -> Structure:
+        with _LOCK:
+            answer = call(self._handle, data, length)
+        _check(answer.status)
+        return answer
+
     def _first(self, data: bytes | _View, length: int, start: int) -> tuple[int, int] | None:
         spare = self._spare[False]
         search = self._lent(spare)
@@ -546,6 +631,84 @@ class Pattern(_Owner):
     def resume(self, words: Iterable[int], chain: bool = False) -> Search:
         """The search that goes on from `Search.save`."""
         return Search(self, chain, words)
+
+    def search_part(self, text: Bytes, start: int, end: int) -> Ranges:
+        """The ranges that begin in a part of a text, as offsets from the beginning of the text. Both ends of the part are moved to the next
+        safe offset, where a text may be cut; 0 and the end of the text stay. So the parts of a text that was cut anywhere have, one behind
+        the other and up to the first fault, the ranges of the text. A fault is raised that stands where the part ends, or before."""
+        spare = self._spare[False]
+        search = self._lent(spare)
+        try:
+            return _then_fault(*_over("text", text, lambda data, length: search._between(data, length, start, end)))
+        finally:
+            spare.append(search)
+
+    def search_parallel(self, text: Bytes | os.PathLike[str], workers: int | None = None, chain: bool = False,
+                        part_bytes: int = _PART) -> Ranges:
+        """What `search` gives of bytes, or of those of a file, which is mapped, by threads: as many as there are processors, or `workers`.
+        Each searches a part at a time. Ranges and a fault come in order, and at most two parts a thread are ahead of them. What a thread
+        raises is raised in the place of its part. Where it is interrupted or closed, it waits for the parts that are being searched."""
+        _typed("chain", chain, bool)
+        count = len(os.sched_getaffinity(0)) if workers is None else _above_0("workers", workers)
+        size, data = _above_0("part_bytes", part_bytes), _mapped(text) if isinstance(text, os.PathLike) else text
+        view = _View("text", data, f"a Path, {_LIKE_BYTES}")
+        if count == 1 or view.length <= size:
+            return Search(self, chain)._through(data)
+        ranges = _of_parts(view, Search(self), [Search(self) for _ in range(count)], size)
+        return _chained(ranges) if chain else ranges
+
+
+def _mapped(path: os.PathLike[str]) -> Bytes:
+    """The bytes of a file. One without a size, as a pipe, is read."""
+    with open(path, "rb") as file:
+        return mmap(file.fileno(), 0, access=ACCESS_READ) if os.fstat(file.fileno()).st_size else file.read()
+
+
+def _chained(ranges: Ranges) -> Ranges:
+    """Of all ranges those that each begin at or after the end of the one before."""
+    behind = 0
+    for start, end in ranges:
+        if start >= behind:
+            yield start, end
+            behind = end
+
+
+def _of_part(numbers: array[int], status: Structure, start: int, size: int) -> tuple[array[int], Structure]:
+    """Of a part its numbers and its fault, counted from the beginning of the text: what stands behind it belongs to the next one."""
+    if status.kind in _OF_CALLS:
+        return array("Q"), status
+    while numbers and numbers[-2] >= size:
+        del numbers[-2:]
+    if status.kind:
+        status = _Status(status.kind, start + status.at) if status.at <= size else _Status(0, 0)
+    return array("Q", map(start.__add__, numbers)) if start else numbers, status
+
+
+def _of_parts(view: _View, cutting: Search, searches: list[Search], size: int) -> Ranges:
+    """The ranges of a text by as many threads as there are searches, from parts that begin at safe offsets, as another search says."""
+    from concurrent.futures import ThreadPoolExecutor  # which takes long to import
+
+    def found(start: int, end: int) -> tuple[array[int], Structure]:
+        search = searches.pop()
+        try:
+            return search._part(view, view.length, start, end)
+        except Exception as wrong:
+            getattr(wrong, "add_note", str)(f"of the bytes {start} to {end} of the text")
+            raise
+        finally:
+            searches.append(search)
+
+    pool, most, end = ThreadPoolExecutor(len(searches)), 2 * len(searches), 0
+    waiting: deque[Future[tuple[array[int], Structure]]] = deque()
+    try:
+        while end < view.length or waiting:
+            while end < view.length and len(waiting) < most:
+                start, end = end, cutting._safe(view, view.length, min(end + size, view.length))
+                waiting.append(pool.submit(found, start, end))
+            yield from _then_fault(*waiting.popleft().result())
+    finally:
+        pool.shutdown(cancel_futures=True)
+        view.release()
 
 
 class Search(_Owner):
@@ -642,9 +805,7 @@ class Search(_Owner):
 
     def feed_file(self, file: BinaryIO, size: int = 1 << 16) -> Ranges:
         """Takes the rest of an open file, and ends the text: the ranges as they become known."""
-        if _number("size", size) <= 0:
-            raise ValueError(f"size is above 0, not {size}")
-        return self._of_file(file, size)
+        return self._of_file(file, _above_0("size", size))
 
     def _of_file(self, file: BinaryIO, size: int) -> Ranges:
         while _over("piece", piece := file.read(size), lambda _, length: length):
@@ -682,6 +843,55 @@ class Search(_Owner):
         """The numbers of all ranges of a text, of which at most one begins at a byte, and how the call has ended."""
         found = _library(data, length).colfind_all_in(self._handle, data, length, self._room_for(2 * length), length)
         return self._room[:2 * found.count], found.status
+
+    def _safe(self, data: bytes | _View, length: int, at: int) -> int:
+        """The first safe offset at or behind one, else the end of the text."""
+        found = _library(data, length - at).colfind_next_safe(self._handle, data, length, at)
+        _check(found.status)
+        return int(found.at) if found.is_found else length
+
+    def _between(self, data: bytes | _View, length: int, start: int, end: int) -> tuple[array[int], Structure]:
+        """The same as `_part` between the safe offsets at or behind two offsets."""
+        if not 0 <= _number("start", start) <= _number("end", end) <= length:
+            raise ValueError(f"start and end are {start} and {end}, and the text has the offsets 0 to {length}")
+        start, end = _number("start", start), _number("end", end)
+        start = self._safe(data, min(end + 3, length), start) if start else 0  # a character may stand over the end
+        if 0 < end <= start:
+            return array("Q"), _Status(0, 0)
+        try:
+            return self._part(data, length, start, self._safe(data, length, end) if end else 0)
+        finally:
+            _C.colfind_first_in(self._handle, b"", 0, 0)  # begins again, for the next text
+
+    def _part(self, data: bytes | _View, length: int, start: int, end: int) -> tuple[array[int], Structure]:
+        """The numbers of the ranges that begin in a part of a text, and how the call has ended. It reads on behind the part until none of
+        these is to come: what its words say of the oldest key that matches, or else of its cluster, stands behind the part then."""
+        _C.colfind_first_in(self._handle, b"", 0, 0)  # begins again
+        first, at, behind, size, numbers = cast(data, c_void_p).value or 0, start, _BEHIND, end - start, array("Q")
+        while (stop := max(at, end) + behind) < length:
+            status = _library(data, stop - at).colfind_feed(self._handle, c_char_p(first + at), stop - at)
+            if waiting := _C.colfind_pending(self._handle):
+                numbers.frombytes(bytes(16 * waiting))
+                _C.colfind_take(self._handle, numbers.buffer_info()[0] + 8 * (len(numbers) - 2 * waiting), waiting)
+            if status.kind or self._is_past(size):
+                return _of_part(numbers, status, start, size)
+            at, behind = stop, min(2 * behind, _MOST_BEHIND)
+        return self._rest(data, first + start, length - start, start, size)
+
+    def _is_past(self, size: int) -> bool:
+        """No range is to come that begins in the first so many bytes, and no fault stands there."""
+        words = self._saved()
+        return (words[_OLDEST] if words[_MATCHED] else words[_CLUSTER]) >= size < words[_CLUSTER]
+
+    def _rest(self, data: bytes | _View, place: int, length: int, start: int, size: int) -> tuple[array[int], Structure]:
+        """The same where it reads on to the end of the text. Where there are more ranges than had room, it is searched once more."""
+        room = length // _SELDOM + 1
+        while True:
+            numbers = array("Q", [0]) * (2 * room)
+            found = _library(data, length).colfind_all_in(self._handle, c_char_p(place), length, numbers.buffer_info()[0], room)
+            if found.status.kind != Kind.SMALL_BUFFER:
+                return _of_part(numbers[:2 * found.count], found.status, start, size)
+            room = found.count
 
     def _many_first(self, data: bytes, in_characters: bool, count: int) -> tuple[int, array[int]]:
         """How many texts were searched, up to one with a fault, and of each that has a range its number and the first range."""

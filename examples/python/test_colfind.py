@@ -19,7 +19,7 @@ import tracemalloc
 import unittest
 from array import array
 from concurrent.futures import ThreadPoolExecutor
-from contextlib import closing
+from contextlib import closing, suppress
 from pathlib import Path
 from unittest.mock import patch
 
@@ -105,6 +105,69 @@ class Tests(unittest.TestCase):
                 else:
                     self.assertIsNone(pattern.index(text, start))
 
+    def test_whole_texts_and_beginnings(self) -> None:
+        """Beside the first range of the text between letters that stand nowhere else, for a pattern between these."""
+        rng, guard, seen = random.Random(2), "\u4e01", set()
+        for _ in range(400):
+            sought, strength, shifted = rng.choice(["resume", "aa", "r\u00e9sum\u00e9", "\u6f22"]), rng.randrange(1, 4), rng.random() < 0.3
+            around = ["", "", "\u00ad", "-", " ", "\u0301", "s", "\ud800"]
+            text = rng.choice(around[:-1]) + rng.choice([sought, "re\u0301sume\u0301", "RESUME", "a"]) + rng.choice(around)
+            pattern = Pattern(self.table, sought, strength, shifted)
+            whole, front = (Pattern(self.table, guard + sought + end, strength, shifted) for end in (guard, ""))
+            for text, guards, size in (text, guard, 1), (text.encode("utf-8", "surrogatepass"), guard.encode(), 3):
+                found, _ = all_of(whole.search(guards + text + guards))
+                begins, fault = all_of(front.search(guards + text))
+                if fault and not found:
+                    try:
+                        self.assertFalse(pattern.fullmatch(text))
+                    except Fault as wrong:
+                        self.assertEqual(f"fault {wrong.kind} at {wrong.at + size}", fault)
+                        seen.add("fault")
+                else:
+                    self.assertIs(pattern.fullmatch(text), bool(found))
+                if begins:
+                    self.assertEqual(pattern.match(text), (0, begins[0][1] - size))
+                elif fault:
+                    with suppress(Fault):
+                        self.assertIsNone(pattern.match(text))
+                else:
+                    self.assertIsNone(pattern.match(text))
+                seen.update([bool(found), (bool(begins), bool(found))])
+        self.assertEqual(seen, {"fault", True, False, (True, True), (True, False), (False, False)})
+        pattern = Pattern(self.table, "resume", 1)
+        for text in "R\u00c9SUM\u00c9", "r\u00e9sum\u00e9 and more":  # of the first character the table knows no row
+            self.assertEqual((pattern.fullmatch(text), pattern.match(text)), (False, None if text[0] == "R" else (0, 6)))
+        with self.assertRaises(Fault) as fault:
+            pattern.fullmatch("r\u00e9sum\u00e9\ud800")
+        self.assertEqual((fault.exception.kind, fault.exception.at), (Kind.TEXT_ILL_FORMED, 6))
+        self.assertFalse(pattern.fullmatch(b"a\xff"))  # decided before
+        self.assertEqual(pattern.match(bytearray(b"resume b")), (0, 6))
+
+    def test_safe_offsets(self) -> None:
+        """From each of them on the ranges are those of the whole text, and in a str they are those of its bytes."""
+        rng, pattern, places = random.Random(3), Pattern(self.table, "resume", 1), 0
+        for _ in range(150):
+            text = "".join(rng.choice([*PARTS, "ch", "h", "\u00ad"]) for _ in range(rng.randrange(40)))
+            data, ranges = text.encode("utf-8", "surrogatepass"), all_of(pattern.search(text))[0]
+            with patch.multiple(colfind, _NEAR=rng.choice([1, 2, 16]), _MOST=rng.choice([2, 1 << 16])):
+                safe = [at for at in range(len(text)) if self.table.next_safe(text, at) == at]
+                for at in range(len(text) + 1):
+                    after, before = [one for one in safe if one >= at], [one for one in safe if one < at]
+                    self.assertEqual(self.table.next_safe(text, at), after[0] if after else None)
+                    self.assertEqual(self.table.previous_safe(text, at), before[-1] if before else None)
+            in_bytes = [len(text[:at].encode("utf-8", "surrogatepass")) for at in safe]
+            self.assertEqual([at for at in range(len(data)) if self.table.next_safe(data, at) == at], in_bytes)
+            self.assertEqual(self.table.previous_safe(data, len(data)), in_bytes[-1] if in_bytes else None)
+            for at in safe:
+                self.assertEqual(text[at] in "\u0301\u00adh\ud800", False)
+                if "\ud800" not in text[:at]:
+                    self.assertEqual([(start + at, end + at) for start, end in all_of(pattern.search(text[at:]))[0]],
+                                     [one for one in ranges if one[0] >= at])
+                    places += 1
+        self.assertGreater(places, 500)
+        self.assertEqual((self.table.next_safe("\u0301" * 5_000 + "a"), self.table.previous_safe("a" + "\u0301" * 5_000, 5_001)), (5_000, 0))
+        self.assertEqual((self.table.next_safe(""), self.table.previous_safe("", 0), self.table.previous_safe(b"\xff", 1)), (None, None, None))
+
     def test_file(self) -> None:
         path = ROOT / "docs" / "example" / "text.txt"
         for size in (1, 2, 3, 1 << 16):
@@ -179,6 +242,13 @@ class Tests(unittest.TestCase):
             (TypeError, "text", lambda: pattern.search(parts)),
             (TypeError, "text", lambda: pattern.index(None)),
             (TypeError, "start", lambda: pattern.index("a", "0")),
+            *((TypeError, "text", lambda call=call: call(None)) for call in (pattern.fullmatch, pattern.match, self.table.next_safe)),
+            (TypeError, "text", lambda: self.table.previous_safe(None, 0)),
+            *((ValueError, "start", lambda text=text, start=start: self.table.next_safe(text, start))
+              for text in ("ab", b"ab") for start in (-1, 3, 2 ** 64)),
+            *((ValueError, "before", lambda text=text, before=before: self.table.previous_safe(text, before))
+              for text in ("ab", b"ab") for before in (-1, 3, 2 ** 64)),
+            (TypeError, "before", lambda: self.table.previous_safe("a", "1")),
             *((ValueError, "start", lambda text=text, start=start: pattern.index(text, start))
               for text in ("ab", "\u00e9b", b"ab", bytearray(b"ab")) for start in (-1, -2, 3, 2 ** 64, 2 ** 64 + 1)),
             (ValueError, "start", lambda: search.first_in(b"ab", -1)),
@@ -436,7 +506,8 @@ class Tests(unittest.TestCase):
             going_on = pattern.search(b"aba")
             self.assertEqual(next(going_on), (0, 1))
         for call in (search.finish, search.save, lambda: search.feed(b"a"), lambda: search.first_in(b"a"), lambda: Pattern(table, "a"),
-                     lambda: pattern.index("a"), lambda: pattern.index(b"a"), lambda: pattern.search("a"), lambda: pattern.resume([])):
+                     lambda: pattern.index("a"), lambda: pattern.index(b"a"), lambda: pattern.search("a"), lambda: pattern.resume([]),
+                     lambda: pattern.match("a"), lambda: pattern.fullmatch(b"a"), lambda: table.next_safe(""), lambda: table.previous_safe("", 0)):
             with self.assertRaisesRegex(Fault, "^fault 82 at 0: it was freed") as fault:
                 call()
             self.assertIs(fault.exception.kind, Kind.WRONG_HANDLE)

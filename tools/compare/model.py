@@ -2,6 +2,7 @@
 the bytes of a text to what the program prints. It was written from the definitions in words, not from the code. See
 random_searches.py."""
 
+import contextlib
 import functools
 import unicodedata
 
@@ -232,6 +233,69 @@ def chain(ranges):
         if not taken or taken[-1][1] <= start:
             taken.append((start, end))
     return taken
+
+
+# ---- a text from its beginning
+
+
+def keys(table, strength, is_shifted, characters):
+    """The weights, up to the strength, of the elements that have some."""
+    cut = (weights[:strength] for weights in weights_of(table, is_shifted, characters))
+    return [weights for weights in cut if any(weights)]
+
+
+class Front:
+    """What stands before the first fault of a text, beside a pattern."""
+
+    def __init__(self, table, strength, is_shifted, pattern, data):
+        self.settings = table, strength, is_shifted
+        self.key = sort_key(*self.settings, good_front(pattern)[0])
+        self.characters, self.fault = good_front(data)
+        self.length = sum(len(chr(c).encode()) for c, _ in self.characters)
+        wanted, found = keys(*self.settings, good_front(pattern)[0]), keys(*self.settings, self.characters)
+        self.is_begun = wanted[: len(found)] == found
+
+    def is_equal(self, end):
+        return sort_key(*self.settings, part(self.characters, 0, end)) == self.key
+
+    def equal(self):
+        """Whether all of it is a match, or the fault where that would decide."""
+        return None if self.fault and self.is_begun else self.is_equal(self.length)
+
+    def begins(self):
+        """Whether there is an answer, and the least end of a match that begins at 0."""
+        ends = (end for end in boundaries(self.settings[0], self.characters, self.length) if self.is_equal(end))
+        end = next(ends, None)
+        is_told = not self.fault or not self.is_begun or end is not None and end < self.length
+        return is_told, end
+
+
+# ---- safe offsets
+
+
+class SafeOffsets:
+    """Where a search may begin under a table, whatever stands before."""
+
+    def __init__(self, table):
+        rows, self.ranges = table
+        self.mapped = {key[0] for key in rows if len(key) == 1}
+        self.behind_first = {code_point for key in rows for code_point in key[1:]}
+        self.begins_longer = {key[0] for key in rows if len(key) > 1}
+        self.without_primary = {key[0] for key, row in rows.items() if not row[0][1]}
+
+    def is_safe_code_point(self, code_point):
+        has_primary = code_point in self.mapped or implicit_pair(self.ranges, code_point)[0][1] > 0
+        return has_primary and code_point not in self.behind_first | self.without_primary
+
+    def of(self, data):
+        """The safe offsets, and of each whether a contraction begins with what stands there: then it need not be told."""
+        for at in range(len(data)):
+            for length in range(1, 5):
+                with contextlib.suppress(UnicodeDecodeError):
+                    first = decomposition(ord(data[at : at + length].decode()))[0]
+                    if not combining_class(first) and self.is_safe_code_point(first):
+                        yield at, first in self.begins_longer
+                    break
 
 
 def pattern_fault(table, strength, is_shifted, pattern):

@@ -5,7 +5,7 @@ use Rattle.std.proofs.lemmas.Nat.{and_or_apart}
 use Rattle.std.proofs.lemmas.List.{get_or_append_left, get_or-append-add}
 use Rattle.std.proofs.lemmas.Bool.{cases_lt}
 use Rattle.byte_blocks.specs.Lanes.{HasLanes}
-use Rattle.byte_blocks.specs.declared.ascii.AsciiSets.{AsciiSets}
+use Rattle.byte_blocks.specs.declared.sets.AsciiSets.{AsciiSets}
 use Rattle.byte_blocks.specs.declared.sets.TheConstants.{COLUMNS}
 use Rattle.byte_blocks.proofs.LaneLemmas.{below-high, below-none, or-left, or-right, or-none}
 use Rattle.byte_blocks.specs.Ascii.{DoesNotPass, EndsAt, HaltsDecide, KeysDecide, MayPass, Passes, PassesBehind}

@@ -1,7 +1,7 @@
 -- Text of characters of one and of two bytes that passes: the blocks that it is made of, and a lane.
 use Rattle.std.proofs.Common.{◌≡◌, ◌↔◌, ◌∙◌, ℕ, zero, suc, ◌+◌, ◌-◌, ◌≤◌, ◌<◌, min, max, List, ◌∷◌, length, get_or, subst, sym, arith, inl, inr, bit_or}
 use Rattle.std.proofs.lemmas.Bool.{cases_lt}
-use Rattle.byte_blocks.specs.declared.two_bytes.TwoByteSets.{TwoByteSets}
+use Rattle.byte_blocks.specs.declared.sets.TwoByteSets.{TwoByteSets}
 use Rattle.byte_blocks.specs.Sets.{is_in, leads, trails}
 use Rattle.byte_blocks.specs.TwoBytes.{DoesNotGoOn, GoesOn, Pass, StopsAt}
 use Rattle.byte_blocks.proofs.LaneLemmas.{min-zero, or-left, or-right, or-none}

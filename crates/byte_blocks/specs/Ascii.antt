@@ -1,6 +1,6 @@
 -- Text of ASCII that passes in blocks of bytes.
 use Rattle.std.specs.Prelude.{◌≡◌, ℕ, suc, ◌<◌, ◌≤◌, min, List, length, slice_index}
-use Rattle.byte_blocks.specs.declared.ascii.AsciiSets.{AsciiSets}
+use Rattle.byte_blocks.specs.declared.sets.AsciiSets.{AsciiSets}
 use Rattle.byte_blocks.specs.Sets.{in_set}
 
 -- a byte of ASCII that does not halt

@@ -1,6 +1,6 @@
 -- Text of characters of one and of two bytes that passes in blocks of bytes.
 use Rattle.std.specs.Prelude.{◌≡◌, ℕ, suc, ◌<◌, ◌≤◌, ◌⊎◌, max, List, ◌∷◌, length, slice_index}
-use Rattle.byte_blocks.specs.declared.two_bytes.TwoByteSets.{TwoByteSets}
+use Rattle.byte_blocks.specs.declared.sets.TwoByteSets.{TwoByteSets}
 use Rattle.byte_blocks.specs.Sets.{is_in, leads, trails}
 
 -- A byte goes on behind two others: it does not halt, it is a trailing byte just where the one before it is a leading one, and if it

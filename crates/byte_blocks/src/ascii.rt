@@ -7,21 +7,8 @@ use crate::lanes::{
     halts_decide, halts_of, is_zero, key_stops, keys_behind, keys_decide, load, members_of, stops,
     zeros_in_front, zeros_in_front_of_two,
 };
-use crate::sets::in_set;
+use crate::sets::{AsciiSets, in_set};
 use std::simd::prelude::*;
-
-/// Sets of bytes of ASCII: number l of a set has bit h where the byte 16 h + l is in it.
-#[derive(Clone, Copy, Debug)]
-pub struct AsciiSets {
-    /// Of those that do not pass.
-    pub halt: [u8; 16],
-    /// Of those behind which none of `later` passes.
-    pub key: [u8; 16],
-    pub later: [u8; 16],
-    /// Of those behind which none of `inner` passes.
-    pub joins: [u8; 16],
-    pub inner: [u8; 16],
-}
 
 /// How many bytes at the front of a piece pass, up to `limit`: the first one, and blocks of sixteen behind it, the last of which may begin
 /// amid the one before.

@@ -5,9 +5,7 @@ ghost use Rattle.byte_blocks.specs.Lanes.{HasLanes};
 ghost use Rattle.byte_blocks.specs.Sets.{in_set, is_in};
 ghost use Rattle.byte_blocks.specs.TwoBytes.{GoesOn};
 
-use crate::ascii::AsciiSets;
-use crate::sets::{ByteSet, COLUMNS, HIGH_COLUMNS, LEADS, TRAILS, in_set};
-use crate::two_bytes::TwoByteSets;
+use crate::sets::{AsciiSets, ByteSet, COLUMNS, HIGH_COLUMNS, LEADS, TRAILS, TwoByteSets, in_set};
 use std::simd::prelude::*;
 
 /// Sixteen bytes from `at` on.

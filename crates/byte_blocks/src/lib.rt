@@ -16,7 +16,7 @@ mod last;
 mod sets;
 mod two_bytes;
 
-pub use crate::ascii::{AsciiSets, block_passes, passed_len};
+pub use crate::ascii::{block_passes, passed_len};
 pub use crate::last::len_to_last;
-pub use crate::sets::{ByteSet, NO_BYTES, TRAILS, in_set, put};
-pub use crate::two_bytes::{TwoByteSets, block_goes_on, going_len};
+pub use crate::sets::{AsciiSets, ByteSet, NO_BYTES, TRAILS, TwoByteSets, in_set, put};
+pub use crate::two_bytes::{block_goes_on, going_len};

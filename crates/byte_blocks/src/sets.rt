@@ -59,3 +59,26 @@ impl ByteSet {
         self.high[(byte % 16) as usize] |= HIGH_COLUMNS[(byte / 16) as usize];
     }
 }
+
+/// Sets of bytes of ASCII: number l of a set has bit h where the byte 16 h + l is in it.
+#[derive(Clone, Copy, Debug)]
+pub struct AsciiSets {
+    /// Of those that do not pass.
+    pub halt: [u8; 16],
+    /// Of those behind which none of `later` passes.
+    pub key: [u8; 16],
+    pub later: [u8; 16],
+    /// Of those behind which none of `inner` passes.
+    pub joins: [u8; 16],
+    pub inner: [u8; 16],
+}
+
+/// Sets of bytes, of which each ends a character of one byte or of two, but for leading bytes.
+#[derive(Clone, Copy, Debug)]
+pub struct TwoByteSets {
+    /// Of those that do not pass; leading ones among them.
+    pub halt: ByteSet,
+    /// Of those behind which none of `later` ends the next character.
+    pub key: ByteSet,
+    pub later: ByteSet,
+}

@@ -4,20 +4,10 @@ ghost use Rattle.byte_blocks.specs.Sets.{is_in, trails};
 ghost use Rattle.byte_blocks.specs.TwoBytes.{DoesNotGoOn, GoesOn, Pass, StopsAt};
 
 use crate::lanes::{is_zero, load, stops_of_two, zeros_in_front};
-use crate::sets::{ByteSet, LEADS, TRAILS};
+use crate::sets::{LEADS, TRAILS, TwoByteSets};
 
 /// The fewest bytes for which blocks are begun.
-const FEWEST: usize = 18;
-
-/// Sets of bytes, of which each ends a character of one byte or of two, but for leading bytes.
-#[derive(Clone, Copy, Debug)]
-pub struct TwoByteSets {
-    /// Of those that do not pass; leading ones among them.
-    pub halt: ByteSet,
-    /// Of those behind which none of `later` ends the next character.
-    pub key: ByteSet,
-    pub later: ByteSet,
-}
+const FEWEST_IN_BLOCKS: usize = 18;
 
 /// How many bytes at the front of a piece pass, up to `limit`: two, and blocks of sixteen behind them, the last of which may begin amid
 /// the one before; none where the piece is shorter.
@@ -26,9 +16,12 @@ pub fn going_len(sets: &TwoByteSets, piece: &[u8], limit: usize) -> usize
     requires { limit ≤ length piece.now }
     ensures passes { Pass sets.now piece.now result }
     ensures within { result ≤ limit }
-    ensures most { FEWEST ≤ limit → result < limit → StopsAt sets.now piece.now result }
+    ensures most { FEWEST_IN_BLOCKS ≤ limit → result < limit → StopsAt sets.now piece.now result }
 {
-    if limit < FEWEST || !begins(sets, piece[0]) || !goes_on(sets, 0, piece[0], piece[1]) {
+    if limit < FEWEST_IN_BLOCKS
+        || !begins(sets, piece[0])
+        || !goes_on(sets, 0, piece[0], piece[1])
+    {
         return 0;
     }
     let mut len = 2;

@@ -6,10 +6,10 @@ ghost use Rattle.byte_dfa.specs.Runs.{AreSpots, HasRun, HaveRun};
 use crate::moves::{Cursor, STOP, cell_at, run};
 
 /// The fewest bytes that four runs are begun for.
-const FEWEST: usize = 1_024;
+const FEWEST_IN_RUNS: usize = 1_024;
 
 /// How far a character of ASCII is looked for, behind which a guess is likely to be right.
-const NEAR: usize = 32;
+const ASCII_AHEAD: usize = 32;
 
 /// By how many bytes a run is led from a guessed row to the one in which it begins.
 const LEAD_IN: usize = 24;
@@ -69,7 +69,7 @@ fn lead_in(cells: &[u32], piece: &[u8], from: Cursor, home: usize) -> Option<Spo
     ensures spots { IfSome result (AreSpots cells.now piece.now) }
 {
     let room = piece.len().checked_sub(from.at)?;
-    if room < FEWEST {
+    if room < FEWEST_IN_RUNS {
         return None;
     }
     let gap = (room - TAIL) / 4;
@@ -208,9 +208,9 @@ fn near(piece: &[u8], at: usize) -> usize
     requires { at + 32 ≤ length piece.now }
     ensures { result ≤ at + 32 }
 {
-    let bytes = &piece[at..at + NEAR];
+    let bytes = &piece[at..at + ASCII_AHEAD];
     let ascii = bytes.iter().take_while(|byte| **byte >= 0x80).count();
-    if ascii < NEAR {
+    if ascii < ASCII_AHEAD {
         return at + ascii;
     }
     at + bytes.iter().take_while(|byte| **byte < 0xC0).count()

@@ -1,6 +1,6 @@
 -- What a handle holds after a call, by what it held before.
 use Rattle.std.proofs.Common.{◌≡◌, ◌∙◌, refl, sym, ap, subst, Some, None}
-use Rattle.std.specs.Prelude.{Result, Ok, Err, Option}
+use Rattle.std.specs.Prelude.{◌⊎◌, Bool, Result, Ok, Err, Option}
 use Rattle.std.specs.Arc.{arc_value}
 use Rattle.std.specs.declared.alloc.Global.{Global}
 use Rattle.std_alloc.specs.declared.arc.Arc.{Arc}
@@ -11,11 +11,14 @@ use Rattle.colfind_c.specs.declared.owned.Owned.{Owned}
 use Rattle.colfind_c.specs.declared.owned.Owned.TheVariants.{Table as ATable, Pattern as APattern, Search as ASearch}
 use Rattle.colfind_c.specs.declared.outcome.Outcome.{Outcome}
 use Rattle.colfind_c.specs.declared.outcome.Outcome.TheVariants.{Good, Table as InTable, Pattern as InPattern, Text, State, NoMemory, Partly, WrongHandle, Ended, Short, BadArgument}
-use Rattle.colfind_c.specs.Exports.{OfTable, OfPattern, OfSearch, TakesOldest, SharesTable, SharesQuery, IsGiven, GivesTable, GivesPattern, IsCompiled, MakesPattern, StartsSearch, GoesOnFrom, SavesInto, strength_for, variable_for, select_for}
+use Rattle.colfind_c.specs.Exports.{OfTable, OfPattern, OfSearch, TakesOldest, SharesTable, SharesQuery, IsGiven, GivesTable, GivesPattern, IsCompiled, MakesPattern, StartsSearch, GoesOnFrom, SavesInto, IsEqualTo, IsBegunBy, IsNextSafe, IsPreviousSafe, AnswersNextSafe, AnswersPreviousSafe, table_under, strength_for, variable_for, select_for}
 use Rattle.std.specs.Prelude.{ℕ, List, [], ◌≢◌}
+use Rattle.collation_table.specs.Table.{TableMap}
 use Rattle.collation_table.specs.contracts.table.TableWeights.TheImpl.{ghosts as weights}
 use Rattle.collation_elements.specs.declared.settings.Strength.{Strength}
 use Rattle.collation_elements.specs.declared.settings.Variable.{Variable}
+use Rattle.collation_anchored.specs.Answers.{equal_answer, begins_answer, no_memory}
+use Rattle.collation_pattern.specs.Compiled.{IsCompiledWith}
 use Rattle.collation_pattern.specs.PatternFaults.{pattern_fault}
 use Rattle.collation_matches.specs.declared.faults.TextFault.{TextFault}
 use Rattle.collation_matches.specs.declared.select.Select.{Select}
@@ -185,6 +188,33 @@ pub first_seen_from : (q : Query) (t : Table) (text : List ℕ) (from : ℕ) (re
     → (p : List ℕ) → IsCompiledFrom (sought_with q All) p → IsFirstOf (answer_from (sought_with q All) p text from) result
 first_seen_from q t text from result e first p compiled = let seen = seen_with q q t All refl e in
     subst (λ z. IsFirstOf (answer_from z p text from) result) seen (first p (subst (λ z. IsCompiledFrom z p) (sym seen) compiled))
+
+pub equal_seen : (q : Query) (t : Table) (text : List ℕ) (result : Result Bool TextFault) → t ≡ arc_value q.table
+    → ((p : List ℕ) → IsCompiledWith (weights.table t) q.pattern p → (result ≡ Err no_memory) ⊎ (result ≡ equal_answer (weights.table t) q.pattern p text))
+    → IsEqualTo q text result
+equal_seen q t text result e is = subst (λ x. (p : List ℕ) → IsCompiledWith (weights.table x) q.pattern p → (result ≡ Err no_memory) ⊎ (result ≡ equal_answer (weights.table x) q.pattern p text)) e is
+
+pub begun_seen : (q : Query) (t : Table) (text : List ℕ) (result : Result (Option ℕ) TextFault) → t ≡ arc_value q.table
+    → ((p : List ℕ) → IsCompiledWith (weights.table t) q.pattern p → (result ≡ Err no_memory) ⊎ (result ≡ begins_answer (weights.table t) q.pattern p text))
+    → IsBegunBy q text result
+begun_seen q t text result e is = subst (λ x. (p : List ℕ) → IsCompiledWith (weights.table x) q.pattern p → (result ≡ Err no_memory) ⊎ (result ≡ begins_answer (weights.table x) q.pattern p text)) e is
+
+-- a safe offset that was found under the table of a handle, and one that was asked of no table
+pub next_told : (value : Option Owned) (owned : Owned) (seen : TableMap) (bytes : List ℕ) (from : ℕ) (found told : Option ℕ) → value ≡ Some owned → seen ≡ table_under owned → told ≡ found
+    → IsNextSafe seen bytes from found → AnswersNextSafe value bytes from told Good
+next_told value owned seen bytes from found told e1 e2 e3 is =
+    subst (λ v. AnswersNextSafe v bytes from told Good) (sym e1) (refl, subst (λ t. IsNextSafe t bytes from told) e2 (subst (λ f. IsNextSafe seen bytes from f) (sym e3) is))
+
+pub next_untold : (value : Option Owned) (bytes : List ℕ) (from : ℕ) (told : Option ℕ) → value ≡ None → told ≡ None → AnswersNextSafe value bytes from told WrongHandle
+next_untold value bytes from told e1 e2 = subst (λ v. AnswersNextSafe v bytes from told WrongHandle) (sym e1) (refl, e2)
+
+pub previous_told : (value : Option Owned) (owned : Owned) (seen : TableMap) (bytes : List ℕ) (before : ℕ) (found told : Option ℕ) → value ≡ Some owned → seen ≡ table_under owned → told ≡ found
+    → IsPreviousSafe seen bytes before found → AnswersPreviousSafe value bytes before told Good
+previous_told value owned seen bytes before found told e1 e2 e3 is =
+    subst (λ v. AnswersPreviousSafe v bytes before told Good) (sym e1) (refl, subst (λ t. IsPreviousSafe t bytes before told) e2 (subst (λ f. IsPreviousSafe seen bytes before f) (sym e3) is))
+
+pub previous_untold : (value : Option Owned) (bytes : List ℕ) (before : ℕ) (told : Option ℕ) → value ≡ None → told ≡ None → AnswersPreviousSafe value bytes before told WrongHandle
+previous_untold value bytes before told e1 e2 = subst (λ v. AnswersPreviousSafe v bytes before told WrongHandle) (sym e1) (refl, e2)
 
 -- a search that could not be saved wrote nothing
 pub save_failed : (before : List ℕ) (old : Session) (how : Outcome) (words : List ℕ) (new : Session) → SavesSession old how words new → (how ≡ Good → ⊥) → SavesInto before before 0 old how new

@@ -1,10 +1,11 @@
 -- What the calls of the library do, over what a handle held before and holds after them.
-use Rattle.std.specs.Prelude.{◌≡◌, ◌⊎◌, ◌≢◌, ℕ, ◌<◌, ◌≤◌, ◌==◌, List, [], ◌++◌, length, drop, if◌then◌else◌, Option, None, Some, Result, Ok, Err, MatchResult}
+use Rattle.std.specs.Prelude.{◌≡◌, ◌⊎◌, ◌≢◌, ℕ, ◌<◌, ◌≤◌, ◌==◌, Bool, false, List, [], ◌++◌, length, drop, if◌then◌else◌, Option, None, Some, IfSome, Result, Ok, Err, MatchResult}
 use Rattle.std.specs.Str.{IsUtf8}
 use Rattle.std.specs.Arc.{arc_value}
 use Rattle.std.specs.declared.alloc.Global.{Global}
 use Rattle.std_alloc.specs.declared.arc.Arc.{Arc}
 use Rattle.collation_table.specs.declared.table.Table.{Table}
+use Rattle.collation_table.specs.Table.{TableMap, longest_mapped}
 use Rattle.collation_table.specs.contracts.table.TableWeights.TheImpl.{ghosts as weights}
 use Rattle.collation_table.specs.Faults.{tailored_map, tailored_fault, IsFaultOrAllocationRefused}
 use Rattle.collation_elements.specs.declared.settings.Strength.{Strength}
@@ -13,10 +14,14 @@ use Rattle.collation_elements.specs.declared.settings.Variable.{Variable}
 use Rattle.collation_elements.specs.declared.settings.Variable.TheVariants.{NonIgnorable, Shifted}
 use Rattle.collation_pattern.specs.Compiled.{IsCompiledWith}
 use Rattle.collation_pattern.specs.PatternFaults.{pattern_fault}
+use Rattle.collation_matches.specs.declared.faults.TextFault.{TextFault}
 use Rattle.collation_matches.specs.declared.select.Select.{Select}
 use Rattle.collation_matches.specs.declared.select.Select.TheVariants.{All, Chain}
 use Rattle.collation_matches.specs.Sought.{IsCompiledFrom, answer_to}
 use Rattle.collation_matches.specs.Offsets.{answer_from}
+use Rattle.collation_anchored.specs.Answers.{equal_answer, begins_answer, no_memory}
+use Rattle.collation_safe.specs.Safe.{IsSafeAloneOffset, IsSafeOffset}
+use Rattle.collation_safe.specs.Found.{IsFoundFrom, IsFoundUpTo}
 use Rattle.collation_search.specs.Indexing.{IsFirstOf}
 use Rattle.collation_search.specs.Resuming.{IsRefused}
 use Rattle.collation_search.specs.State.{sizes_of}
@@ -27,9 +32,11 @@ use Rattle.colfind_c.specs.declared.owned.Owned.TheVariants.{Table as ATable, Pa
 use Rattle.colfind_c.specs.declared.outcome.Outcome.{Outcome}
 use Rattle.colfind_c.specs.declared.outcome.Outcome.TheVariants.{Good, Table as InTable, Pattern as InPattern, Text, State, NoMemory, WrongHandle, BadArgument, Short}
 use Rattle.colfind_c.specs.declared.outcome.Status.{Status}
+use Rattle.colfind_c.specs.declared.anchored.Equality.{Equality}
 use Rattle.colfind_c.specs.declared.exports.First.{First}
+use Rattle.colfind_c.specs.declared.safe.Place.{Place}
 use Rattle.colfind_c.specs.declared.queue.Range.{Range}
-use Rattle.colfind_c.specs.Queries.{sought_with}
+use Rattle.colfind_c.specs.Queries.{sought_with, table_of}
 use Rattle.colfind_c.specs.Queues.{waiting}
 use Rattle.colfind_c.specs.Sessions.{sought_of, HasFed, ResumesSession, TakesRanges, SavesSession}
 use Rattle.colfind_c.specs.Statuses.{status_of}
@@ -179,6 +186,74 @@ first_of first = if first.is_found == 1 then Some (first.range.start, first.rang
 abbrev pub number_of : Option (ℕ × ℕ) → Outcome → ℕ
 number_of (Some range) how = 1
 number_of None how = (status_of how).kind
+
+-- ---- of a text from its beginning
+
+-- whether a whole text is a match, or the fault that stands before that is decided, unless memory was refused
+abbrev pub IsEqualTo : Query → List ℕ → Result Bool TextFault → Type 0
+IsEqualTo q text result = (p : List ℕ) → IsCompiledWith (table_of q) q.pattern p → (result ≡ Err no_memory) ⊎ (result ≡ equal_answer (table_of q) q.pattern p text)
+
+abbrev pub AnswersEqual : Query → List ℕ → Bool → Outcome → Type 0
+AnswersEqual q text answer Good = IsEqualTo q text (Ok answer)
+AnswersEqual q text answer (Text f) = (answer ≡ false) × IsEqualTo q text (Err f)
+AnswersEqual q text answer NoMemory = answer ≡ false
+AnswersEqual q text answer _ = ⊥
+
+-- the same of where the least match ends that begins where the text begins
+abbrev pub IsBegunBy : Query → List ℕ → Result (Option ℕ) TextFault → Type 0
+IsBegunBy q text result = (p : List ℕ) → IsCompiledWith (table_of q) q.pattern p → (result ≡ Err no_memory) ⊎ (result ≡ begins_answer (table_of q) q.pattern p text)
+
+-- the range from the beginning of the text to there
+abbrev pub up_to : Option ℕ → Option (ℕ × ℕ)
+up_to None = None
+up_to (Some end) = Some (0, end)
+
+abbrev pub AnswersBegins : Query → List ℕ → Option (ℕ × ℕ) → Outcome → Type 0
+AnswersBegins q text range Good = (end : Option ℕ) × (range ≡ up_to end) × IsBegunBy q text (Ok end)
+AnswersBegins q text range (Text f) = (range ≡ None) × IsBegunBy q text (Err f)
+AnswersBegins q text range NoMemory = range ≡ None
+AnswersBegins q text range _ = ⊥
+
+-- what C gets
+abbrev pub equal_of : Equality → Bool
+equal_of equality = equality.is_equal == 1
+
+-- ---- safe offsets
+
+-- the table that a handle holds, or with which its pattern was compiled, or that of its search
+abbrev pub table_under : Owned → TableMap
+table_under (ATable t) = weights.table (arc_value t)
+table_under (APattern q) = table_of (arc_value q)
+table_under (ASearch s) = table_of (arc_value s.query)
+
+-- What was found is safe, stands in no contraction, and from the offset on; it is the nearest such offset, and none is found only where there
+-- is none. Under a table without contractions it is the nearest safe one.
+pub record IsNextSafe (table : TableMap) (bytes : List ℕ) (from : ℕ) (found : Option ℕ) : Type 0 where
+  pub safe : IfSome found (λ at. IsSafeOffset table bytes at)
+  pub told : IfSome found (λ at. IsSafeAloneOffset table bytes at)
+  pub behind : IfSome found (λ at. from ≤ at)
+  pub alone : (at : ℕ) → from ≤ at → IsSafeAloneOffset table bytes at → IsFoundUpTo at found
+  pub nearest : longest_mapped table ≤ 1 → (at : ℕ) → from ≤ at → IsSafeOffset table bytes at → IsFoundUpTo at found
+
+abbrev pub AnswersNextSafe : Option Owned → List ℕ → ℕ → Option ℕ → Outcome → Type 0
+AnswersNextSafe (Some owned) bytes from found outcome = (outcome ≡ Good) × IsNextSafe (table_under owned) bytes from found
+AnswersNextSafe None bytes from found outcome = (outcome ≡ WrongHandle) × (found ≡ None)
+
+-- the same before an offset
+pub record IsPreviousSafe (table : TableMap) (bytes : List ℕ) (before : ℕ) (found : Option ℕ) : Type 0 where
+  pub safe : IfSome found (λ at. IsSafeOffset table bytes at)
+  pub told : IfSome found (λ at. IsSafeAloneOffset table bytes at)
+  pub earlier : IfSome found (λ at. at < before)
+  pub alone : (at : ℕ) → at < before → IsSafeAloneOffset table bytes at → IsFoundFrom at found
+  pub nearest : longest_mapped table ≤ 1 → (at : ℕ) → at < before → IsSafeOffset table bytes at → IsFoundFrom at found
+
+abbrev pub AnswersPreviousSafe : Option Owned → List ℕ → ℕ → Option ℕ → Outcome → Type 0
+AnswersPreviousSafe (Some owned) bytes before found outcome = (outcome ≡ Good) × IsPreviousSafe (table_under owned) bytes before found
+AnswersPreviousSafe None bytes before found outcome = (outcome ≡ WrongHandle) × (found ≡ None)
+
+-- the offset that C gets, if it gets one
+abbrev pub place_of : Place → Option ℕ
+place_of place = if place.is_found == 1 then Some place.at else None
 
 -- how many ranges wait
 abbrev pub pending : Option Owned → ℕ

@@ -279,7 +279,7 @@ pub extern "C" fn colfind_share(alloc: Global, handle: &mut Handle, out: &mut Ha
 }
 
 /// The pattern that a handle holds, once more.
-fn query_of(alloc: Global, pattern: &mut Handle) -> Result<Arc<Query>, Outcome>
+pub(crate) fn query_of(alloc: Global, pattern: &mut Handle) -> Result<Arc<Query>, Outcome>
     ensures shared { SharesQuery pattern.old.value result }
     ensures same { pattern.new.value ≡ pattern.old.value }
 {
@@ -576,7 +576,7 @@ fn first_in(alloc: Global, query: &Query, text: &[u8]) -> (Outcome, Option<(u64,
 }
 
 /// What C gets of the first range of a text.
-fn first_with(outcome: Outcome, found: Option<(u64, u64)>) -> First
+pub(crate) fn first_with(outcome: Outcome, found: Option<(u64, u64)>) -> First
     ensures status { result.status ≡ status_of outcome }
     ensures range { first_of result ≡ found }
 {

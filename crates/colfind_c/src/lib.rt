@@ -1,6 +1,7 @@
 //! The search as a C library.
 #![tactic(auto)]
 
+mod anchored;
 mod exports;
 mod handle;
 mod loose;
@@ -9,4 +10,5 @@ mod outcome;
 mod owned;
 mod parked;
 mod queue;
+mod safe;
 mod session;

@@ -8,3 +8,4 @@ pub mod EarlyLemmas
 pub mod SkipSteps
 pub mod LoopSteps
 pub mod Untaken
+pub mod BeginLemmas

@@ -65,7 +65,7 @@ len-first : (c : ℕ) (cs : List ℕ) → byte_len (c ∷ cs) ≡ len_utf8 c + b
 unfolding byte_len
 len-first c cs = refl
 
-no-bytes : (cs : List ℕ) → byte_len cs ≡ 0 → cs ≡ []
+pub no-bytes : (cs : List ℕ) → byte_len cs ≡ 0 → cs ≡ []
 no-bytes [] h = refl
 no-bytes (c ∷ cs) h = absurd (let len = len-first c cs in let bounds = len_utf8_bounds c in omega (arith, len, bounds.0, h))
 

@@ -38,6 +38,8 @@ pub struct Front<'a> {
     pub offset: u64,
     /// The place of the last character that may be taken by letters, in bytes from its own beginning.
     pub reach: usize,
+    /// Whether letters end behind the first range that one of them hands out, for a caller that wants no other one.
+    pub one_range: bool,
 }
 
 /// Walks over characters at the front of a piece, of which the first is the one that follows `from`, as long as no unit reaches from one
@@ -73,6 +75,7 @@ pub(crate) fn walk_letters<W: Weights, F: FnMut(u64, u64)>(
         piece,
         offset,
         reach,
+        one_range,
     } = front;
     let mut at = 0;
     let mut c = from.next;
@@ -111,7 +114,13 @@ pub(crate) fn walk_letters<W: Weights, F: FnMut(u64, u64)>(
         if end > reach {
             break;
         }
-        walk_letter(matcher, query, &letter, offset + at as u64, sink);
+        if walk_letter(matcher, query, &letter, offset + at as u64, sink) & one_range {
+            return Walked {
+                len: end,
+                next,
+                letter: following,
+            };
+        }
         at = end;
         end += len;
         c = next;

@@ -6,8 +6,11 @@ ghost use Rattle.std.specs.Prelude.{◌≡◌, ℕ, ◌+◌, ◌≤◌, List, []
 ghost use Rattle.std.specs.Char.{len_utf8};
 ghost use Rattle.std.specs.Str.{chars, IsUtf8};
 ghost use Rattle.utf8_cut.specs.Sequences.{SpellsCharacter};
+ghost use Rattle.collation_table.specs.Table.{TableMap};
+ghost use Rattle.collation_pattern.specs.Compiled.{Compiled};
 ghost use Rattle.collation_letters.specs.Letters.{IsLetter};
 ghost use Rattle.collation_letters.specs.Store.{AreLetters};
+ghost use Rattle.collation_finder.specs.Apart.{BeginsUnit};
 ghost use Rattle.collation_finder.specs.LetterRun.{StandsInFront};
 
 use crate::cache::Cache;
@@ -93,27 +96,42 @@ fn next_apart<W: Weights>(
     }
 }
 
+/// Whether it is known that no unit reaches into a character of this letter, which stands at a byte offset. At the beginning of a text
+/// it is enough that it begins with a starter: so text of Thai or Lao begins with a consonant, which may follow a vowel in one string.
+fn begins_unit(letter: &Letter, offset: u64) -> bool
+    ensures { result ≡ true → (table : TableMap) (pattern : Compiled) (c : ℕ)
+        → IsLetter table pattern (c ∷ []) letter.now → BeginsUnit table offset c }
+{
+    laws_of_characters();
+    units_stay_apart();
+    if letter.is_apart {
+        return true;
+    }
+    offset == 0 && letter.is_starter()
+}
+
 /// Whether it is worth while to begin with a character of this letter at the front of a piece: no unit reaches to it, the next one does
 /// not begin after `reach`, and no unit is seen to reach from it to what follows, nor from the next one, unless it is one letter with
 /// the character behind it.
 fn can_begin<W: Weights>(
     query: &Query<'_, W>,
     letters: &mut Letters,
-    piece: &[u8],
+    front: Front<'_>,
     first: char,
     letter: Letter,
-    reach: usize,
 ) -> bool
-    requires first { StandsInFront piece.now first }
+    requires first { StandsInFront front.piece.now first }
     requires letter { IsLetter (W.table query.now.table.now) query.now.pattern.now
         (first ∷ []) letter }
     requires right { AreLetters (W.table query.now.table.now) query.now.pattern.now letters.old }
-    ensures apart { result ≡ true → letter.is_apart ≡ true }
+    ensures begins { result ≡ true
+        → BeginsUnit (W.table query.now.table.now) front.entry.offset first }
     ensures right { AreLetters (W.table query.now.table.now) query.now.pattern.now letters.new }
 {
-    if !letter.is_apart || first.len_utf8() > reach {
+    if !begins_unit(&letter, front.offset) || first.len_utf8() > front.reach {
         return false;
     }
+    let piece = front.piece;
     if letter.is_closed && ascii_follows(query, letters, &piece[first.len_utf8()..], &letter) {
         return true;
     }
@@ -265,8 +283,6 @@ impl Finder {
         ensures setup { KeepsSetup self.old self.new }
         ensures callable { F.IsAlwaysCallable sink.new }
     {
-        laws_of_characters();
-        units_stay_apart();
         // that is seen here, for most pieces are long, and a call costs more
         if front.piece.len() <= SHORT {
             if let Some(passed) = self.pass_short(query, cache, front) {
@@ -277,14 +293,7 @@ impl Finder {
             return 0;
         };
         let letter = cache.letters.letter(query.table, query.pattern, first);
-        if !can_begin(
-            query,
-            &mut cache.letters,
-            front.piece,
-            first,
-            letter,
-            front.reach,
-        ) {
+        if !can_begin(query, &mut cache.letters, front, first, letter) {
             return 0;
         }
         self.pause(query, &mut cache.letters, found, sink);

@@ -229,6 +229,7 @@ impl Finder {
             piece: &front.piece[len..],
             offset: front.offset + len as u64,
             reach: front.reach - len,
+            ..front
         };
         let from = Walked {
             len: 0,

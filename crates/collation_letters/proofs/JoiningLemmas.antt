@@ -1,7 +1,7 @@
 -- A letter and a mark that joins it.
 use Rattle.std.proofs.Common.{◌≡◌, ◌≢◌, ◌∙◌, ◌⊎◌, ℕ, ◌+◌, ◌≤◌, Bool, true, false, cond, not, nat_lt, ◌&&◌, List, [], ◌∷◌, ◌++◌, length, map, slice_get, inl, inr, refl, sym, ap, ap₂, subst, arith, append_assoc, length-append}
 use Rattle.std.proofs.lemmas.Bool.{false≢true, le-ltb}
-use Rattle.std.proofs.lemmas.List.{append-nil, map-append, same_from_push}
+use Rattle.std.proofs.lemmas.List.{map-append, same_from_push}
 use Rattle.nfd_points.specs.declared.points.Point.{Point}
 use Rattle.nfd_points.specs.Points.{byte_len, points_from, shifted, is_reorderable, is_in_order, begins_with_starter}
 use Rattle.nfd_points.specs.Laws.{PointsOfParts, PointsAreShifted}
@@ -21,9 +21,8 @@ use Rattle.collation_letters.specs.declared.letter.Letter.{Letter}
 use Rattle.collation_letters.specs.declared.letter.Role.{Role}
 use Rattle.collation_letters.specs.declared.letter.Role.TheVariants.{Steps, Plain, Base, VariableBase, Silent, PrimaryMark, Mark}
 use Rattle.collation_letters.specs.Symbols.{AreLastSymbols, listed}
-use Rattle.collation_letters.specs.Letters.{begins_cluster, is_mark, flag_after, counted, here, keys_alone, AreApart, AreClosed, IsPossible, HaveItems, IsKnown, IsLetter}
+use Rattle.collation_letters.specs.Letters.{begins_cluster, is_mark, flag_after, counted, here, keys_alone, AreClosed, IsPossible, HaveItems, IsKnown, IsLetter}
 use Rattle.collation_letters.specs.Joining.{Joins}
-use Rattle.collation_letters.proofs.LetterApart.{BeforeLaw}
 use Rattle.collation_letters.proofs.LetterLemmas.{have-keys, letter-at}
 
 pub is_so : (b : Bool) → not b ≡ false → b ≡ true
@@ -138,39 +137,19 @@ possible-after table v after flag us possible is = λ plain.
 
 -- ---- both
 
--- no unit reaches from points to those, so many bytes on, of a character that follows, wherever they stand
-abbrev EndBefore : TableMap → List Point → List Point → ℕ → Type 0
-EndBefore table ps qs k =
-    (start : ℕ) (more : List Point) → units table (here start ps ++ (here (start + k) qs ++ more)) ≡ units table (here start ps) ++ units table (here (start + k) qs ++ more)
-
-end-before : BeforeLaw → (table : TableMap) (ps qs : List Point) (k : ℕ) → length qs ≡ 1 → (AreClosed table ps ⊎ AreApart table qs) → EndBefore table ps qs k
-end-before law table ps qs k one which = λ start more. elim which [
-  | inl closed ↦ closed start (here (start + k) qs ++ more)
-  | inr apart ↦
-      let p = only-one qs one in
-      let first = apart p.q (ap (λ (l : List Point). slice_get l 0) p.is) in
-      subst (λ (l : List Point). units table (here start ps ++ (here (start + k) l ++ more)) ≡ units table (here start ps) ++ units table (here (start + k) l ++ more)) (sym p.is)
-      (law table (here start ps) (shifted (start + k) p.q) more first.0 first.1)
-]
-
-ends-here : (table : TableMap) (ps qs : List Point) (k : ℕ) → EndBefore table ps qs k → (start : ℕ) →
-    units table (here start ps ++ here (start + k) qs) ≡ units table (here start ps) ++ units table (here (start + k) qs)
-ends-here table ps qs k ends start =
-    subst (λ (l : List Point). units table (here start ps ++ l) ≡ units table (here start ps) ++ units table l) (append-nil (here (start + k) qs)) (ends start [])
-
-closed-both : (table : TableMap) (ps qs : List Point) (k : ℕ) → EndBefore table ps qs k → AreClosed table qs → AreClosed table (ps ++ here k qs)
+closed-both : (table : TableMap) (ps qs : List Point) (k : ℕ) → AreClosed table ps → AreClosed table qs → AreClosed table (ps ++ here k qs)
 closed-both table ps qs k first second = λ start more.
     let U = units table in
     let A = here start ps in
     let Q = here (start + k) qs in
     let same = here-two start k ps qs in
-    ap (λ (l : List Point). U (l ++ more)) same ∙ ap U (append_assoc A Q more) ∙ first start more ∙ ap (λ (l : List (List Point)). U A ++ l) (second (start + k) more)
-    ∙ sym (append_assoc (U A) (U Q) (U more)) ∙ ap (λ (l : List (List Point)). l ++ U more) (sym (ends-here table ps qs k first start)) ∙ ap (λ (l : List Point). U l ++ U more) (sym same)
+    ap (λ (l : List Point). U (l ++ more)) same ∙ ap U (append_assoc A Q more) ∙ first start (Q ++ more) ∙ ap (λ (l : List (List Point)). U A ++ l) (second (start + k) more)
+    ∙ sym (append_assoc (U A) (U Q) (U more)) ∙ ap (λ (l : List (List Point)). l ++ U more) (sym (first start Q)) ∙ ap (λ (l : List Point). U l ++ U more) (sym same)
 
-items-both : (table : TableMap) (pattern : Compiled) (ps qs : List Point) (k : ℕ) (a m both : Letter) (after : Bool) → EndBefore table ps qs k → IsPossible pattern.variable after →
+items-both : (table : TableMap) (pattern : Compiled) (ps qs : List Point) (k : ℕ) (a m both : Letter) (after : Bool) → AreClosed table ps → IsPossible pattern.variable after →
     IsKnown table pattern ps a → IsKnown table pattern qs m → Joins a m (both.role, both.symbols) →
     HaveItems table pattern (ps ++ here k qs) after (begins_cluster both.role) (counted both.role after (listed both.symbols)) (flag_after both.role after)
-items-both table pattern ps qs k a m both after ends possible ka km j =
+items-both table pattern ps qs k a m both after closed possible ka km j =
     let U = units table in
     let s = pattern.strength in
     let v = pattern.variable in
@@ -179,7 +158,7 @@ items-both table pattern ps qs k a m both after ends possible ka km j =
     let flag = flag_after a.role after in
     let ha = ka.items after possible in
     let hm = km.items flag (possible-after table v after flag (A 0) possible (ha.flag_is 0)) in
-    let cut : (start : ℕ) → U (here start (ps ++ here k qs)) ≡ A start ++ Q start = λ start. ap U (here-two start k ps qs) ∙ ends-here table ps qs k ends start in
+    let cut : (start : ℕ) → U (here start (ps ++ here k qs)) ≡ A start ++ Q start = λ start. ap U (here-two start k ps qs) ∙ closed start (here (start + k) qs) in
     let E : List Key → List Item = λ ks. map (λ key. Element key) ks in
     let first = keys_alone table pattern ps after in
     let later = keys_alone table pattern qs flag in
@@ -198,9 +177,9 @@ items-both table pattern ps qs k a m both after ends possible ka km j =
     (j.symbols pattern.keys first later after
     (subst (λ l. AreLastSymbols pattern.keys first l) (base-counted a.role after (listed a.symbols) j.base_begins) ha.symbols_are) hm.symbols_are))
 
-known-both : (table : TableMap) (pattern : Compiled) (ps qs : List Point) (k : ℕ) (a m both : Letter) → EndBefore table ps qs k → (m.class ≡ 0 ⊎ a.class ≤ m.class) → both.class ≡ m.class → both.points ≡ a.points + 1 → both.points ≤ MOST_POINTS →
+known-both : (table : TableMap) (pattern : Compiled) (ps qs : List Point) (k : ℕ) (a m both : Letter) → AreClosed table ps → (m.class ≡ 0 ⊎ a.class ≤ m.class) → both.class ≡ m.class → both.points ≡ a.points + 1 → both.points ≤ MOST_POINTS →
     IsKnown table pattern ps a → IsKnown table pattern qs m → Joins a m (both.role, both.symbols) → IsKnown table pattern (ps ++ here k qs) both
-known-both table pattern ps qs k a m both ends stays class points most ka km j =
+known-both table pattern ps qs k a m both closed stays class points most ka km j =
     let one = only-one qs (km.one j.mark_joins) in
     let q = shifted k one.q in
     let all : ps ++ here k qs ≡ ps ++ q ∷ [] = ap (λ (l : List Point). ps ++ here k l) one.is in
@@ -219,13 +198,13 @@ known-both table pattern ps qs k a m both ends stays class points most ka km j =
       class = λ before last is. class ∙ of_mark ∙ ap (λ (p : Point). p.ccc) (same_from_push ps before q last (sym all ∙ is)).1;
       starter = λ no. begins-more ps (here k qs) ka.some ∙ ka.starter (base-not_mark a.role j.base_begins);
       one = λ yes. absurd (false≢true (sym none ∙ yes));
-      items = λ after possible. items-both table pattern ps qs k a m both after ends possible ka km j;
+      items = λ after possible. items-both table pattern ps qs k a m both after closed possible ka km j;
     }
 
-pub letter-both : PointsOfParts → PointsAreShifted → BeforeLaw → (table : TableMap) (pattern : Compiled) (cs : List ℕ) (c : ℕ) (a m both : Letter) → (a.is_closed ≡ true ⊎ m.is_apart ≡ true) → m.is_closed ≡ true → (m.class ≡ 0 ⊎ a.class ≤ m.class) →
+pub letter-both : PointsOfParts → PointsAreShifted → (table : TableMap) (pattern : Compiled) (cs : List ℕ) (c : ℕ) (a m both : Letter) → a.is_closed ≡ true → m.is_closed ≡ true → (m.class ≡ 0 ⊎ a.class ≤ m.class) →
     both.is_apart ≡ a.is_apart → both.class ≡ m.class → both.points ≡ a.points + 1 → both.points ≤ MOST_POINTS → both.role ≢ Plain → Joins a m (both.role, both.symbols) →
     IsLetter table pattern cs a → IsLetter table pattern (c ∷ []) m → IsLetter table pattern (cs ++ c ∷ []) both
-letter-both parts shift before table pattern cs c a m both which closed_mark stays apart class points most other j ha hm =
+letter-both parts shift table pattern cs c a m both closed_base closed_mark stays apart class points most other j ha hm =
     let ps = points_from 0 cs in
     let qs = points_from 0 (c ∷ []) in
     let k = byte_len cs in
@@ -234,11 +213,8 @@ letter-both parts shift before table pattern cs c a m both which closed_mark sta
     parts 0 cs (c ∷ []) ∙ ap (λ (l : List Point). ps ++ l) (ap (λ i. points_from i (c ∷ [])) there ∙ shift k 0 (c ∷ [])) in
     let ka = ha.known (base-known a.role j.base_begins) in
     let km = hm.known (mark-known m.role j.mark_joins) in
-    let ends = end-before before table ps qs k (km.one j.mark_joins) (elim which [
-      | inl closed ↦ inl (ha.closed closed)
-      | inr alone ↦ inr (hm.apart alone)
-    ]) in
+    let closed = ha.closed closed_base in
     letter-at table pattern (cs ++ c ∷ []) (ps ++ here k qs) both (sym same) other
-    (λ yes. closed-both table ps qs k ends (hm.closed closed_mark))
+    (λ yes. closed-both table ps qs k closed (hm.closed closed_mark))
     (λ yes. λ x is. ha.apart (sym apart ∙ yes) x (sym (first-more ps (here k qs) ka.some) ∙ is))
-    (λ some. known-both table pattern ps qs k a m both ends stays class points most ka km j)
+    (λ some. known-both table pattern ps qs k a m both closed stays class points most ka km j)

@@ -5,7 +5,6 @@ ghost use Rattle.collation_letters.specs.Joining.{Joins};
 
 use crate::letter::{Letter, Role};
 use crate::symbols::Symbols;
-use collation_elements::units_stay_apart;
 use nfd_points::laws::laws_of_points;
 
 /// The most points of a letter: so many non-starters in a row are no fault.
@@ -28,8 +27,7 @@ impl Letter {
             → IsLetter table pattern (cs ++ c ∷ []) both) }
     {
         laws_of_points();
-        units_stay_apart();
-        if (!self.is_closed && !mark.is_apart)
+        if !self.is_closed
             || !mark.is_closed
             || (mark.class != 0 && mark.class < self.class)
             || self.points >= MOST_POINTS

@@ -3,12 +3,15 @@ use Rattle.std.proofs.Common.{◌≡◌, ◌⊎◌, ℕ, ◌<◌, ◌≤◌, Boo
 use Rattle.std.proofs.lemmas.Bool.{cases_Bool, false≢true, false_from_ne_true, and_parts, and_from, and_right, or_left, or_right, eq-eqb, eqb-true}
 use Rattle.std.proofs.lemmas.Slice.Eq.{bytes_eq-Decides}
 use Rattle.std.specs.List.{list_all, list_any}
+use Rattle.nfd_points.specs.declared.points.Point.{Point}
+use Rattle.nfd_points.specs.Points.{points_of, is_starter}
 use Rattle.collation_table.specs.declared.elements.Element.{Element}
-use Rattle.collation_table.specs.Table.{TableMap, BeginsNoLongerString, ContinuesNoString, row_with, row_of, is_mapped, implicit_pair, longest_mapped}
+use Rattle.collation_table.specs.Table.{TableMap, BeginsNoLongerString, ContinuesNoString, row_with, row_of, is_mapped, implicit_pair, longest_mapped, stands_alone}
 use Rattle.collation_elements.specs.Elements.{begins_primary}
 use Rattle.collation_elements.proofs.Longest.{length_mapped}
 use Rattle.collation_matches.proofs.BridgeLists.{In, in_right, any_in, in_any}
-use Rattle.collation_safe.specs.Safe.{strings, is_behind_first, begins_with, is_primary, alone, is_safe_code_point}
+use Rattle.collation_table.proofs.AloneLemmas.{alone-begins, alone-continues, alone-from}
+use Rattle.collation_safe.specs.Safe.{strings, is_behind_first, begins_with, is_primary, alone, is_safe_code_point, is_safe_alone_code_point, begins_safely, begins_safely_alone, is_safe_character, is_safe_alone, IsSafeOffset, IsSafeAloneOffset}
 
 abbrev Rows : Type 0
 Rows = List (List ℕ × List Element)
@@ -150,10 +153,6 @@ module _ (T : TableMap) (cp : ℕ) where
           | inr none ↦ and_right (not behind && all_primary) (begins_primary (alone T cp)) none ∙ sym none
         ]
 
-    -- so it is known by its row, or by its implicit weights
-    pub safe-known : (o : Option (List Element)) → o ≡ row_of T (cp ∷ []) → (b : Bool) → b ≡ begins_primary (unwrap_or o (implicit_pair T cp)) → b ≡ is_safe_code_point T cp
-    safe-known o row b is = is ∙ ap (λ r. begins_primary (unwrap_or r (implicit_pair T cp))) row ∙ sym safe-lone
-
 -- ---- tables without mapped strings of two or more
 
 longer-unmapped : (T : TableMap) (string : List ℕ) → longest_mapped T ≤ 1 → 2 ≤ length string → is_mapped T string ≡ false
@@ -165,3 +164,38 @@ begins-none T cp short next rest = longer-unmapped T (cp ∷ next ∷ rest) shor
 pub continues-none : (T : TableMap) (cp : ℕ) → longest_mapped T ≤ 1 → ContinuesNoString T cp
 continues-none T cp short first prefix rest =
     longer-unmapped T (first ∷ (prefix ++ cp ∷ rest)) short (omega (arith, length-append prefix (cp ∷ rest)))
+
+-- ---- in no contraction
+
+pub alone-safe : (T : TableMap) (cp : ℕ) → is_safe_alone_code_point T cp ≡ true → is_safe_code_point T cp ≡ true
+alone-safe T cp h =
+    let parts = and_parts (stands_alone T cp) (begins_primary (alone T cp)) h in
+    safe-lone T cp (alone-begins T cp parts.0) (alone-continues T cp parts.0) ∙ parts.1
+
+pub alone-known : (T : TableMap) (cp : ℕ) → longest_mapped T ≤ 1 → is_safe_alone_code_point T cp ≡ is_safe_code_point T cp
+alone-known T cp short =
+    let begins = begins-none T cp short in
+    let continues = continues-none T cp short in
+    ap (λ b. b && begins_primary (alone T cp)) (alone-from T cp begins continues) ∙ sym (safe-lone T cp begins continues)
+
+character-safe : (T : TableMap) (ps : List Point) → begins_safely_alone T ps ≡ true → begins_safely T ps ≡ true
+character-safe T [] h = h
+character-safe T (p ∷ ps) h =
+    let parts = and_parts (is_starter p) (is_safe_alone_code_point T p.cp) h in
+    and_from (is_starter p) (is_safe_code_point T p.cp) parts.0 (alone-safe T p.cp parts.1)
+
+character-known : (T : TableMap) (ps : List Point) → longest_mapped T ≤ 1 → begins_safely_alone T ps ≡ begins_safely T ps
+character-known T [] short = refl
+character-known T (p ∷ ps) short = ap (λ b. is_starter p && b) (alone-known T p.cp short)
+
+pub is_alone-safe : (T : TableMap) (c : ℕ) → is_safe_alone T c ≡ true → is_safe_character T c ≡ true
+is_alone-safe T c h = character-safe T (points_of 0 c) h
+
+pub is_alone-known : (T : TableMap) (c : ℕ) → longest_mapped T ≤ 1 → is_safe_alone T c ≡ is_safe_character T c
+is_alone-known T c short = character-known T (points_of 0 c) short
+
+pub offset-safe : (T : TableMap) (bytes : List ℕ) (at : ℕ) → IsSafeAloneOffset T bytes at → IsSafeOffset T bytes at
+offset-safe T bytes at o = record { character = o.character; whole = o.whole; safe = is_alone-safe T o.character o.safe }
+
+pub offset-known : (T : TableMap) (bytes : List ℕ) (at : ℕ) → longest_mapped T ≤ 1 → IsSafeOffset T bytes at → IsSafeAloneOffset T bytes at
+offset-known T bytes at short o = record { character = o.character; whole = o.whole; safe = is_alone-known T o.character short ∙ o.safe }

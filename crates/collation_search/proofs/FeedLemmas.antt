@@ -226,7 +226,7 @@ module _ {W : Type 0} {G : Ghosts W} where
     left = left;
   }
 
-  taken-from : (search : Search W G) (place : ℕ) (u : List ℕ) (handed : List (ℕ × ℕ)) → HasSearched search u handed → HasTaken search place u handed
+  pub taken-from : (search : Search W G) (place : ℕ) (u : List ℕ) (handed : List (ℕ × ℕ)) → HasSearched search u handed → HasTaken search place u handed
   taken-from search place u handed h = record {
     cut_stands = h.cut_stands;
     found = h.found;

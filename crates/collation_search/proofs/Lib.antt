@@ -17,3 +17,5 @@ pub mod CharactersTaken
 pub mod StarterCounts
 pub mod TextSeams
 pub mod StateLemmas
+pub mod LaterRanges
+pub mod ToComeLemmas

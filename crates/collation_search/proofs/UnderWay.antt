@@ -1,4 +1,4 @@
--- The words of a search that is under way are those of the state after its bytes, and so is the number of their records.
+-- The state of a search that is under way is that after its bytes; so are its words, and the number of their records.
 use Rattle.std.specs.Borrow.{Bor}
 use Rattle.std.proofs.Common.{◌≡◌, ◌∙◌, ℕ, ◌+◌, ◌*◌, ◌<◌, max, List, [], ◌∷◌, ◌++◌, length, take, get_or, refl, sym, ap, subst, inl, inr, arith, append_assoc}
 use Rattle.std.proofs.lemmas.List.{append-nil, take_more}
@@ -20,29 +20,34 @@ use Rattle.collation_search.proofs.PieceLemmas.{joined-more}
 use Rattle.collation_search.proofs.StateLemmas.{StateLaws, reported-known, fault-known, state-known}
 
 module _ {W : Type 0} {G : Ghosts W} where
-  -- what it has handed out and its words
+  -- what it has handed out, its state and its words
   pub record IsKnown (search : Search W G) (s : Sought) (u : List ℕ) (handed : List (ℕ × ℕ)) : Type 0 where
     pub handed_is : handed ≡ reported_after s u
+    pub state_is : state_of search.query.pattern.now search.cut search.finder.value search.fault ≡ state_after s u
     pub words_are : words_of search ≡ words (sizes_of s) (state_after s u)
 
   known-open : StateLaws → (search : Search W G) (u : List ℕ) (handed : List (ℕ × ℕ)) → HasSearched search u handed → IsKnown search (sought search) u handed
   known-open laws search u handed h =
       let s = sought search in
       let none = fault-known laws s search.cut search.finder.value search.fault u handed h refl in
+      let state : state_of s.pattern search.cut search.finder.value search.fault ≡ state_after s u =
+      ap (state_of s.pattern search.cut search.finder.value) h.no_fault ∙ state-known laws s search.cut search.finder.value search.fault u handed h refl ∙ ap (state_at s u) none in
       record {
         handed_is = reported-known laws s search.cut search.finder.value search.fault u handed h refl;
-        words_are = ap (words (sizes_of s))
-            (ap (state_of s.pattern search.cut search.finder.value) h.no_fault ∙ state-known laws s search.cut search.finder.value search.fault u handed h refl ∙ ap (state_at s u) none);
+        state_is = state;
+        words_are = ap (words (sizes_of s)) state;
       }
 
   known-ended : (search : Search W G) (u : List ℕ) (handed : List (ℕ × ℕ)) (fault : TextFault) → HasEnded search (sought search) u handed fault → IsKnown search (sought search) u handed
   known-ended search u handed fault h =
       let s = sought search in
       let here = h.known [] in
+      let state : state_of s.pattern search.cut search.finder.value search.fault ≡ state_after s u =
+      ap (state_of s.pattern search.cut search.finder.value) h.reported ∙ ap (state_at s u) (here.1 ∙ ap fault_so_far (append-nil u)) in
       record {
         handed_is = here.0 ∙ ap (reported_after s) (append-nil u);
-        words_are = ap (words (sizes_of s))
-            (ap (state_of s.pattern search.cut search.finder.value) h.reported ∙ ap (state_at s u) (here.1 ∙ ap fault_so_far (append-nil u)));
+        state_is = state;
+        words_are = ap (words (sizes_of s)) state;
       }
 
   known-at : StateLaws → (search : Search W G) (u : List ℕ) (handed : List (ℕ × ℕ)) → IsUnderWay search (sought search) u handed → IsKnown search (sought search) u handed

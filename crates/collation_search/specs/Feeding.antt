@@ -43,6 +43,12 @@ pub record Feeds {W : Type 0} {G : Ghosts W} (old : Search W G) (piece : List �
 abbrev pub MayCut : {W : Type 0} {G : Ghosts W} → Search W G → ℕ → ℕ → List ℕ → List (ℕ × ℕ) → Type 0
 MayCut {W} {G} search reach place taken handed = (0 < reach → length taken + reach ≤ place) × HasTaken search place taken handed
 
+-- Whatever bytes follow, the ranges that were handed out begin those of the answer.
+abbrev pub BeginsAnswers : {W : Type 0} {G : Ghosts W} → Search W G → Type 0
+BeginsAnswers {W} {G} search =
+    (place : ℕ) (text taken later : List ℕ) (handed : List (ℕ × ℕ)) → IsCompiledFrom (sought search) text → HasTaken search place taken handed →
+    (rest : List (ℕ × ℕ)) × ((answer_to (sought search) text (taken ++ later)).ranges ≡ handed ++ rest)
+
 -- The same of a part of a piece, of whose characters units may be cut early, up to `reach` bytes from its beginning on.
 pub record Takes {W : Type 0} {G : Ghosts W} (old : Search W G) (reach : ℕ) (piece : List ℕ) (result : Result (Unit {0}) TextFault) (found : List (ℕ × ℕ)) (new : Search W G) : Type 0 where
   pub stands : (place : ℕ) (u : List ℕ) (handed : List (ℕ × ℕ)) → MayCut old reach place u handed → OnOk result (HasTaken new place (u ++ piece) (handed ++ found))

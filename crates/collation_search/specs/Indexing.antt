@@ -14,6 +14,12 @@ range_or_fault None None = Ok None
 abbrev pub first_range : List (ℕ × ℕ) → Option TextFault → Result (Option (ℕ × ℕ)) TextFault
 first_range ranges fault = range_or_fault (slice_get ranges 0) fault
 
+-- this is the first range of the answer, or its fault; or neither is known so far
+abbrev pub IsFirstSoFar : Answer → Result (Option (ℕ × ℕ)) TextFault → Type 0
+IsFirstSoFar a (Ok None) = Unit {0}
+IsFirstSoFar a (Ok (Some range)) = Ok (Some range) ≡ first_range a.ranges a.fault
+IsFirstSoFar a (Err fault) = Err fault ≡ first_range a.ranges a.fault
+
 abbrev pub no_memory : TextFault
 no_memory = record { kind = 36; offset = 0 }
 

@@ -10,3 +10,4 @@ pub mod Pieces
 pub mod Saving
 pub mod WorkedStatesAfter
 pub mod Parking
+pub mod ToCome

@@ -123,7 +123,7 @@ impl<'a, W: Weights> Search<'a, W> {
             return Err(fault);
         }
         let reach = self.reach(piece);
-        let mut at = self.take_letters(piece, reach, found, sink);
+        let mut at = self.take_letters(piece, reach, false, found, sink);
         while at < piece.len() {
             match self.step_on(piece[at], found) {
                 Ok(()) => hand_out(found.as_slice(), sink),
@@ -133,13 +133,13 @@ impl<'a, W: Weights> Search<'a, W> {
                 }
             }
             at += 1;
-            at += self.take_letters(&piece[at..], reach.saturating_sub(at), found, sink);
+            at += self.take_letters(&piece[at..], reach.saturating_sub(at), false, found, sink);
         }
         Ok(())
     }
 
     /// How far letters of a piece are taken, in bytes: nowhere where the piece goes by steps alone.
-    fn reach(&mut self, piece: &[u8]) -> usize
+    pub(crate) fn reach(&mut self, piece: &[u8]) -> usize
         requires none { self.old.fault ≡ None }
         ensures taken { Takes self.old 0 [] (Ok tt) [] self.new }
         ensures enough { (u : List ℕ) → is_good_so_far (u ++ piece.now) ≡ true → 0 < result
@@ -157,11 +157,13 @@ impl<'a, W: Weights> Search<'a, W> {
     }
 
     /// Takes the letters at the front of a piece that can be taken, up to `reach`, and ASCII behind it, and calls the sink once for each
-    /// range that became known, in order. It answers how many bytes it took. `found` is room that it uses.
-    fn take_letters<F: FnMut(u64, u64)>(
+    /// range that became known, in order. It answers how many bytes it took, few or none behind the first range that a letter hands out
+    /// where `one_range` says so. `found` is room that it uses.
+    pub(crate) fn take_letters<F: FnMut(u64, u64)>(
         &mut self,
         piece: &[u8],
         reach: usize,
+        one_range: bool,
         found: &mut Found,
         sink: &mut F,
     ) -> usize
@@ -182,6 +184,7 @@ impl<'a, W: Weights> Search<'a, W> {
             piece,
             offset: count,
             reach,
+            one_range,
         };
         let len = self
             .finder

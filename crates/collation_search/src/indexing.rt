@@ -8,15 +8,18 @@ ghost use Rattle.collation_matches.specs.Sought.{IsCompiledFrom, answer_to, seek
 ghost use Rattle.collation_matches.specs.Offsets.{answer_from};
 
 use crate::search::Search;
-use collation_matches::TextFault;
+use collation_elements::decided_units_stay;
+use collation_matches::{TextFault, matches_by_clusters};
 use collation_pattern::Pattern;
 use collation_table::Weights;
 use collation_walk::Found;
+use nfd_points::laws::{laws_of_decompositions, laws_of_faults, laws_of_reordering};
 use std::alloc::Global;
 use utf8_cut::whole_characters_are_the_longest_text;
 
-/// How many bytes of a text are taken first, so that not much is read behind a range at its beginning, and at most.
-const FIRST_PIECE: usize = 64;
+/// How many bytes of a text are taken first, and at most. A text of up to so many is one piece, for the end of each piece goes by steps;
+/// more of a long one would be looked over in vain where a range or a fault stands at its beginning.
+const FIRST_PIECE: usize = 256;
 
 const LONGEST_PIECE: usize = 4_096;
 
@@ -109,12 +112,11 @@ pub fn index_from<W: Weights>(
 }
 
 impl<'a, W: Weights> Search<'a, W> {
-    ghost use Rattle.std.specs.Prelude.{◌≡◌, ℕ, ◌∷◌, List, [], ◌++◌, slice_get, Result};
-    ghost use Rattle.collation_matches.specs.declared.faults.TextFault.{TextFault};
+    ghost use Rattle.std.specs.Prelude.{◌≡◌, ℕ, ◌≤◌, ◌∷◌, List, [], ◌++◌, length, take, slice_get, None, Ok};
     ghost use Rattle.collation_matches.specs.Sought.{IsCompiledFrom, answer_to};
     ghost use Rattle.collation_matches.specs.Offsets.{answer_from};
-    ghost use Rattle.collation_search.specs.Feeding.{Feeds, fault_of};
-    ghost use Rattle.collation_search.specs.Indexing.{first_range};
+    ghost use Rattle.collation_search.specs.Feeding.{BeginsAnswers, Takes};
+    ghost use Rattle.collation_search.specs.Indexing.{first_range, IsFirstSoFar};
     ghost use Rattle.collation_search.specs.Search.{HasSearched, sought};
 
     /// Prepares for one text alone: of a short one little is found out that serves no other text.
@@ -187,10 +189,7 @@ impl<'a, W: Weights> Search<'a, W> {
             let (piece, later) = rest.split_at(len.min(rest.len()));
             match self.feed_first(piece, &mut found) {
                 Ok(None) => {}
-                Ok(Some(range)) => {
-                    self.has_handed_out();
-                    return Ok(Some(range));
-                }
+                Ok(Some(range)) => return Ok(Some(range)),
                 Err(fault) => return Err(fault),
             }
             rest = later;
@@ -200,8 +199,8 @@ impl<'a, W: Weights> Search<'a, W> {
         range_or_fault(found.as_slice().first().copied(), ended)
     }
 
-    /// Takes a piece of the text: the first range that became known, if one did, though a fault may stand after it. `room` is room
-    /// that it uses.
+    /// Takes a piece of the text, or what of it stands before the first range that became known: that range, if there is one, though a
+    /// fault may stand after it. `room` is room that it uses.
     ///
     /// # Errors
     ///
@@ -211,13 +210,65 @@ impl<'a, W: Weights> Search<'a, W> {
         piece: &[u8],
         room: &mut Found,
     ) -> Result<Option<(u64, u64)>, TextFault>
-        ensures fed { (found : List (ℕ × ℕ)) × (answer : Result (Unit {0}) TextFault)
-            × Feeds self.old piece.now answer found self.new
-            × (result ≡ first_range found (fault_of answer)) }
+        requires none { self.old.fault ≡ None }
+        ensures first { (p u later : List ℕ) → IsCompiledFrom (sought self.old) p
+            → HasSearched self.old u []
+            → IsFirstSoFar (answer_to (sought self.old) p ((u ++ piece.now) ++ later)) result }
+        ensures none { (u : List ℕ) → HasSearched self.old u [] → result ≡ Ok None
+            → HasSearched self.new (u ++ piece.now) [] }
+        ensures sought { sought self.new ≡ sought self.old }
+    {
+        decided_units_stay();
+        laws_of_decompositions();
+        laws_of_reordering();
+        let reach = self.reach(piece);
+        let mut at = 0;
+        'parts: loop {
+            let here = reach.saturating_sub(at);
+            let (len, first) = self.letters_to_first(&piece[at..], here, room);
+            at += len;
+            match first {
+                None => {}
+                Some(range) => {
+                    self.has_handed_out_within();
+                    return Ok(Some(range));
+                }
+            }
+            if at == piece.len() {
+                return Ok(None);
+            }
+            let stepped = self.step_on(piece[at], room);
+            at += 1;
+            match range_or_fault(room.as_slice().first().copied(), stepped) {
+                Ok(None) => {}
+                Ok(Some(range)) => {
+                    self.has_handed_out_within();
+                    return Ok(Some(range));
+                }
+                Err(fault) => return Err(fault),
+            }
+        }
+    }
+
+    /// Takes letters at the front of a piece, as [`Search::take_letters`] does, up to the first range: how many bytes, and that range, if
+    /// one became known.
+    fn letters_to_first(
+        &mut self,
+        piece: &[u8],
+        reach: usize,
+        room: &mut Found,
+    ) -> (usize, Option<(u64, u64)>)
+        requires none { self.old.fault ≡ None }
+        ensures within { result.0 ≤ length piece.now }
+        ensures taken { (ranges : List (ℕ × ℕ))
+            × Takes self.old reach (take result.0 piece.now) (Ok tt) ranges self.new
+            × (result.1 ≡ slice_get ranges 0) }
     {
         let mut first = None;
-        let fed = self.feed_with(
+        let len = self.take_letters(
             piece,
+            reach,
+            true,
             room,
             &mut |start, end|
                 ensures kept { (items : List (ℕ × ℕ)) → first.entry ≡ slice_get items 0
@@ -228,7 +279,16 @@ impl<'a, W: Weights> Search<'a, W> {
                 }
             },
         );
-        range_or_fault(first, fed)
+        (len, first)
+    }
+
+    /// What the ranges handed out so far within a piece are of the answer: whatever bytes follow, they begin its list.
+    fn has_handed_out_within(&self)
+        ensures { BeginsAnswers self.now }
+    {
+        matches_by_clusters(self.query.table);
+        whole_characters_are_the_longest_text();
+        laws_of_faults();
     }
 }
 

@@ -21,12 +21,14 @@ mod pieces;
 mod resuming;
 mod saving;
 mod search;
+mod to_come;
 pub mod worked;
 
 pub use crate::indexing::{index, index_from};
 pub use crate::parking::Parked;
 pub use crate::pieces::{PiecesSearched, search_in_pieces};
 pub use crate::search::{MOST_BYTES, Search};
+pub use crate::to_come::ToCome;
 pub use collation_matches::{Select, TextFault};
 pub use collation_states::{StateFault, worked_states};
 pub use collation_walk::{Found, MOST_FOUND};

@@ -8,10 +8,10 @@ use collation_pattern::Pattern;
 use collation_table::Weights;
 
 /// The fewest bytes of a short text by which a place is chosen.
-const SHORTEST: usize = 33;
+const SHORTEST_TO_CHOOSE_BY: usize = 33;
 
 /// How many bytes at the front of a text are ASCII where a place is chosen by it: of other scripts few blocks pass.
-const FRONT: usize = 16;
+const ASCII_FRONT: usize = 16;
 
 /// The most bytes of one text alone for which no place is chosen.
 const LONGEST_WITHOUT_PLACE: usize = 6_000;
@@ -121,14 +121,14 @@ impl AsciiBlocks {
 
     /// Whether a place is chosen by a text of so many bytes: a long one, or where as many came in short ones.
     fn is_due(&self, len: usize) -> bool {
-        len >= SAMPLE || (self.seen >= SAMPLE && len >= SHORTEST)
+        len >= SAMPLE || (self.seen >= SAMPLE && len >= SHORTEST_TO_CHOOSE_BY)
     }
 }
 
 /// Whether a text is ASCII at its front.
 #[inline(always)]
 fn begins_with_ascii(text: &[u8]) -> bool {
-    text[..text.len().min(FRONT)].is_ascii()
+    text[..text.len().min(ASCII_FRONT)].is_ascii()
 }
 
 /// The fewest bytes of a text that is looked at for a choice, behind the choice by a text of so many.

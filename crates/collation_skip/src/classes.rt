@@ -13,7 +13,7 @@ use collation_pattern::Pattern;
 use collation_table::Weights;
 
 /// How many places of a pattern are tried.
-const MOST_PLACES: usize = 16;
+const MOST_ASCII_PLACES: usize = 16;
 
 /// How many bytes of a text a place is tried on.
 pub(crate) const SAMPLE: usize = 1_024;
@@ -47,7 +47,7 @@ pub(crate) fn classes_for<W: Weights>(
     if count == 0 {
         return None;
     }
-    let places = (count - 1).min(MOST_PLACES);
+    let places = (count - 1).min(MOST_ASCII_PLACES);
     let mut best = classes_at(table, pattern, letters, 0);
     let mut fewest = stops(&best, text);
     for place in 1..places {

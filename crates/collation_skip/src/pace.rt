@@ -9,16 +9,16 @@ pub(crate) const WORTH_BLOCKS: usize = 32;
 const WORTH_MOVES: usize = 24;
 
 /// How far the automaton goes at once where blocks pay: over what stopped them, in bytes.
-const SHORT: usize = 64;
+const SHORT_TURN: usize = 64;
 
-/// How far it goes there once it was not asked `MANY` times in a row: of what it goes over, it leaves the last bytes, in which a match
-/// may begin, and of a long record these are many.
-const LONG: usize = 128;
+/// How far it goes there once it was not asked `MANY_REFUSALS` times in a row: of what it goes over, it leaves the last bytes, in which
+/// a match may begin, and of a long record these are many.
+const LONG_TURN: usize = 128;
 
-const MANY: u32 = 31;
+const MANY_REFUSALS: u32 = 31;
 
 /// How many bytes are much, when it is seen whether the automaton comes to their end, and how many may be left then.
-const MUCH: usize = 512;
+const MUCH_ASKED: usize = 512;
 
 const LITTLE: usize = 64;
 
@@ -36,7 +36,7 @@ const TEXTS: usize = 64;
 const FEWEST_EACH: usize = 96;
 
 /// In how many bytes a character of two bytes is looked for, which tells that the next one will be met soon.
-const NEAR: usize = 256;
+const TWO_BYTES_WITHIN: usize = 256;
 
 /// What the ways passed by until now, as far as it decides which of them is asked.
 #[derive(Clone, Copy, Debug)]
@@ -65,7 +65,7 @@ impl Pace {
     pub(crate) fn new() -> Pace {
         Pace {
             blocks_pay: false,
-            short: SHORT,
+            short: SHORT_TURN,
             is_calm: false,
             rest: 0,
             last_rest: 0,
@@ -122,19 +122,19 @@ impl Pace {
     }
 
     /// The automaton passed by so many bytes of those that it was asked, and blocks by so many. Where that was not worth while, it is not
-    /// asked one time, then 3, 7, and so on. Where it passed no more than blocks did, that says nothing. Once it goes `LONG`, it is
+    /// asked one time, then 3, 7, and so on. Where it passed no more than blocks did, that says nothing. Once it goes `LONG_TURN`, it is
     /// asked half as seldom each time that it is worth while.
     pub(crate) fn after_moves(&mut self, asked: usize, passed: usize, in_blocks: usize) {
-        if asked >= MUCH {
+        if asked >= MUCH_ASKED {
             self.is_calm = passed >= asked - LITTLE;
         }
         if passed < WORTH_MOVES {
             self.last_rest = next_rest(self.last_rest);
-            if self.last_rest >= MANY {
-                self.short = LONG;
+            if self.last_rest >= MANY_REFUSALS {
+                self.short = LONG_TURN;
             }
         } else if passed > in_blocks.max(self.least(asked)) {
-            self.last_rest = if self.short > SHORT {
+            self.last_rest = if self.short > SHORT_TURN {
                 self.last_rest / 2
             } else {
                 0
@@ -143,9 +143,9 @@ impl Pace {
         self.rest = self.last_rest;
     }
 
-    /// How many bytes have to pass, so that it was worth while to go `LONG`: half of them.
+    /// How many bytes have to pass, so that it was worth while to go `LONG_TURN`: half of them.
     fn least(&self, asked: usize) -> usize {
-        if self.short > SHORT && asked <= LONG {
+        if self.short > SHORT_TURN && asked <= LONG_TURN {
             asked / 2
         } else {
             0
@@ -180,7 +180,7 @@ impl Pace {
     /// Sets passed by this text, and that was worth while.
     #[inline(always)]
     pub(crate) fn after_text(&mut self, text: &[u8]) {
-        self.are_sets_first = !text[..text.len().min(NEAR)].is_ascii();
+        self.are_sets_first = !text[..text.len().min(TWO_BYTES_WITHIN)].is_ascii();
     }
 }
 

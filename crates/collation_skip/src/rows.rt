@@ -15,7 +15,7 @@ use collation_table::Weights;
 const MOST_STATES: usize = 1_000;
 
 /// How many places there are by which states are found, a power of two.
-const PLACES: usize = 2_048;
+const STATE_PLACES: usize = 2_048;
 
 /// A place where no number stands.
 const NOTHING: u32 = 0xFFFF_FFFF;
@@ -140,8 +140,8 @@ impl Automaton {
             (λ number. slice_get self.now.states.items number ≡ Some state.now)) }
     {
         let first = hash(state);
-        for probe in 0..PLACES {
-            let place = first.wrapping_add(probe) % PLACES;
+        for probe in 0..STATE_PLACES {
+            let place = first.wrapping_add(probe) % STATE_PLACES;
             let number = *self.places.get(place)?;
             if number == NOTHING {
                 return Some((place, None));
@@ -189,7 +189,7 @@ impl Automaton {
         if !self.places.is_empty() {
             return;
         }
-        if let Ok(places) = vec![in self.alloc; NOTHING; PLACES] {
+        if let Ok(places) = vec![in self.alloc; NOTHING; STATE_PLACES] {
             self.places = places;
         }
     }

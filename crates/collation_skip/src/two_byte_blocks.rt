@@ -14,7 +14,7 @@ use collation_table::Weights;
 use utf8_cut::sized_character;
 
 /// The most bytes that are passed at once: where the text can't be left behind them, they are looked at in vain.
-const MOST: usize = 8_192;
+const MOST_AT_ONCE: usize = 8_192;
 
 /// In how many bytes, the last of those that pass, a character is looked for behind which the text may be left.
 const WAY_BACK: usize = 512;
@@ -41,7 +41,11 @@ pub(crate) fn pass_two_bytes<W: Weights>(
     laws_of_symbols();
     units_stay_apart();
     weighers_go_on();
-    let len = going_len(&classes.sets, piece, piece.len().min(reach).min(MOST));
+    let len = going_len(
+        &classes.sets,
+        piece,
+        piece.len().min(reach).min(MOST_AT_ONCE),
+    );
     let Some(ending) = last_ending(table, pattern, letters, piece, len) else {
         *looked = len;
         return None;

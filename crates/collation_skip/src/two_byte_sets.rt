@@ -15,7 +15,7 @@ use collation_table::Weights;
 use utf8_cut::sized_character;
 
 /// How many places of a pattern are tried.
-const MOST_PLACES: usize = 8;
+const MOST_TWO_BYTE_PLACES: usize = 8;
 
 /// How many bytes of a text a place is tried on.
 pub(crate) const SAMPLE: usize = 1_024;
@@ -54,7 +54,7 @@ pub(crate) fn sets_for<W: Weights>(
     if count == 0 {
         return None;
     }
-    let places = (count - 1).min(MOST_PLACES);
+    let places = (count - 1).min(MOST_TWO_BYTE_PLACES);
     let mut best = sets_at(table, pattern, letters, &leads, 0);
     let mut fewest = halts(&best, text);
     for place in 1..places {

@@ -15,6 +15,7 @@ pub mod laws;
 mod read_state;
 mod reading;
 mod saving;
+mod setting_words;
 mod state_points;
 mod states;
 pub mod worked_states;

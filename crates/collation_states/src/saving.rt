@@ -1,10 +1,10 @@
 //! Appends the words of a state to a list.
 ghost use Rattle.std.specs.Prelude.{◌≡◌, ◌+◌, ◌++◌, ◌<◌, ◌≤◌, length, vec_len, vec_capacity, OnOk, OnErr};
-ghost use Rattle.collation_states.specs.State.{form_word, strength_word, variable_word, number_of, head_of, head_words, chain_record, point_words, place_record, point_record, reported};
+ghost use Rattle.collation_states.specs.State.{number_of, head_of, head_words, chain_record, point_words, place_record, point_record, reported};
 ghost use Rattle.collation_states.specs.Saving.{BeginsWith};
 
+use crate::setting_words::{word_of_select, word_of_strength, word_of_variable};
 use crate::states::{Head, Sizes};
-use collation_elements::{Strength, Variable};
 use collation_matches::{Select, TextFault};
 use nfd_points::Point;
 use std::alloc::AllocError;
@@ -75,37 +75,6 @@ pub fn reported_head(fault: TextFault) -> Head
         state: 0,
         window_len: 0,
         waiting_len: 0,
-    }
-}
-
-/// The form of the states of a search.
-pub(crate) fn word_of_select(select: Select) -> u64
-    ensures { result ≡ form_word select }
-{
-    match select {
-        Select::All => 1,
-        Select::Chain => 2,
-    }
-}
-
-/// A strength as a word.
-pub(crate) fn word_of_strength(strength: Strength) -> u64
-    ensures { result ≡ strength_word strength }
-{
-    match strength {
-        Strength::One => 1,
-        Strength::Two => 2,
-        Strength::Three => 3,
-    }
-}
-
-/// A variable weighting as a word.
-pub(crate) fn word_of_variable(variable: Variable) -> u64
-    ensures { result ≡ variable_word variable }
-{
-    match variable {
-        Variable::NonIgnorable => 0,
-        Variable::Shifted => 1,
     }
 }
 

@@ -6,7 +6,7 @@ ghost use Rattle.std.specs.List.{list_all};
 ghost use Rattle.utf8_cut.specs.Characters.{is_incomplete_or_empty};
 ghost use Rattle.collation_states.specs.StateTests as tests;
 
-use crate::saving::{word_of_select, word_of_strength, word_of_variable};
+use crate::setting_words::{word_of_select, word_of_strength, word_of_variable};
 use arrayvec::ArrayVec;
 use collation_elements::{Strength, Variable};
 use collation_matches::Select;

@@ -8,10 +8,8 @@ use Rattle.std.specs.Cmp.Lexicographic.{bytes_decides}
 use Rattle.collation_table.specs.declared.elements.Element.{Element}
 use Rattle.collation_table.specs.declared.pages.Place.{Place}
 use Rattle.collation_table.specs.declared.rows.RowPlaces.{RowPlaces}
-use Rattle.collation_table.specs.declared.trie.Trie.{Trie}
 use Rattle.collation_table.specs.Entries.{part, rows_at, IsWithin, IsIndexed}
 use Rattle.collation_table.specs.Table.{row_with, greatest}
-use Rattle.collation_table.specs.Trie.{IsTrie, place_of}
 use Rattle.collation_table.proofs.RowLemmas.{AllByRecursion-push, none_of}
 
 -- ---- places
@@ -106,16 +104,15 @@ same_part : (elements others : List Element) (o : Option Place) → ((p : Place)
 same_part elements others None lent = refl
 same_part elements others (Some p) lent = ap Some (part-append elements others p (lent p refl).0 (lent p refl).1)
 
-pub IsIndexed-push : (points string : List ℕ) (elements row : List Element) (places : List RowPlaces) (r : RowPlaces) (trie new : Trie) (longest largest : ℕ)
-    → IsIndexed points elements places trie longest largest → is_some (row_with string (rows_at points elements places)) ≡ false
+pub IsIndexed-push : (points string : List ℕ) (elements row : List Element) (places : List RowPlaces) (r : RowPlaces) (find next : List ℕ → Option Place) (longest largest : ℕ)
+    → IsIndexed points elements places find longest largest → is_some (row_with string (rows_at points elements places)) ≡ false
     → r.string.start ≡ length points → r.string.end ≡ length (points ++ string) → r.row.start ≡ length elements → r.row.end ≡ length (elements ++ row)
-    → IsTrie new → place_of new string ≡ Some r.row → ((q : List ℕ) → ((q ≡ string) → ⊥) → place_of new q ≡ place_of trie q)
-    → IsIndexed (points ++ string) (elements ++ row) (places ++ r ∷ []) new (max longest (length string)) (max largest (length row))
-IsIndexed-push points string elements row places r trie new longest largest was absent ks ke rs re is_trie here others = record {
+    → next string ≡ Some r.row → ((q : List ℕ) → ((q ≡ string) → ⊥) → next q ≡ find q)
+    → IsIndexed (points ++ string) (elements ++ row) (places ++ r ∷ []) next (max longest (length string)) (max largest (length row))
+IsIndexed-push points string elements row places r find next longest largest was absent ks ke rs re here others = record {
   within = AllByRecursion-push (IsWithin (points ++ string) (elements ++ row)) places r (all_within points string elements row places was.within)
       (record { string = omega (arith, length-append points string); string_end = omega arith; row = omega (arith, length-append elements row); row_end = omega arith });
   all = ap (flat_map (λ q. q.1)) rows ∙ flat_map-push (rows_at points elements places) (string, row) ∙ ap (λ l. l ++ row) was.all;
-  is_trie = is_trie;
   found = λ q. found q (bytes_eq q string) refl;
   lent = λ q p has. lent q p has (bytes_eq q string) refl;
   longest_is = ap (λ n. max n (length string)) was.longest_is ∙ sym (greatest-push (λ (q : List ℕ × List Element). length q.0) (rows_at points elements places) (string, row)) ∙ ap (λ l. greatest (map (λ q. length q.0) l)) (sym rows);
@@ -132,19 +129,19 @@ IsIndexed-push points string elements row places r trie new longest largest was 
     differs : (q : List ℕ) → bytes_eq q string ≡ false → (q ≡ string) → ⊥
     differs q off same = let clash : true ≡ false = sym ((bytes_decides q string).1 same) ∙ off in cc
 
-    found : (q : List ℕ) (b : Bool) → bytes_eq q string ≡ b → option_map (part (elements ++ row)) (place_of new q) ≡ row_with q (rows_at (points ++ string) (elements ++ row) (places ++ r ∷ []))
+    found : (q : List ℕ) (b : Bool) → bytes_eq q string ≡ b → option_map (part (elements ++ row)) (next q) ≡ row_with q (rows_at (points ++ string) (elements ++ row) (places ++ r ∷ []))
     found q true is =
         let same : q ≡ string = (bytes_decides q string).0 is in
-        ap (λ l. option_map (part (elements ++ row)) (place_of new l)) same ∙ ap (option_map (part (elements ++ row))) here ∙ ap Some (part-end elements row r.row rs re)
+        ap (λ l. option_map (part (elements ++ row)) (next l)) same ∙ ap (option_map (part (elements ++ row))) here ∙ ap Some (part-end elements row r.row rs re)
         ∙ sym (row_with-push_here string row (rows_at points elements places) (none_of (row_with string (rows_at points elements places)) absent)) ∙ ap (λ l. row_with l (rows_at points elements places ++ (string, row) ∷ [])) (sym same) ∙ ap (row_with q) (sym rows)
     found q false is =
-        ap (option_map (part (elements ++ row))) (others q (differs q is)) ∙ same_part elements row (place_of trie q) (was.lent q) ∙ was.found q
+        ap (option_map (part (elements ++ row))) (others q (differs q is)) ∙ same_part elements row (find q) (was.lent q) ∙ was.found q
         ∙ sym (row_with-push_other q string row (rows_at points elements places) is) ∙ ap (row_with q) (sym rows)
 
-    lent : (q : List ℕ) (p : Place) → place_of new q ≡ Some p → (b : Bool) → bytes_eq q string ≡ b → (p.start ≤ p.end) × (p.end ≤ length (elements ++ row))
+    lent : (q : List ℕ) (p : Place) → next q ≡ Some p → (b : Bool) → bytes_eq q string ≡ b → (p.start ≤ p.end) × (p.end ≤ length (elements ++ row))
     lent q p has true is =
         let same : q ≡ string = (bytes_decides q string).0 is in
-        let there : r.row ≡ p = some_is r.row p (sym here ∙ ap (place_of new) (sym same) ∙ has) in
+        let there : r.row ≡ p = some_is r.row p (sym here ∙ ap next (sym same) ∙ has) in
         subst (λ (x : Place). (x.start ≤ x.end) × (x.end ≤ length (elements ++ row))) there (omega (arith, length-append elements row), omega arith)
       where
         some_is : (x y : Place) → Some x ≡ Some y → x ≡ y
@@ -154,11 +151,10 @@ IsIndexed-push points string elements row places r trie new longest largest was 
         (old.0, omega (arith, old.1, length-append elements row))
 
 -- without rows
-pub IsIndexed-none : (trie : Trie) → IsTrie trie → ((string : List ℕ) → place_of trie string ≡ None) → IsIndexed [] [] [] trie 0 2
-IsIndexed-none trie is_trie none = record {
+pub IsIndexed-none : (find : List ℕ → Option Place) → ((string : List ℕ) → find string ≡ None) → IsIndexed [] [] [] find 0 2
+IsIndexed-none find none = record {
   within = tt;
   all = refl;
-  is_trie = is_trie;
   found = λ string. ap (option_map (part [])) (none string);
   lent = λ string p has. let clash : None ≡ Some p = sym (none string) ∙ has in cc;
   longest_is = refl;
@@ -171,9 +167,9 @@ is_some-map : {X Y : Type 0} (f : X → Y) (o : Option X) → is_some (option_ma
 is_some-map f None = refl
 is_some-map f (Some x) = refl
 
-pub found_string : (points : List ℕ) (elements : List Element) (places : List RowPlaces) (trie : Trie) (longest largest : ℕ) → IsIndexed points elements places trie longest largest
-    → (string : List ℕ) → is_some (row_with string (rows_at points elements places)) ≡ is_some (place_of trie string)
-found_string points elements places trie longest largest indexed string = ap is_some (sym (indexed.found string)) ∙ is_some-map (part elements) (place_of trie string)
+pub found_string : (points : List ℕ) (elements : List Element) (places : List RowPlaces) (find : List ℕ → Option Place) (longest largest : ℕ) → IsIndexed points elements places find longest largest
+    → (string : List ℕ) → is_some (row_with string (rows_at points elements places)) ≡ is_some (find string)
+found_string points elements places find longest largest indexed string = ap is_some (sym (indexed.found string)) ∙ is_some-map (part elements) (find string)
 
 pub is_some-none : {X : Type 0} (o : Option X) → o ≡ None → is_some o ≡ false
 is_some-none o none = ap is_some none

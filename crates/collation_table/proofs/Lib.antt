@@ -1,3 +1,4 @@
+pub mod AloneLemmas
 pub mod Cuts
 pub mod ElementLemmas
 pub mod FileFaults
@@ -5,6 +6,7 @@ pub mod FrontElements
 pub mod IndexLemmas
 pub mod LineForms
 pub mod LinesOfFile
+pub mod MarkLemmas
 pub mod OverlayLemmas
 pub mod PageLemmas
 pub mod Parsed

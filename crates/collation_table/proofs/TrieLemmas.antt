@@ -179,7 +179,7 @@ place_from-way E s (x ∷ p) t d q leads = seek_node E (E s x) leads.0 p d q lea
 
 -- ---- one more place
 
-put_node : (E F : ℕ → ℕ → Entry) (s c : ℕ) (e : Entry) → IsSet E F s c e → e.node ≡ (E s c).node → (t d : ℕ) → (F t d).node ≡ (E t d).node
+pub put_node : (E F : ℕ → ℕ → Entry) (s c : ℕ) (e : Entry) → IsSet E F s c e → e.node ≡ (E s c).node → (t d : ℕ) → (F t d).node ≡ (E t d).node
 put_node E F s c e set node t d = by (same_or_not t d s c)
   where
     by : ((t ≡ s) × (d ≡ c)) ⊎ ((t ≡ s) → (d ≡ c) → ⊥) → (F t d).node ≡ (E t d).node
@@ -240,6 +240,10 @@ pub seek_ends : (E : ℕ → ℕ → Entry) (e : Entry) (cs : List ℕ) → 0 < 
 seek_ends E e [] lt none = absurd (omega arith)
 seek_ends E e (c ∷ cs) lt none = ap (λ (o : Option ℕ). o >>= λ n. seek E (E n c) cs) none
 
+pub seek_nowhere : (E : ℕ → ℕ → Entry) (cs : List ℕ) → seek E no_entry cs ≡ None
+seek_nowhere E [] = refl
+seek_nowhere E (c ∷ cs) = refl
+
 take_two : (n k m : ℕ) (points : List ℕ) → m ≡ n + k → take m points ≡ take n points ++ take k (drop n points)
 take_two zero k m points is =
     let same : m ≡ k = omega arith in
@@ -281,7 +285,7 @@ pub longest-ends : (E : ℕ → ℕ → Entry) (T : TableMap) (points : List ℕ
     → e.node ≡ None → n ≤ length points → longest_prefix_within T points n ≡ longest → longest ≡ longest_prefix T points
 longest-ends E T points n e longest answers at none le is = sym is ∙ sym (no_more E T points n e answers at none (length points) le (omega arith))
 
-append_nil : (l : List ℕ) → l ++ [] ≡ l
+pub append_nil : (l : List ℕ) → l ++ [] ≡ l
 append_nil [] = refl
 append_nil (x ∷ xs) = ap (λ l. x ∷ l) (append_nil xs)
 

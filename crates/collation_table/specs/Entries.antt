@@ -1,12 +1,10 @@
 -- What a contract sees of the vectors inside `Rows`.
-use Rattle.std.specs.Prelude.{◌≡◌, ℕ, ◌≤◌, max, List, ◌++◌, map, length, flat_map, slice_range, Some, option_map}
+use Rattle.std.specs.Prelude.{◌≡◌, ℕ, ◌≤◌, max, List, ◌++◌, map, length, flat_map, slice_range, Option, Some, option_map}
 use Rattle.std.specs.List.{AllByRecursion}
 use Rattle.collation_table.specs.declared.elements.Element.{Element}
 use Rattle.collation_table.specs.declared.pages.Place.{Place}
 use Rattle.collation_table.specs.declared.rows.RowPlaces.{RowPlaces}
-use Rattle.collation_table.specs.declared.trie.Trie.{Trie}
 use Rattle.collation_table.specs.Table.{row_with, greatest}
-use Rattle.collation_table.specs.Trie.{IsTrie, place_of}
 
 -- what lies at a place
 abbrev pub part : {X : Type 0} → List X → Place → List X
@@ -27,12 +25,11 @@ pub record IsWithin (points : List ℕ) (elements : List Element) (r : RowPlaces
   pub row : r.row.start ≤ r.row.end
   pub row_end : r.row.end ≤ length elements
 
--- the index answers by the rows, and the rows take up all elements
-pub record IsIndexed (points : List ℕ) (elements : List Element) (places : List RowPlaces) (trie : Trie) (longest largest : ℕ) : Type 0 where
+-- what finds strings answers by the rows, and the rows take up all elements
+pub record IsIndexed (points : List ℕ) (elements : List Element) (places : List RowPlaces) (find : List ℕ → Option Place) (longest largest : ℕ) : Type 0 where
   pub within : AllByRecursion (IsWithin points elements) places
   pub all : flat_map (λ row. row.1) (rows_at points elements places) ≡ elements
-  pub is_trie : IsTrie trie
-  pub found : (string : List ℕ) → option_map (part elements) (place_of trie string) ≡ row_with string (rows_at points elements places)
-  pub lent : (string : List ℕ) (p : Place) → place_of trie string ≡ Some p → (p.start ≤ p.end) × (p.end ≤ length elements)
+  pub found : (string : List ℕ) → option_map (part elements) (find string) ≡ row_with string (rows_at points elements places)
+  pub lent : (string : List ℕ) (p : Place) → find string ≡ Some p → (p.start ≤ p.end) × (p.end ≤ length elements)
   pub longest_is : longest ≡ greatest (map (λ row. length row.0) (rows_at points elements places))
   pub largest_is : largest ≡ max 2 (greatest (map (λ row. length row.1) (rows_at points elements places)))

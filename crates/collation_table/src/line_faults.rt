@@ -15,7 +15,8 @@ use crate::faults::{
 use crate::limits::{MOST_ENTRY_LINES, MOST_RANGE_LINES, MOST_ROW_ELEMENTS, MOST_STRING_POINTS};
 use crate::lines::Line;
 use crate::ranges::ImplicitRange;
-use crate::row_store::RowStore;
+use crate::row_index::RowIndex;
+use crate::rows::Rows;
 use crate::well_formed::{any_unusual, breaks_pair_rule, breaks_wf1, breaks_wf3};
 
 /// The last code point of Unicode.
@@ -30,8 +31,8 @@ fn any_beyond_unicode(points: &[u32]) -> bool
 
 /// The smallest kind of fault of a range line after the lines that gave `rows`, of whose ranges the first `earlier` are of an
 /// earlier file.
-fn range_fault<S: RowStore>(earlier: usize, rows: &S, range: &ImplicitRange) -> Option<u8>
-    ensures kind { result ≡ range_kind earlier (S.table rows.now) range.now }
+fn range_fault<I: RowIndex>(earlier: usize, rows: &Rows<I>, range: &ImplicitRange) -> Option<u8>
+    ensures kind { result ≡ range_kind earlier rows.now range.now }
     ensures few { IfSome result (λ kind. kind ≤ 13) }
 {
     if any_beyond_unicode(&[range.first, range.last]) {
@@ -69,8 +70,8 @@ fn row_fault(row: &[Element]) -> Option<u8>
 }
 
 /// The smallest kind of fault of an entry line after the lines that gave `rows`.
-fn entry_fault<S: RowStore>(rows: &S, string: &[u32], row: &[Element]) -> Option<u8>
-    ensures kind { result ≡ entry_kind (S.table rows.now) string.now row.now }
+fn entry_fault<I: RowIndex>(rows: &Rows<I>, string: &[u32], row: &[Element]) -> Option<u8>
+    ensures kind { result ≡ entry_kind rows.now string.now row.now }
     ensures few { IfSome result (λ kind. kind ≤ 13) }
 {
     if any_beyond_unicode(string) {
@@ -90,8 +91,12 @@ fn entry_fault<S: RowStore>(rows: &S, string: &[u32], row: &[Element]) -> Option
 
 /// The smallest kind of fault of a line after the lines that gave `rows`, of whose ranges the first `earlier` are of an earlier
 /// file.
-pub(crate) fn line_fault<S: RowStore>(earlier: usize, rows: &S, line: &Option<Line>) -> Option<u8>
-    ensures kind { result ≡ line_kind earlier (S.table rows.now) (option_map form line.now) }
+pub(crate) fn line_fault<I: RowIndex>(
+    earlier: usize,
+    rows: &Rows<I>,
+    line: &Option<Line>,
+) -> Option<u8>
+    ensures kind { result ≡ line_kind earlier rows.now (option_map form line.now) }
     ensures few { IfSome result (λ kind. kind ≤ 13) }
 {
     match line {

@@ -1,6 +1,6 @@
 //! What the rest of the library asks a collation element table.
 ghost use Rattle.std.specs.Prelude.{◌≡◌, [], ◌∷◌, false, ◌<◌, ◌≤◌, length, option_copied, IfSome, OnSome};
-ghost use Rattle.collation_table.specs.Table.{TableMap, BeginsNoLongerString, ContinuesNoString, GoesOnInNoString, HasSizes, row_of, longest_prefix, implicit_pair, longest_mapped, most_elements};
+ghost use Rattle.collation_table.specs.Table.{TableMap, BeginsNoLongerString, ContinuesNoString, GoesOnInNoString, HasSizes, row_of, longest_prefix, implicit_pair, longest_mapped, most_elements, stands_alone as stands_alone_in};
 ghost use Rattle.collation_table.specs.WellFormed.{IsWellFormed};
 
 use crate::elements::Element;
@@ -75,4 +75,11 @@ pub trait Weights {
     ghost well_formed: { (t : Self) → IsWellFormed (table t) };
 
     ghost sizes: { (t : Self) → HasSizes (table t) };
+}
+
+/// A table that knows exactly in which of its strings a code point stands. The call takes no memory.
+pub trait Strings: Weights {
+    /// Whether `cp` stands in no mapped string of two or more code points.
+    fn stands_alone(&self, cp: u32) -> bool
+        ensures { result ≡ stands_alone_in (Self.table self.now) cp };
 }

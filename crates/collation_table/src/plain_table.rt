@@ -1,6 +1,5 @@
-//! A plain table: rows in a list, and an ordered map that finds them. It answers as `Table` does, with simpler parts.
+//! A plain table, whose rows an ordered map finds. It answers as `Table` does, with simpler parts.
 ghost use Rattle.std.specs.Prelude.{◌≡◌, [], MatchResult, None, Some, IfOk, IfErr, OnOk};
-ghost use Rattle.collation_table.specs.Table as map;
 ghost use Rattle.collation_table.specs.Table.{HasSizes};
 ghost use Rattle.collation_table.specs.WellFormed.{IsWellFormed, map_fault};
 ghost use Rattle.collation_table.specs.Faults.{fault_at_line, tailored_map, table_fault, SpellsTable, IsFaultOrAllocationRefused};
@@ -8,44 +7,32 @@ ghost use Rattle.collation_table.specs.Faults.{fault_at_line, tailored_map, tabl
 use crate::elements::Element;
 use crate::faults::TableFault;
 use crate::implicit;
-use crate::lookup::Weights;
-use crate::plain_rows::PlainRows;
+use crate::lookup::{Strings, Weights};
+use crate::plain_index::PlainIndex;
 use crate::reader::{TableFile, read_lines};
-use crate::row_store::RowStore;
+use crate::rows::Rows;
 use std::alloc::Global;
 
 /// A well-formed collation element table, whose mapped strings are the keys of an ordered map. A search over it is slower than
 /// over a `Table`: the longest prefix is found by trying one length after another.
 #[derive(Drop)]
 pub struct PlainTable {
-    rows: PlainRows,
-    longest: usize,
-    largest: usize,
+    rows: Rows<PlainIndex>,
     ghost well_formed: { IsWellFormed rows },
     ghost sizes: { HasSizes rows },
-    ghost longest_is: { longest ≡ map.longest_mapped rows },
-    ghost largest_is: { largest ≡ map.most_elements rows },
 }
 
 impl PlainTable {
     /// The table of these rows and ranges, or the fault, at line 0, of the first condition on the whole table that they break: 12 no
     /// row, 6 WF2, 8 WF4, 9 WF5. Takes no memory.
-    fn seal(rows: PlainRows) -> Result<PlainTable, TableFault>
+    fn seal(rows: Rows<PlainIndex>) -> Result<PlainTable, TableFault>
         ensures { MatchResult result
             (λ t. (map_fault rows ≡ None) × (⟦<PlainTable as Weights>⟧.table t ≡ rows))
             (λ fault. fault_at_line 0 (map_fault rows) ≡ Some fault) }
     {
         match rows.fault() {
             Some(kind) => Err(TableFault { line: 0, kind }),
-            None => {
-                let longest = rows.longest_key();
-                let largest = rows.most_elements();
-                Ok(PlainTable {
-                    rows,
-                    longest,
-                    largest,
-                })
-            }
+            None => Ok(PlainTable { rows }),
         }
     }
 
@@ -62,7 +49,7 @@ impl PlainTable {
         // The first fault is reported, unless memory was refused.
         ensures fault { IfErr result (IsFaultOrAllocationRefused (table_fault bytes.now)) }
     {
-        let rows = read_lines(alloc, TableFile::Base, PlainRows::new(alloc), bytes)?;
+        let rows = read_lines(alloc, TableFile::Base, Rows::new(alloc), bytes)?;
         PlainTable::seal(rows)
     }
 }
@@ -71,7 +58,7 @@ impl Weights for PlainTable {
     ghost table = { λ t. t.rows };
 
     fn longest(&self, points: &[u32]) -> usize {
-        let mut length = points.len().min(self.longest);
+        let mut length = points.len().min(self.rows.longest_key());
         while length > 0 && !self.rows.maps(&points[..length]) {
             length -= 1;
         }
@@ -87,14 +74,20 @@ impl Weights for PlainTable {
     }
 
     fn longest_key(&self) -> usize {
-        self.longest
+        self.rows.longest_key()
     }
 
     fn most_elements(&self) -> usize {
-        self.largest
+        self.rows.most_elements()
     }
 
     ghost well_formed = { λ t. t.well_formed };
 
     ghost sizes = { λ t. t.sizes };
+}
+
+impl Strings for PlainTable {
+    fn stands_alone(&self, cp: u32) -> bool {
+        !self.rows.has_in_longer(cp)
+    }
 }

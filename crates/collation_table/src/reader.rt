@@ -11,7 +11,7 @@ use crate::line_faults::line_fault;
 use crate::lines::{Line, LineRoom, parse_line};
 use crate::lookup::Weights;
 use crate::pieces::first_line;
-use crate::row_store::RowStore;
+use crate::row_index::RowIndex;
 use crate::rows::Rows;
 use crate::table::Table;
 use std::alloc::Global;
@@ -50,24 +50,24 @@ impl TableFile {
 
 /// Adds what a line says to the rows, or gives its fault. Memory is asked for only where it has none; where that is refused, it is
 /// reported at line 0.
-fn add_line<S: RowStore>(
+fn add_line<I: RowIndex>(
     alloc: Global,
     file: TableFile,
-    rows: &mut S,
+    rows: &mut Rows<I>,
     number: u64,
     line: Option<Line>,
 ) -> Result<(), TableFault>
     requires parts { IfSome line HasParts }
     ensures right { OnOk result
-        (line_kind (earlier_ranges file) (S.table rows.old) (option_map form line.entry) ≡ None) }
+        (line_kind (earlier_ranges file) rows.old (option_map form line.entry) ≡ None) }
     ensures rows { OnOk result
-        (S.table rows.new ≡ with_line (S.table rows.old) (option_map form line.entry)) }
+        (rows.new ≡ with_line rows.old (option_map form line.entry)) }
     // A line at fault has its fault reported, whatever memory is refused.
     ensures fault { IfErr result
         (λ fault. fault
         ≡ unwrap_or (option_map (reported file)
         (fault_at_line number
-        (line_kind (earlier_ranges file) (S.table rows.old)
+        (line_kind (earlier_ranges file) rows.old
         (option_map form line.entry)))) allocation_refused) }
 {
     match line_fault(file.earlier_ranges(), rows, &line) {
@@ -87,23 +87,23 @@ fn add_line<S: RowStore>(
 }
 
 /// Adds what the line with this number says, or reports its fault; where memory is refused, that is reported at line 0.
-fn read_line<S: RowStore>(
+fn read_line<I: RowIndex>(
     alloc: Global,
     file: TableFile,
-    rows: &mut S,
+    rows: &mut Rows<I>,
     room: &mut LineRoom,
     number: u64,
     text: &[u8],
 ) -> Result<(), TableFault>
     ensures right { OnOk result
-        (line_kind (earlier_ranges file) (S.table rows.old) (line_form text.now) ≡ None) }
+        (line_kind (earlier_ranges file) rows.old (line_form text.now) ≡ None) }
     ensures rows { OnOk result
-        (S.table rows.new ≡ with_line (S.table rows.old) (line_form text.now)) }
+        (rows.new ≡ with_line rows.old (line_form text.now)) }
     ensures fault { IfErr result
         (IsFaultOrAllocationRefused
         (option_map (reported file)
         (fault_at_line number
-        (line_kind (earlier_ranges file) (S.table rows.old) (line_form text.now))))) }
+        (line_kind (earlier_ranges file) rows.old (line_form text.now))))) }
 {
     let line = parse_line(room, text)?;
     add_line(alloc, file, rows, number, line)
@@ -111,22 +111,22 @@ fn read_line<S: RowStore>(
 
 /// The rows of all lines of a file, and the ranges of an earlier file followed by its own, or the fault of the first line that has
 /// one.
-pub(crate) fn read_lines<S: RowStore>(
+pub(crate) fn read_lines<I: RowIndex>(
     alloc: Global,
     file: TableFile,
-    earlier: S,
+    earlier: Rows<I>,
     bytes: &[u8],
-) -> Result<S, TableFault>
-    requires none { (S.table earlier).rows ≡ [] }
-    requires ranges { earlier_ranges file ≡ length (S.table earlier).ranges }
+) -> Result<Rows<I>, TableFault>
+    requires none { earlier.rows ≡ [] }
+    requires ranges { earlier_ranges file ≡ length earlier.ranges }
     ensures ok { OnOk result
-        (first_line_fault (S.table earlier).ranges (forms_of bytes.now) ≡ None) }
+        (first_line_fault earlier.ranges (forms_of bytes.now) ≡ None) }
     ensures rows { IfOk result
-        (λ rows. S.table rows ≡ map_after (S.table earlier).ranges (forms_of bytes.now)) }
+        (λ rows. rows ≡ map_after earlier.ranges (forms_of bytes.now)) }
     ensures fault { IfErr result
         (IsFaultOrAllocationRefused
         (option_map (reported file)
-        (first_line_fault (S.table earlier).ranges (forms_of bytes.now)))) }
+        (first_line_fault earlier.ranges (forms_of bytes.now)))) }
 {
     let mut rows = earlier;
     let mut room = LineRoom::new(alloc);

@@ -1,13 +1,14 @@
 //! The rows and the implicit ranges of a table, as the lines of its file give them one by one.
 ghost use Rattle.std.specs.Prelude.{◌≡◌, ℕ, List, [], ◌∷◌, ◌++◌, false, length, take, slice_get, None, Some, IfSome, OnOk, OnSome, option_copied, ◌<◌, ◌≤◌};
-ghost use Rattle.collation_table.specs.Table.{TableMap, BeginsNoLongerString, ContinuesNoString, GoesOnInNoString, row_of, row_with, is_mapped, longest_prefix, longest_mapped, most_elements};
+ghost use Rattle.collation_table.specs.Table.{TableMap, BeginsNoLongerString, ContinuesNoString, GoesOnInNoString, row_of, row_with, is_mapped, is_in_longer as is_in_longer_string, longest_prefix, longest_mapped, most_elements, stands_alone};
+ghost use Rattle.std.specs.List.{list_any};
 ghost use Rattle.collation_table.specs.Entries.{part, after};
-ghost use Rattle.collation_table.specs.Trie.{IsTrie, place_of};
 ghost use Rattle.collation_table.specs.WellFormed.{IsRowSound, breaks_ranges};
 
 use crate::elements::Element;
 use crate::pages::Place;
 use crate::ranges::{self, ImplicitRange};
+use crate::row_index::RowIndex;
 use crate::trie::Trie;
 use std::alloc::{AllocError, Global};
 use std::marker::Model;
@@ -24,19 +25,19 @@ pub(crate) struct RowPlaces {
 
 /// Rows in the order in which they were inserted, with an index of their mapped strings, and ranges of implicit weights. All
 /// elements lie in one vector, and so do the code points of all mapped strings. Each row and each range is known to meet the
-/// conditions on it; those on the whole table are decided by `Table::seal`.
+/// conditions on it; those on the whole table are decided by `fault`.
 #[derive(Drop)]
-pub struct Rows {
+pub(crate) struct Rows<I: RowIndex> {
     points: Vec<u32>,
     elements: Vec<Element>,
     places: Vec<RowPlaces>,
-    trie: Trie,
+    index: I,
     ranges: Vec<ImplicitRange>,
     longest: usize,
     largest: usize,
 }
 
-impl Model for Rows {
+impl<I: RowIndex> Model for Rows<I> {
     ghost use Rattle.collation_table.specs.Table.{TableMap};
     ghost use Rattle.collation_table.specs.WellFormed.{AreLinesSound};
     ghost use Rattle.collation_table.specs.Entries.{rows_at, IsIndexed};
@@ -54,7 +55,8 @@ impl Model for Rows {
           ranges = a.ranges.items;
         })
         × IsIndexed a.points.items a.elements.items a.places.items
-        a.trie a.longest a.largest };
+        (I.finds a.index) a.longest a.largest
+        × I.is_whole a.index };
 }
 
 /// The elements at a place.
@@ -87,16 +89,16 @@ fn append<T: Copy>(items: &mut Vec<T>, list: &[T]) -> Result<(), AllocError>
 }
 
 /// Puts a row after those in the vectors and into the index. Where memory is refused, it may be in some of them.
-fn store(
+fn store<I: RowIndex>(
     alloc: Global,
     points: &mut Vec<u32>,
     elements: &mut Vec<Element>,
     places: &mut Vec<RowPlaces>,
-    trie: &mut Trie,
+    index: &mut I,
     string: &[u32],
     row: &[Element],
 ) -> Result<(), AllocError>
-    requires trie { IsTrie trie.old }
+    requires whole { I.is_whole index.old }
     requires some { 0 < length string.now }
     ensures points { OnOk result (points.new.items ≡ points.old.items ++ string.now) }
     ensures elements { OnOk result (elements.new.items ≡ elements.old.items ++ row.now) }
@@ -107,11 +109,11 @@ fn store(
           string = after points.old.items string.now;
           row = after elements.old.items row.now;
         }) ∷ []) }
-    ensures trie { OnOk result (IsTrie trie.new) }
+    ensures whole { OnOk result (I.is_whole index.new) }
     ensures here { OnOk result
-        (place_of trie.new string.now ≡ Some (after elements.old.items row.now)) }
+        (I.finds index.new string.now ≡ Some (after elements.old.items row.now)) }
     ensures others { OnOk result ((q : List ℕ) → ((q ≡ string.now) → ⊥)
-        → place_of trie.new q ≡ place_of trie.old q) }
+        → I.finds index.new q ≡ I.finds index.old q) }
 {
     let string_start = points.len();
     append(points, string)?;
@@ -128,20 +130,27 @@ fn store(
         },
         row: place,
     })?;
-    trie.insert(alloc, string, place)?;
+    index.insert(alloc, string, place)?;
     Ok(())
 }
 
-impl Rows {
+/// Whether a string has two code points or more, and `cp` is among them.
+fn is_in_longer(string: &[u32], cp: u32) -> bool
+    ensures { result ≡ is_in_longer_string cp string.now }
+{
+    string.len() > 1 && string.contains(&cp)
+}
+
+impl<I: RowIndex> Rows<I> {
     /// No rows and no ranges. Takes no memory.
-    pub fn new(alloc: Global) -> Rows
+    pub fn new(alloc: Global) -> Rows<I>
         ensures { result ≡ record { rows = []; ranges = [] } }
     {
         Rows {
             points: Vec::new(alloc),
             elements: Vec::new(alloc),
             places: Vec::new(alloc),
-            trie: Trie::new(alloc),
+            index: I::new(alloc),
             ranges: Vec::new(alloc),
             longest: 0,
             largest: 2,
@@ -152,7 +161,7 @@ impl Rows {
     pub fn row(&self, string: &[u32]) -> Option<&[Element]>
         ensures { option_copied result ≡ row_of self.now string.now }
     {
-        match self.trie.place(string) {
+        match self.index.place(string) {
             Some(place) => Some(elements_at(self.elements.as_slice(), place)),
             None => None,
         }
@@ -162,50 +171,7 @@ impl Rows {
     pub fn maps(&self, string: &[u32]) -> bool
         ensures { result ≡ is_mapped self.now string.now }
     {
-        self.trie.place(string).is_some()
-    }
-
-    /// The greatest number of code points at which a prefix of `points` is mapped, and 0 if none is.
-    pub fn longest(&self, points: &[u32]) -> usize
-        ensures value { result ≡ longest_prefix self.now points.now }
-        ensures within { result ≤ length points.now }
-    {
-        self.trie.longest(points)
-    }
-
-    /// Whether a mapped string of two or more code points begins with `cp`.
-    pub fn begins_longer_string(&self, cp: u32) -> bool
-        ensures { result ≡ false → BeginsNoLongerString self.now cp }
-    {
-        self.trie.begins_longer_string(cp)
-    }
-
-    /// Whether a mapped string that is longer than `string` begins with it; `true` for the empty string.
-    pub fn goes_on(&self, string: &[u32]) -> bool
-        ensures { result ≡ false → GoesOnInNoString self.now string.now }
-    {
-        self.trie.goes_on(string)
-    }
-
-    /// The elements of the row of `cp` alone, if it has one, where no mapped string of two or more code points begins with it; `None`
-    /// where one may.
-    #[inline(always)]
-    pub fn lone_row(&self, cp: u32) -> Option<Option<&[Element]>>
-        ensures alone { OnSome result (BeginsNoLongerString self.now cp) }
-        ensures row { IfSome result (λ row. option_copied row ≡ row_of self.now (cp ∷ [])) }
-    {
-        match self.trie.lone_place(cp) {
-            Some(Some(place)) => Some(Some(elements_at(self.elements.as_slice(), place))),
-            Some(None) => Some(None),
-            None => None,
-        }
-    }
-
-    /// Whether `cp` stands after the first place in a mapped string.
-    pub fn continues_string(&self, cp: u32) -> bool
-        ensures { result ≡ false → ContinuesNoString self.now cp }
-    {
-        self.trie.continues_string(cp)
+        self.index.place(string).is_some()
     }
 
     /// Adds a row after the others. Where memory is refused, all rows and ranges are lost.
@@ -225,7 +191,7 @@ impl Rows {
             &mut self.points,
             &mut self.elements,
             &mut self.places,
-            &mut self.trie,
+            &mut self.index,
             string,
             row,
         );
@@ -261,6 +227,19 @@ impl Rows {
         ensures { result ≡ length self.now.rows }
     {
         self.places.len()
+    }
+
+    /// Whether `cp` stands in a mapped string of two or more code points, by a look at each.
+    pub fn has_in_longer(&self, cp: u32) -> bool
+        ensures { result ≡ list_any (λ row. is_in_longer_string cp row.0) self.now.rows }
+    {
+        for number in 0..self.row_count() {
+            let (string, _) = self.row_at(number);
+            if is_in_longer(string, cp) {
+                return true;
+            }
+        }
+        false
     }
 
     /// The number of code points of the longest mapped string.
@@ -299,5 +278,59 @@ impl Rows {
     {
         self.ranges.push(range)?;
         Ok(())
+    }
+}
+
+impl Rows<Trie> {
+    /// The greatest number of code points at which a prefix of `points` is mapped, and 0 if none is.
+    pub fn longest(&self, points: &[u32]) -> usize
+        ensures value { result ≡ longest_prefix self.now points.now }
+        ensures within { result ≤ length points.now }
+    {
+        self.index.longest(points)
+    }
+
+    /// Whether a mapped string of two or more code points begins with `cp`.
+    pub fn begins_longer_string(&self, cp: u32) -> bool
+        ensures none { result ≡ false → BeginsNoLongerString self.now cp }
+        ensures some { BeginsNoLongerString self.now cp → result ≡ false }
+    {
+        self.index.begins_longer_string(cp)
+    }
+
+    /// Whether a mapped string that is longer than `string` begins with it; `true` for the empty string.
+    pub fn goes_on(&self, string: &[u32]) -> bool
+        ensures { result ≡ false → GoesOnInNoString self.now string.now }
+    {
+        self.index.goes_on(string)
+    }
+
+    /// The elements of the row of `cp` alone, if it has one, where no mapped string of two or more code points begins with it; `None`
+    /// where one may.
+    #[inline(always)]
+    pub fn lone_row(&self, cp: u32) -> Option<Option<&[Element]>>
+        ensures alone { OnSome result (BeginsNoLongerString self.now cp) }
+        ensures row { IfSome result (λ row. option_copied row ≡ row_of self.now (cp ∷ [])) }
+    {
+        match self.index.lone_place(cp) {
+            Some(Some(place)) => Some(Some(elements_at(self.elements.as_slice(), place))),
+            Some(None) => Some(None),
+            None => None,
+        }
+    }
+
+    /// Whether `cp` stands after the first place in a mapped string.
+    pub fn continues_string(&self, cp: u32) -> bool
+        ensures none { result ≡ false → ContinuesNoString self.now cp }
+        ensures some { ContinuesNoString self.now cp → result ≡ false }
+    {
+        self.index.continues_string(cp)
+    }
+
+    /// Whether `cp` stands in no mapped string of two or more code points.
+    pub fn stands_alone(&self, cp: u32) -> bool
+        ensures { result ≡ stands_alone self.now cp }
+    {
+        !self.begins_longer_string(cp) && !self.continues_string(cp)
     }
 }

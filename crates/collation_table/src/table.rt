@@ -1,6 +1,5 @@
 //! A table that is known to be well formed (UTS #10, section 5), and its look-ups.
 ghost use Rattle.std.specs.Prelude.{◌≡◌, MatchResult, None, Some};
-ghost use Rattle.collation_table.specs.Table as map;
 ghost use Rattle.collation_table.specs.Table.{HasSizes};
 ghost use Rattle.collation_table.specs.WellFormed.{IsWellFormed, map_fault};
 ghost use Rattle.collation_table.specs.Faults.{fault_at_line};
@@ -8,40 +7,29 @@ ghost use Rattle.collation_table.specs.Faults.{fault_at_line};
 use crate::elements::Element;
 use crate::faults::TableFault;
 use crate::implicit;
-use crate::lookup::Weights;
+use crate::lookup::{Strings, Weights};
 use crate::rows::Rows;
+use crate::trie::Trie;
 
 /// A well-formed collation element table.
 #[derive(Drop)]
 pub struct Table {
-    rows: Rows,
-    longest: usize,
-    largest: usize,
+    rows: Rows<Trie>,
     ghost well_formed: { IsWellFormed rows },
     ghost sizes: { HasSizes rows },
-    ghost longest_is: { longest ≡ map.longest_mapped rows },
-    ghost largest_is: { largest ≡ map.most_elements rows },
 }
 
 impl Table {
     /// The table of these rows and ranges, or the fault, at line 0, of the first condition on the whole table that they break: 12 no
     /// row, 6 WF2, 8 WF4, 9 WF5. Takes no memory.
-    pub(crate) fn seal(rows: Rows) -> Result<Table, TableFault>
+    pub(crate) fn seal(rows: Rows<Trie>) -> Result<Table, TableFault>
         ensures { MatchResult result
             (λ t. (map_fault rows ≡ None) × (⟦<Table as Weights>⟧.table t ≡ rows))
             (λ fault. fault_at_line 0 (map_fault rows) ≡ Some fault) }
     {
         match rows.fault() {
             Some(kind) => Err(TableFault { line: 0, kind }),
-            None => {
-                let longest = rows.longest_key();
-                let largest = rows.most_elements();
-                Ok(Table {
-                    rows,
-                    longest,
-                    largest,
-                })
-            }
+            None => Ok(Table { rows }),
         }
     }
 }
@@ -80,14 +68,20 @@ impl Weights for Table {
     }
 
     fn longest_key(&self) -> usize {
-        self.longest
+        self.rows.longest_key()
     }
 
     fn most_elements(&self) -> usize {
-        self.largest
+        self.rows.most_elements()
     }
 
     ghost well_formed = { λ t. t.well_formed };
 
     ghost sizes = { λ t. t.sizes };
+}
+
+impl Strings for Table {
+    fn stands_alone(&self, cp: u32) -> bool {
+        self.rows.stands_alone(cp)
+    }
 }

@@ -7,10 +7,11 @@
 //! steps is why the trie has this form; the time of a look-up is measured, and no clause speaks of it.
 ghost use Rattle.std.specs.Prelude.{◌≡◌, ℕ, ◌<◌, ◌≤◌, List, [], ◌∷◌, ◌++◌, false, length, is_some, None, Some, OnOk, IfOk, OnSome, IfSome};
 ghost use Rattle.collation_table.specs.Table.{TableMap, is_mapped, longest_prefix};
-ghost use Rattle.collation_table.specs.Trie.{at, place_of, seek, continues, Leads, IsTrie, IsMarked, HasFirst, IsSet};
+ghost use Rattle.collation_table.specs.Trie.{at, place_of, seek, continues, leads_on, Leads, IsTrie, IsIndex, IsMarked, HasFirst, IsSet, MarksStep, LeadsStep, MarksWay};
 
 use crate::first_steps::FirstSteps;
 use crate::pages::{Entry, NO_ENTRY, PageEntry, Pages, Place};
+use crate::row_index::RowIndex;
 use std::alloc::{AllocError, Global};
 use std::collections::BTreeMap;
 
@@ -24,19 +25,6 @@ pub(crate) struct Trie {
 }
 
 impl Trie {
-    /// Without mapped strings. Takes no memory.
-    pub fn new(alloc: Global) -> Trie
-        ensures trie { IsTrie result }
-        ensures empty { (string : List ℕ) → place_of result string ≡ None }
-    {
-        Trie {
-            pages: Pages::new(alloc),
-            steps: BTreeMap::new(alloc),
-            firsts: FirstSteps::new(alloc),
-            nodes: 1,
-        }
-    }
-
     /// Where a code point leads after a node.
     fn step(&self, node: u32, cp: u32) -> Entry
         requires marked { IsMarked self.now }
@@ -80,6 +68,7 @@ impl Trie {
         requires marked { IsMarked self.old }
         requires firsts { HasFirst self.old }
         ensures set { OnOk result (IsSet (at self.old) (at self.new) node cp entry) }
+        ensures marks { OnOk result (MarksStep self.old self.new node cp) }
         ensures marked { OnOk result (IsMarked self.new) }
         ensures firsts { OnOk result (HasFirst self.new) }
         ensures nodes { OnOk result (self.new.nodes ≡ self.old.nodes) }
@@ -121,7 +110,9 @@ impl Trie {
         requires used { node < self.old.nodes }
         requires none { at self.old node cp ≡ record { place = place; node = None } }
         ensures trie { OnOk result (IsTrie self.new) }
-        ensures used { IfOk result (λ next. next < self.new.nodes) }
+        ensures marks { OnOk result (MarksStep self.old self.new node cp) }
+        ensures leads_on { OnOk result (LeadsStep self.old self.new node cp) }
+        ensures used { IfOk result (λ next. (0 < next) × (next < self.new.nodes)) }
         ensures same { OnOk result ((string : List ℕ)
             → place_of self.new string ≡ place_of self.old string) }
         ensures leads { IfOk result (λ next. (prefix : List ℕ) → Leads (at self.old) 0 prefix node
@@ -149,7 +140,9 @@ impl Trie {
         requires trie { IsTrie self.old }
         requires used { node < self.old.nodes }
         ensures trie { OnOk result (IsTrie self.new) }
-        ensures used { IfOk result (λ next. next < self.new.nodes) }
+        ensures marks { OnOk result (MarksStep self.old self.new node cp) }
+        ensures leads_on { OnOk result (LeadsStep self.old self.new node cp) }
+        ensures used { IfOk result (λ next. (0 < next) × (next < self.new.nodes)) }
         ensures same { OnOk result ((string : List ℕ)
             → place_of self.new string ≡ place_of self.old string) }
         ensures leads { IfOk result (λ next. (prefix : List ℕ) → Leads (at self.old) 0 prefix node
@@ -166,6 +159,8 @@ impl Trie {
     fn follow_all(&mut self, alloc: Global, cps: &[u32]) -> Result<u32, AllocError>
         requires trie { IsTrie self.old }
         ensures trie { OnOk result (IsTrie self.new) }
+        ensures marks { OnOk result (MarksWay self.old self.new cps.now) }
+        ensures root { IfOk result (λ node. length cps.now ≡ 0 → node ≡ 0) }
         ensures used { IfOk result (λ node. node < self.new.nodes) }
         ensures same { OnOk result ((string : List ℕ)
             → place_of self.new string ≡ place_of self.old string) }
@@ -191,6 +186,7 @@ impl Trie {
         ensures set { OnOk result
             (IsSet (at self.old) (at self.new) node cp
             (record (at self.old node cp) { place = Some place })) }
+        ensures marks { OnOk result (MarksStep self.old self.new node cp) }
         ensures marked { OnOk result (IsMarked self.new) }
         ensures firsts { OnOk result (HasFirst self.new) }
         ensures nodes { OnOk result (self.new.nodes ≡ self.old.nodes) }
@@ -212,37 +208,27 @@ impl Trie {
         Ok(())
     }
 
-    /// Puts a mapped string at a place.
-    pub fn insert(&mut self, alloc: Global, string: &[u32], place: Place) -> Result<(), AllocError>
-        requires trie { IsTrie self.old }
-        requires some { 0 < length string.now }
-        ensures trie { OnOk result (IsTrie self.new) }
-        ensures here { OnOk result (place_of self.new string.now ≡ Some place) }
-        ensures others { OnOk result ((q : List ℕ) → ((q ≡ string.now) → ⊥)
-            → place_of self.new q ≡ place_of self.old q) }
-    {
-        let last = string.len() - 1;
-        let node = self.follow_all(alloc, &string[..last])?;
-        self.set_place(alloc, node, string[last], place)?;
-        Ok(())
-    }
-
-    /// The place of a mapped string.
-    pub fn place(&self, string: &[u32]) -> Option<Place>
+    /// Where the code points of a string lead from the root.
+    #[inline(always)]
+    fn entry(&self, string: &[u32]) -> Entry
         requires { IsTrie self.now }
-        ensures { result ≡ place_of self.now string.now }
+        ensures { (more : List ℕ)
+            → seek (at self.now) result more ≡ place_of self.now (string.now ++ more) }
     {
         let [first, rest @ ..] = string else {
-            return None;
+            return Entry {
+                place: None,
+                node: Some(0),
+            };
         };
         let mut entry = self.step(0, *first);
         for cp in rest {
             match entry.node {
                 Some(node) => entry = self.step(node, *cp),
-                None => return None,
+                None => return NO_ENTRY,
             }
         }
-        entry.place
+        entry
     }
 
     /// Whether a mapped string that is longer than `string` begins with it; `true` for the empty string.
@@ -251,16 +237,7 @@ impl Trie {
         ensures { result ≡ false → (d : ℕ) (rest : List ℕ)
             → place_of self.now (string.now ++ d ∷ rest) ≡ None }
     {
-        let [first, rest @ ..] = string else {
-            return true;
-        };
-        let mut entry = self.step(0, *first);
-        for cp in rest {
-            match entry.node {
-                Some(node) => entry = self.step(node, *cp),
-                None => return false,
-            }
-        }
+        let entry = self.entry(string);
         entry.node.is_some()
     }
 
@@ -298,8 +275,9 @@ impl Trie {
     /// Whether a mapped string of two or more code points begins with `cp`.
     pub fn begins_longer_string(&self, cp: u32) -> bool
         requires { IsTrie self.now }
-        ensures { result ≡ false → (d : ℕ) (rest : List ℕ)
+        ensures none { result ≡ false → (d : ℕ) (rest : List ℕ)
             → place_of self.now (cp ∷ d ∷ rest) ≡ None }
+        ensures some { result ≡ leads_on self.now cp }
     {
         self.pages.get(cp).entry.node.is_some()
     }
@@ -323,9 +301,36 @@ impl Trie {
     /// Whether `cp` stands after the first place in a mapped string.
     pub fn continues_string(&self, cp: u32) -> bool
         requires { IsTrie self.now }
-        ensures { result ≡ false → (first : ℕ) (prefix rest : List ℕ)
+        ensures none { result ≡ false → (first : ℕ) (prefix rest : List ℕ)
             → place_of self.now (first ∷ (prefix ++ cp ∷ rest)) ≡ None }
+        ensures some { result ≡ continues self.now cp }
     {
         self.pages.get(cp).continues
+    }
+}
+
+impl RowIndex for Trie {
+    ghost finds = { place_of };
+
+    ghost is_whole = { IsIndex };
+
+    fn new(alloc: Global) -> Trie {
+        Trie {
+            pages: Pages::new(alloc),
+            steps: BTreeMap::new(alloc),
+            firsts: FirstSteps::new(alloc),
+            nodes: 1,
+        }
+    }
+
+    fn insert(&mut self, alloc: Global, string: &[u32], place: Place) -> Result<(), AllocError> {
+        let last = string.len() - 1;
+        let node = self.follow_all(alloc, &string[..last])?;
+        self.set_place(alloc, node, string[last], place)?;
+        Ok(())
+    }
+
+    fn place(&self, string: &[u32]) -> Option<Place> {
+        self.entry(string).place
     }
 }

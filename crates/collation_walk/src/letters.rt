@@ -17,7 +17,7 @@ use collation_table::Weights;
 use nfd_points::laws::laws_of_points;
 
 /// Walks over the characters of a letter, of which the first stands at a byte offset, and hands out the range that became known, if there
-/// is one.
+/// is one. It answers whether there was one, of which no clause speaks: a caller that wants one range stops there.
 #[inline(always)]
 pub fn walk_letter<W: Weights, F: FnMut(u64, u64)>(
     matcher: &mut Matcher,
@@ -25,7 +25,7 @@ pub fn walk_letter<W: Weights, F: FnMut(u64, u64)>(
     letter: &Letter,
     start: u64,
     sink: &mut F,
-)
+) -> bool
     requires known { (letter.now.role ≢ Steps) × (is_mark letter.now.role ≡ false) }
     requires state { matcher.old.walk.state ≤ length query.now.pattern.now.keys }
     requires callable { F.IsAlwaysCallable sink.old }
@@ -53,7 +53,7 @@ fn walk_plain<W: Weights, F: FnMut(u64, u64)>(
     letter: &Letter,
     start: u64,
     sink: &mut F,
-)
+) -> bool
     requires plain { letter.now.role ≡ Plain }
     requires state { matcher.old.walk.state ≤ length query.now.pattern.now.keys }
     requires callable { F.IsAlwaysCallable sink.old }
@@ -75,6 +75,7 @@ fn walk_plain<W: Weights, F: FnMut(u64, u64)>(
     let range = matcher.walk.take_plain(pattern, symbol, start);
     matcher.weigher = Weigher::restore(pattern.strength(), pattern.variable(), false);
     call(range, sink);
+    range.is_some()
 }
 
 /// The same of any letter.
@@ -85,7 +86,7 @@ fn walk_any<W: Weights, F: FnMut(u64, u64)>(
     letter: &Letter,
     start: u64,
     sink: &mut F,
-)
+) -> bool
     requires known { (letter.now.role ≢ Steps) × (is_mark letter.now.role ≡ false) }
     requires state { matcher.old.walk.state ≤ length query.now.pattern.now.keys }
     requires callable { F.IsAlwaysCallable sink.old }
@@ -106,4 +107,5 @@ fn walk_any<W: Weights, F: FnMut(u64, u64)>(
     let after = letter.role.flag_after(matcher.weigher.after_variable());
     matcher.weigher = Weigher::restore(pattern.strength(), pattern.variable(), after);
     call(range, sink);
+    range.is_some()
 }

@@ -3,7 +3,7 @@
 
 use crate::tests::same_at;
 use collation_safe::{next_safe, previous_safe};
-use collation_table::{Table, Weights};
+use collation_table::{Strings, Table};
 use std::alloc::Global;
 use std::process::Abort;
 
@@ -73,7 +73,7 @@ fn lines_of(rt: &impl Abort, alloc: Global, bits: u32) -> String {
 }
 
 /// Goes over a text forth, and compares what is found next, and what is found back.
-fn compare<W: Weights>(rt: &impl Abort, table: &W, bits: u32, text: &[u8]) {
+fn compare<W: Strings>(rt: &impl Abort, table: &W, bits: u32, text: &[u8]) {
     let mut last = None;
     for (at, byte) in text.iter().enumerate() {
         same_at(rt, &previous_safe(table, text, at), &last, at);

@@ -1,7 +1,7 @@
-//! Which offsets of worked texts are found, forth and back, by either table and by one that tells nothing.
+//! Which offsets of worked texts are found, forth and back, by either table.
 
 use collation_safe::{is_safe, next_safe, previous_safe};
-use collation_table::{PlainTable, Table, Weights};
+use collation_table::{PlainTable, Strings, Table};
 use std::alloc::Global;
 use std::fmt::Debug;
 use std::process::Abort;
@@ -59,7 +59,7 @@ fn read(rt: &impl Abort, alloc: Global, lines: &str) -> Table {
     }
 }
 
-/// The same table, whose rows stand in an ordered map, and which tells nothing of contractions.
+/// The same table, whose rows stand in an ordered map.
 fn read_plain(rt: &impl Abort, alloc: Global, lines: &str) -> PlainTable {
     match PlainTable::read(alloc, lines.as_bytes()) {
         Ok(table) => table,
@@ -94,7 +94,7 @@ pub(crate) fn same_at<T: PartialEq + Debug>(rt: &impl Abort, got: &T, want: &T, 
 }
 
 /// Asks from each offset of a text, and from behind its end, in both directions.
-fn compare<W: Weights>(rt: &impl Abort, table: &W, text: &[u8], offsets: &[usize]) {
+fn compare<W: Strings>(rt: &impl Abort, table: &W, text: &[u8], offsets: &[usize]) {
     for at in 0..text.len().saturating_add(3) {
         same_at(
             rt,
@@ -119,7 +119,7 @@ fn compare<W: Weights>(rt: &impl Abort, table: &W, text: &[u8], offsets: &[usize
 }
 
 /// Asks in turn whether these characters are safe.
-fn compare_characters<W: Weights>(rt: &impl Abort, table: &W, letters: &str, want: bool) {
+fn compare_characters<W: Strings>(rt: &impl Abort, table: &W, letters: &str, want: bool) {
     for (at, c) in letters.chars().enumerate() {
         same_at(rt, &is_safe(table, c), &want, at);
     }
@@ -135,11 +135,11 @@ fn offsets_of_texts(rt: HostRuntime) {
 }
 
 #[test]
-fn nothing_is_told(rt: HostRuntime) {
+fn offsets_by_a_plain_table(rt: HostRuntime) {
     let table = read_plain(&rt, rt.alloc(), TABLE);
     for row in &ROWS {
-        let (text, _offsets) = *row;
-        compare(&rt, &table, text, &[]);
+        let (text, offsets) = *row;
+        compare(&rt, &table, text, offsets);
     }
 }
 

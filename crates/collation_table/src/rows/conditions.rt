@@ -1,18 +1,19 @@
 //! The conditions on a whole table (UTS #10, section 5: WF2, WF4 and WF5), each decided in one or two passes over the elements
 //! or the mapped strings.
 ghost use Rattle.std.specs.Prelude.{◌≡◌};
-ghost use Rattle.collation_table.specs.WellFormed.{AreLinesSound, breaks_wf2, breaks_wf4, breaks_wf5, map_fault};
+ghost use Rattle.collation_table.specs.WellFormed.{AreLinesSound, breaks_wf2, breaks_wf4, breaks_wf5, lacks_prefix, map_fault};
 ghost use Rattle.collation_table.specs.Bounds.{second_bound, third_bound, variable_span};
 
 use super::{Rows, points_at};
 use crate::faults::{BREAKS_WF2, BREAKS_WF4, BREAKS_WF5, NO_ENTRY};
-use crate::row_store::lacks_prefix;
+use crate::row_index::RowIndex;
+use crate::starters::is_nonstarter;
 use crate::well_formed::{
     IMPLICIT_SECOND, IMPLICIT_THIRD, any_too_light, any_within_span, greatest_second,
     greatest_third, variable_span,
 };
 
-impl Rows {
+impl<I: RowIndex> Rows<I> {
     /// The greatest second weight of the primary elements, those of implicit pairs included.
     fn greatest_second(&self) -> u16
         ensures { result ≡ second_bound self.now }
@@ -51,11 +52,22 @@ impl Rows {
         }
     }
 
+    /// Whether a mapped string of three code points or more ends in a non-starter, and is not mapped without it.
+    fn lacks_prefix(&self, string: &[u32]) -> bool
+        ensures { result ≡ lacks_prefix self.now string.now }
+    {
+        if string.len() < 3 {
+            return false;
+        }
+        let prefix = string.len() - 1;
+        is_nonstarter(string[prefix]) && !self.maps(&string[..prefix])
+    }
+
     fn breaks_wf5(&self) -> bool
         ensures { result ≡ breaks_wf5 self.now }
     {
         for places in &self.places {
-            if lacks_prefix(self, points_at(self.points.as_slice(), places.string)) {
+            if self.lacks_prefix(points_at(self.points.as_slice(), places.string)) {
                 return true;
             }
         }

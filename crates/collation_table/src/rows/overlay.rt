@@ -5,12 +5,13 @@ ghost use Rattle.collation_table.specs.Table.{is_mapped};
 ghost use Rattle.collation_table.specs.Overlay.{overlay};
 
 use super::Rows;
+use crate::row_index::RowIndex;
 use std::alloc::{AllocError, Global};
 use std::mem;
 
-impl Rows {
+impl<I: RowIndex> Rows<I> {
     /// The rows without the ranges, and the ranges without the rows. Takes no memory.
-    pub fn apart(mut self, alloc: Global) -> (Rows, Rows)
+    pub fn apart(mut self, alloc: Global) -> (Rows<I>, Rows<I>)
         ensures rows { result.0 ≡ record self { ranges = [] } }
         ensures ranges { result.1 ≡ record self { rows = [] } }
     {
@@ -20,7 +21,7 @@ impl Rows {
     }
 
     /// Whether `other` maps the string of one of the rows.
-    pub fn shares_string(&self, other: &Rows) -> bool
+    pub fn shares_string(&self, other: &Rows<I>) -> bool
         ensures { result ≡ list_any (λ row. is_mapped other.now row.0) self.now.rows }
     {
         if other.row_count() == 0 {
@@ -36,7 +37,7 @@ impl Rows {
     }
 
     /// The rows whose strings `tailor` does not map. Where it maps none of them, nothing is built anew.
-    fn without(self, alloc: Global, tailor: &Rows) -> Result<Rows, AllocError>
+    fn without(self, alloc: Global, tailor: &Rows<I>) -> Result<Rows<I>, AllocError>
         ensures { IfOk result
             (λ kept. kept.rows ≡ filter (λ row. not (is_mapped tailor.now row.0)) self.rows) }
     {
@@ -54,7 +55,7 @@ impl Rows {
     }
 
     /// The rows, and after them those of `tailor`.
-    fn followed_by(self, alloc: Global, tailor: &Rows) -> Result<Rows, AllocError>
+    fn followed_by(self, alloc: Global, tailor: &Rows<I>) -> Result<Rows<I>, AllocError>
         requires apart { list_any (λ row. is_mapped tailor.now row.0) self.rows ≡ false }
         ensures { IfOk result (λ rows. rows.rows ≡ self.rows ++ tailor.now.rows) }
     {
@@ -67,7 +68,7 @@ impl Rows {
     }
 
     /// The overlay of the rows by those of `tailor`, which has the ranges of both.
-    pub fn overlaid(self, alloc: Global, tailor: Rows) -> Result<Rows, AllocError>
+    pub fn overlaid(self, alloc: Global, tailor: Rows<I>) -> Result<Rows<I>, AllocError>
         ensures { IfOk result
             (λ rows. rows ≡ record { rows = (overlay self tailor).rows; ranges = tailor.ranges }) }
     {

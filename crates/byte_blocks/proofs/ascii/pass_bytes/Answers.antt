@@ -1,6 +1,6 @@
 use Rattle.std.proofs.Common.{◌≡◌, ℕ, suc, ◌+◌, ◌-◌, ◌≤◌, ◌<◌, List, length, get_or, subst, arith, inl, inr}
 use Rattle.std.proofs.lemmas.Bool.{both_ways, cases_lt}
-use Rattle.byte_blocks.specs.declared.ascii.AsciiSets.{AsciiSets}
+use Rattle.byte_blocks.specs.declared.sets.AsciiSets.{AsciiSets}
 use Rattle.byte_blocks.specs.Ascii.{Passes, PassesBehind}
 use Rattle.byte_blocks.proofs.PassLemmas.{ends}
 use Rattle.byte_blocks.proofs.ascii.pass_bytes.Goals as goal

@@ -1,5 +1,5 @@
 use Rattle.std.proofs.Common.{◌≡◌, ℕ, sym, subst}
-use Rattle.byte_blocks.specs.declared.two_bytes.TwoByteSets.{TwoByteSets}
+use Rattle.byte_blocks.specs.declared.sets.TwoByteSets.{TwoByteSets}
 use Rattle.byte_blocks.specs.TwoBytes.{GoesOn}
 use Rattle.byte_blocks.proofs.two_bytes.block_goes_on.Goals as goal
 

@@ -6,7 +6,7 @@ use Rattle.byte_blocks.proofs.two_bytes.going_len.Goals as goal
 
 pub loop-len-init : goal.loop-len-init
 loop-len-init c =
-    let many = c.if-limit-lt-FEWEST.false in
+    let many = c.if-limit-lt-FEWEST_IN_BLOCKS.false in
     let within = c.requires in
     record {
       within = omega (arith, many);
@@ -36,7 +36,7 @@ returns-clause-passes c =
     let i = c.loop-len.invariant in
     let some = i.some in
     let few = c.if-limit-len-ge16.false in
-    let many = c.if-limit-lt-FEWEST.false in
+    let many = c.if-limit-lt-FEWEST_IN_BLOCKS.false in
     let lanes = c.lanes_that_go_on-2.ensures.within in
     let within = i.within in
     pass-over c.args.sets.now c.args.piece.now c.loop-len.len (c.args.limit - 16) c.lanes_that_go_on-2.result c.max.result (omega (arith, many)) (omega (arith, few, within)) (omega (arith, lanes, many, c.requires))

@@ -110,6 +110,16 @@ come g c =
     come-further c.laws_of_characters.ensures (g.W.Weights.table c.args.query.now.table.now) c.args.query.now.pattern.now piece c.args.front.offset c.args.front.reach c.args.from.next l.at l.end l.c c.in-Some.next c.args.matcher.now l.matcher c.walk_letter.new.matcher i.come.0 walked.0
     i.come.2 (following g c) (walked.2 (chars (take (l.end - l.at) (drop l.at piece))) i.letter)
 
+-- one of them has handed out the one range
+pub returns-then-walk_letter-one_range-clause-come : goal.returns-then-walk_letter-one_range-clause-come
+returns-then-walk_letter-one_range-clause-come g c =
+    let i = c.characters.invariant in
+    let walked = c.walk_letter.ensures.walked in (
+      i.come.0 ++ walked.0,
+      folds-append (λ f range t. goal.F-step g f range.0 range.1 tt t) c.args.sink.now i.come.0 walked.0 c.characters.sink c.walk_letter.new.sink i.come.1 walked.1,
+      come g (goal.at.returns-then-walk_letter-one_range-clause-come g c).After-walk_letter,
+    )
+
 -- nothing is passed by behind them
 pub characters-preserved-then-at-due : goal.characters-preserved-then-at-due
 characters-preserved-then-at-due g c =

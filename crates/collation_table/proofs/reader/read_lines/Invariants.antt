@@ -7,7 +7,7 @@ use Rattle.collation_table.proofs.reader.read_lines.Given as goal
 
 abbrev pub invariant-loop-rest : goal.invariant-loop-rest
 invariant-loop-rest g l = record {
-  so_far : AfterLines (g.S.RowStore.table l.fn.earlier).ranges (forms_of l.bytes) (forms_of l.rest) l.number (g.S.RowStore.table l.rows);
+  so_far : AfterLines l.fn.earlier.ranges (forms_of l.bytes) (forms_of l.rest) l.number l.rows;
   counted : l.number + length l.rest ≤ length l.bytes;
 }
 

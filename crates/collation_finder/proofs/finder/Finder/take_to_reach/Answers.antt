@@ -1,15 +1,12 @@
 use Rattle.std.specs.Str.{chars}
-use Rattle.std.proofs.Common.{◌∙◌, ℕ, List, [], ◌++◌, take, slice_get, refl, sym, ap, subst, append_assoc}
+use Rattle.std.proofs.Common.{◌∙◌, ℕ, List, [], ◌++◌, take, refl, sym, ap, subst, append_assoc}
 use Rattle.std.proofs.lemmas.List.{append-nil}
 use Rattle.std.proofs.lemmas.Str.{chars-nil}
 use Rattle.nfd_points.specs.declared.points.Point.{Point}
-use Rattle.nfd_points.specs.Points.{byte_len, points, begins_with_starter}
 use Rattle.collation_table.specs.Table.{TableMap}
-use Rattle.collation_finder.specs.Apart.{EndsBefore, IsPausedBefore}
+use Rattle.collation_finder.specs.Apart.{IsPausedBefore}
 use Rattle.collation_finder.specs.Early.{IsCutUpTo}
 use Rattle.collation_finder.specs.Finding.{FinderStandsFor}
-use Rattle.collation_finder.proofs.ApartLemmas.{begun}
-use Rattle.collation_finder.proofs.CharacterLemmas.{apart-at}
 use Rattle.collation_walk.proofs.Folds.{folds-append}
 use Rattle.collation_finder.proofs.finder.Finder.take_to_reach.Goals as goal
 
@@ -36,10 +33,7 @@ returns-then-not-can_begin-clause-taken g c =
     )
 
 pub go_on-requires-clause-begins : goal.go_on-requires-clause-begins
-go_on-requires-clause-begins g c =
-    let table = g.W.Weights.table c.args.query.now.table.now in
-    let b = begun c.laws_of_characters.ensures.short c.args.front.offset c.in-Some-first_character.first in
-    ap begins_with_starter b.is ∙ (apart-at c.laws_of_characters.ensures.shifted table c.args.query.now.pattern.now c.in-Some-first_character.first c.letter-letter.result c.args.front.offset (c.can_begin.ensures.apart c.if-not-can_begin.false) c.letter-letter.ensures.letter b.first (ap (λ t. slice_get t 0) b.is)).0
+go_on-requires-clause-begins g c = (c.can_begin.ensures.begins c.if-not-can_begin.false).starter
 
 pub returns-clause-taken : goal.returns-clause-taken
 returns-clause-taken g c =
@@ -52,9 +46,7 @@ returns-clause-taken g c =
       held.0 ++ on.0,
       folds-append (λ f range t. goal.F-step g f range.0 range.1 tt t) c.args.sink.now held.0 on.0 c.pause.new.sink c.go_on.new.sink held.1 on.1,
       λ taken handed h place.
-          let ends : EndsBefore table (points taken) (byte_len taken) c.in-Some-first_character.first = λ x is more.
-          let begins = apart-at c.laws_of_characters.ensures.shifted table pattern c.in-Some-first_character.first c.letter-letter.result (byte_len taken) (c.can_begin.ensures.apart c.if-not-can_begin.false) c.letter-letter.ensures.letter x is in
-          c.units_stay_apart.ensures.before table (points taken) x more begins.0 begins.1 in
+          let ends = (c.can_begin.ensures.begins c.if-not-can_begin.false).ends taken place in
           let paused : IsPausedBefore table pattern before.reorder before.window before.matcher taken (handed ++ held.0) c.in-Some-first_character.first = record { paused = held.2 taken handed h; ends = ends } in
           subst (λ (t : List (ℕ × ℕ)). FinderStandsFor table pattern now (taken ++ chars (take c.go_on.result c.args.front.piece.now)) t) (append_assoc handed held.0 on.0)
           (on.2 taken (handed ++ held.0) paused place),
@@ -77,8 +69,6 @@ returns-clause-left g c = λ place taken handed h here reach before.
     let pattern = c.args.query.now.pattern.now in
     let held = c.pause.ensures.paused in
     let paused = c.pause.new.self in
-    let ends : EndsBefore table (points taken) (byte_len taken) c.in-Some-first_character.first = λ x is more.
-    let begins = apart-at c.laws_of_characters.ensures.shifted table pattern c.in-Some-first_character.first c.letter-letter.result (byte_len taken) (c.can_begin.ensures.apart c.if-not-can_begin.false) c.letter-letter.ensures.letter x is in
-    c.units_stay_apart.ensures.before table (points taken) x more begins.0 begins.1 in
+    let ends = (c.can_begin.ensures.begins c.if-not-can_begin.false).ends taken here in
     let first : IsPausedBefore table pattern paused.reorder paused.window paused.matcher taken (handed ++ held.0) c.in-Some-first_character.first = record { paused = held.2 taken handed h; ends = ends } in
     c.go_on.ensures.left place taken (handed ++ held.0) first here reach

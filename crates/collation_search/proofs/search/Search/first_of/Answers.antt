@@ -2,54 +2,57 @@ use Rattle.std.proofs.Common.{◌≡◌, ◌∙◌, ℕ, List, [], ◌++◌, len
 use Rattle.std.proofs.lemmas.Bool.{eqb-true}
 use Rattle.std.proofs.lemmas.List.{append-nil, nil_from_length}
 use Rattle.collation_matches.specs.declared.faults.TextFault.{TextFault}
-use Rattle.collation_matches.specs.Sought.{Sought, IsCompiledFrom}
+use Rattle.collation_matches.specs.Sought.{Sought, IsCompiledFrom, answer_to}
 use Rattle.collation_search.specs.Feeding.{fault_of}
-use Rattle.collation_search.specs.Indexing.{range_or_fault}
+use Rattle.collation_search.specs.Indexing.{range_or_fault, IsFirstSoFar}
 use Rattle.collation_search.specs.Search.{HasSearched, sought}
-use Rattle.collation_search.proofs.FirstLemmas.{first_to, next-piece, first-fed, fault-fed, none-fed, first-ended}
+use Rattle.collation_search.proofs.FirstLemmas.{first_to, next-piece, first-ended}
 use Rattle.collation_search.proofs.search.Search.first_of.Goals as goal
 
 abbrev ok_of : Option (ℕ × ℕ) → Result (Option (ℕ × ℕ)) TextFault
 ok_of range = Ok range
 
+pub feed_first-requires : goal.feed_first-requires
+feed_first-requires g c = record { none = c.loop-rest.invariant.taken.2.no_fault }
+
 pub returns-in-Err-clause-first : goal.returns-in-Err-clause-first
 returns-in-Err-clause-first g c = λ p compiled.
     let i = c.loop-rest.invariant in
-    let fed = c.feed_first.ensures.fed in
+    let s = sought c.loop-rest.self in
     let piece = c.split_at.result.0.now in
     let later = c.split_at.result.1.now in
     let all = next-piece c.args.text.now i.taken.0 c.loop-rest.rest.now c.min.result piece later i.taken.1 c.split_at.ensures.front c.split_at.ensures.back in
-    let answered = fault-fed c.loop-rest.self c.feed_first.new.self p i.taken.0 piece later fed.1 fed.0 c.in-Err.fault fed.2 i.taken.2
-    (subst (λ (t : Sought). IsCompiledFrom t p) (sym i.same) compiled) (sym fed.3 ∙ c.in-Err.is) in
+    let told = c.feed_first.ensures.first p i.taken.0 later (subst (λ (t : Sought). IsCompiledFrom t p) (sym i.same) compiled) i.taken.2 in
+    let answered : Err c.in-Err.fault ≡ first_to s p ((i.taken.0 ++ piece) ++ later) = subst (IsFirstSoFar (answer_to s p ((i.taken.0 ++ piece) ++ later))) c.in-Err.is told in
     subst (λ (text : List ℕ). Err c.in-Err.fault ≡ first_to (sought c.args.self.now) p text) (sym all)
     (subst (λ (s : Sought). Err c.in-Err.fault ≡ first_to s p ((i.taken.0 ++ piece) ++ later)) i.same answered)
 
 pub returns-in-Ok-Some-clause-first : goal.returns-in-Ok-Some-clause-first
 returns-in-Ok-Some-clause-first g c = λ p compiled.
     let i = c.loop-rest.invariant in
-    let fed = c.feed_first.ensures.fed in
+    let s = sought c.loop-rest.self in
     let piece = c.split_at.result.0.now in
     let later = c.split_at.result.1.now in
     let range = c.in-Ok-Some.range in
     let all = next-piece c.args.text.now i.taken.0 c.loop-rest.rest.now c.min.result piece later i.taken.1 c.split_at.ensures.front c.split_at.ensures.back in
-    let answered = first-fed c.loop-rest.self c.feed_first.new.self p i.taken.0 piece later fed.1 fed.0 range fed.2 i.taken.2
-    (subst (λ (t : Sought). IsCompiledFrom t p) (sym i.same) compiled) c.has_handed_out.ensures.begins (sym fed.3 ∙ c.in-Ok-Some.is ∙ ap ok_of c.in-Ok-Some.field-0-is) in
+    let told = c.feed_first.ensures.first p i.taken.0 later (subst (λ (t : Sought). IsCompiledFrom t p) (sym i.same) compiled) i.taken.2 in
+    let answered : Ok (Some range) ≡ first_to s p ((i.taken.0 ++ piece) ++ later) =
+    subst (IsFirstSoFar (answer_to s p ((i.taken.0 ++ piece) ++ later))) (c.in-Ok-Some.is ∙ ap ok_of c.in-Ok-Some.field-0-is) told in
     subst (λ (text : List ℕ). Ok (Some range) ≡ first_to (sought c.args.self.now) p text) (sym all)
     (subst (λ (s : Sought). Ok (Some range) ≡ first_to s p ((i.taken.0 ++ piece) ++ later)) i.same answered)
 
 pub loop-rest-preserved : goal.loop-rest-preserved
 loop-rest-preserved g c =
     let i = c.loop-rest.invariant in
-    let fed = c.feed_first.ensures.fed in
     let piece = c.split_at.result.0.now in
     record {
       some = omega (arith, c.min-len.ensures, i.some);
       few = omega (arith, c.min-len.ensures);
-      same = fed.2.same_sought ∙ i.same;
+      same = c.feed_first.ensures.sought ∙ i.same;
       taken = (
         i.taken.0 ++ piece,
         next-piece c.args.text.now i.taken.0 c.loop-rest.rest.now c.min.result piece c.split_at.result.1.now i.taken.1 c.split_at.ensures.front c.split_at.ensures.back,
-        none-fed c.loop-rest.self c.feed_first.new.self i.taken.0 piece fed.1 fed.0 fed.2 i.taken.2 (sym fed.3 ∙ c.in-Ok-None.is ∙ ap ok_of c.in-Ok-None.field-0-is),
+        c.feed_first.ensures.none i.taken.0 i.taken.2 (c.in-Ok-None.is ∙ ap ok_of c.in-Ok-None.field-0-is),
       );
     }
 

@@ -9,6 +9,4 @@ invariant_of-result c =
     record {
       well_formed = IsWellFormed-from_tests c.args.rows c.fault.ensures.lines none;
       sizes = HasSizes-from_lines c.args.rows c.fault.ensures.lines none;
-      longest_is = c.longest_key-longest.ensures;
-      largest_is = c.most_elements-largest.ensures;
     }

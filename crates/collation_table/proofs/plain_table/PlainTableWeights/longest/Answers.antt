@@ -5,7 +5,7 @@ use Rattle.collation_table.proofs.plain_table.PlainTableWeights.longest.Goals as
 pub loop-length-init : goal.loop-length-init
 loop-length-init c = record {
   within = omega (arith, c.min-length.ensures);
-  longest = prefix_start c.args.self.now.rows c.args.points.now _ (c.min-length.ensures ∙ ap (min (length c.args.points.now)) c.args.self.now.longest_is);
+  longest = prefix_start c.args.self.now.rows c.args.points.now _ (c.min-length.ensures ∙ ap (min (length c.args.points.now)) c.longest_key.ensures);
 }
 
 pub loop-length-preserved : goal.loop-length-preserved

@@ -7,7 +7,7 @@ use Rattle.collation_table.proofs.ElementLemmas.{breaks_wf2-by_bounds}
 use Rattle.collation_table.proofs.rows.Rows.breaks_wf2.Goals as goal
 
 pub returns : goal.returns
-returns c =
+returns g c =
     let second = c.greatest_second-second.result in
     let third = c.greatest_third-third.result in
     let all : table_elements c.args.self.now ≡ c.self.inside.elements.items = sym (ap (λ (T : TableMap). table_elements T) c.self.view_is) ∙ c.self.invariant.1.all in

@@ -6,7 +6,7 @@ use Rattle.collation_table.proofs.IndexLemmas.{any-rest}
 use Rattle.collation_table.proofs.rows.Rows.breaks_wf5.Goals as goal
 
 pub loop-places-preserved : goal.loop-places-preserved
-loop-places-preserved c =
+loop-places-preserved g c =
     let i = c.loop-places.places-index in
     let T = c.args.self.now in
     let none : RowPlaces = record { string = record { start = 0; end = 0 }; row = record { start = 0; end = 0 } } in

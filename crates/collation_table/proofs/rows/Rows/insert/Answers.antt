@@ -8,21 +8,21 @@ use Rattle.collation_table.proofs.IndexLemmas.{IsIndexed-push, rows_at-push}
 use Rattle.collation_table.proofs.rows.Rows.insert.Goals as goal
 
 pub invariant_of-self : goal.invariant_of-self
-invariant_of-self c =
+invariant_of-self g c =
     let a = c.self.inside in
     let string = c.args.string.now in
     let row = c.args.row.now in
     let r : RowPlaces = record { string = after a.points.items string; row = after a.elements.items row } in
     let absent = rw (← c.self.view_is) at c.requires.absent in
     let rows = rows_at-push a.points.items string a.elements.items row a.places.items r c.self.invariant.1.within refl refl refl refl in
-    let indexed = IsIndexed-push a.points.items string a.elements.items row a.places.items r a.trie c.store-stored.new.trie a.longest a.largest c.self.invariant.1 absent refl refl refl refl
-    c.in-Ok.ensures.trie c.in-Ok.ensures.here c.in-Ok.ensures.others in
+    let indexed = IsIndexed-push a.points.items string a.elements.items row a.places.items r (g.I.RowIndex.finds a.index) (g.I.RowIndex.finds c.store-stored.new.index) a.longest a.largest c.self.invariant.1 absent refl refl refl refl
+    c.in-Ok.ensures.here c.in-Ok.ensures.others in
     let sound : AreLinesSound (record { rows = rows_at (a.points.items ++ string) (a.elements.items ++ row) (a.places.items ++ r ∷ []); ranges = a.ranges.items }) =
     rw rows (record { rows = AllByRecursion-push _ _ _ c.self.invariant.0.rows c.requires.sound; distinct = AreStringsDistinct-push _ string row c.self.invariant.0.distinct absent; ranges = c.self.invariant.0.ranges }) in
-    rw (c.in-Ok.ensures.points, c.in-Ok.ensures.elements, c.in-Ok.ensures.places, c.max-self-inside.ensures, c.max-self-inside-in-Ok.ensures) (sound, indexed)
+    rw (c.in-Ok.ensures.points, c.in-Ok.ensures.elements, c.in-Ok.ensures.places, c.max-self-inside.ensures, c.max-self-inside-in-Ok.ensures) (sound, indexed, c.in-Ok.ensures.whole)
 
 pub returns-in-Ok : goal.returns-in-Ok
-returns-in-Ok c =
+returns-in-Ok g c =
     let a = c.self.inside in
     let string = c.args.string.now in
     let row = c.args.row.now in

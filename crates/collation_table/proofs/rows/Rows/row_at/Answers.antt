@@ -7,7 +7,7 @@ use Rattle.collation_table.proofs.RowLemmas.{AllByRecursion-at}
 use Rattle.collation_table.proofs.rows.Rows.row_at.Goals as goal
 
 pub returns-clause-sound : goal.returns-clause-sound
-returns-clause-sound c =
+returns-clause-sound g c =
     let a = c.self.inside in
     let r = c.index-places.result.now in
     let row : List ℕ × List Element = (c.points_at.result.now, c.elements_at.result.now) in
@@ -19,7 +19,7 @@ returns-clause-sound c =
     AllByRecursion-at (λ row. IsRowSound row.0 row.1) _ c.args.number row c.self.invariant.0.rows at
 
 pub returns-clause-distinct : goal.returns-clause-distinct
-returns-clause-distinct c =
+returns-clause-distinct g c =
     let a = c.self.inside in
     let r = c.index-places.result.now in
     let row : List ℕ × List Element = (c.points_at.result.now, c.elements_at.result.now) in

@@ -5,4 +5,4 @@ use Rattle.collation_table.specs.Table.{is_mapped}
 use Rattle.collation_table.proofs.rows.Rows.shares_string.Given as goal
 
 abbrev pub invariant-loop-number : goal.invariant-loop-number
-invariant-loop-number l = list_any (λ row. is_mapped l.other row.0) (drop l.number l.self.rows) ≡ list_any (λ row. is_mapped l.other row.0) l.self.rows
+invariant-loop-number g l = list_any (λ row. is_mapped l.other row.0) (drop l.number l.self.rows) ≡ list_any (λ row. is_mapped l.other row.0) l.self.rows

@@ -1,0 +1,9 @@
+use Rattle.std.proofs.Common.{refl}
+use Rattle.colfind_c.proofs.ExportLemmas.{equal_seen}
+use Rattle.colfind_c.proofs.anchored.equal_to.Goals as goal
+
+pub returns-in-Ok : goal.returns-in-Ok
+returns-in-Ok c = equal_seen c.args.query.now c.deref.result.now c.args.text.now _ c.deref.ensures c.in-Ok.ensures.answer
+
+pub returns-in-Err : goal.returns-in-Err
+returns-in-Err c = (refl, equal_seen c.args.query.now c.deref.result.now c.args.text.now _ c.deref.ensures c.in-Err.ensures.answer)

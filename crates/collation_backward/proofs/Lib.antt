@@ -1,0 +1,6 @@
+pub mod Ranges
+pub mod BackwardCalls
+pub mod Told
+pub mod SaidInPieces
+pub mod Behind
+mod WorkedRowLemmas

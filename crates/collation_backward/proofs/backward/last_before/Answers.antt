@@ -1,0 +1,16 @@
+use Rattle.std.proofs.Common.{◌≡◌, Ok, sym, subst, inr}
+use Rattle.collation_matches.specs.Sought.{Sought, IsCompiledFrom, answer_to}
+use Rattle.collation_backward.specs.Backward.{last_up_to, IsToldBefore}
+use Rattle.collation_backward.proofs.backward.last_before.Goals as goal
+
+pub returns-clause-good : goal.returns-clause-good
+returns-clause-good g c = λ p compiled few clean.
+    let same = c.in-Ok.ensures.sought in
+    inr (subst (λ (s : Sought). c.last_before.result ≡ Ok (last_up_to c.args.at (answer_to s p c.args.text.now).ranges)) same
+    (c.last_before.ensures.good p (subst (λ (s : Sought). IsCompiledFrom s p) (sym same) compiled) few clean))
+
+pub returns-clause-told : goal.returns-clause-told
+returns-clause-told g c = λ p compiled.
+    let same = c.in-Ok.ensures.sought in
+    inr (subst (λ (s : Sought). IsToldBefore s p c.args.text.now c.args.at c.last_before.result) same
+    (c.last_before.ensures.told p (subst (λ (s : Sought). IsCompiledFrom s p) (sym same) compiled)))

@@ -1,0 +1,4 @@
+pub mod Backward
+pub mod Going
+pub mod Laws
+pub mod WorkedRows

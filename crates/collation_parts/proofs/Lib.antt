@@ -1,0 +1,4 @@
+pub mod PartAnswers
+pub mod PartedTexts
+pub mod Calls
+pub mod WorkedRowLemmas

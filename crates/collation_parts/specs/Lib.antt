@@ -1,0 +1,4 @@
+pub mod Parts
+pub mod PartedLaws
+pub mod Handing
+pub mod WorkedRows
