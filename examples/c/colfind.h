@@ -75,11 +75,12 @@ enum colfind_kind {
     COLFIND_WRONG_HANDLE = 82, /* a handle holds something else, or nothing */
     COLFIND_ENDED = 83,        /* the search was finished or stopped */
     COLFIND_SMALL_BUFFER = 84, /* `at` says how many words, or ranges, need room */
-    COLFIND_BAD_ARGUMENT = 85  /* a number that is none of the ones below, a pattern that is no UTF-8, or an offset behind the text */
+    COLFIND_BAD_ARGUMENT = 85  /* a number that is none of the ones below, a pattern that is no UTF-8, an offset behind the text, or a part
+                                * that ends before it begins */
 };
 /* With 14, 24, 36, 53 and 81 memory was refused: all handles are as they were, and the call can be made again. So they are with each other
  * fault, but for a search that was fed a fault of its text, or 51 by colfind_feed. colfind_all_in gives up what was fed before in each case
- * but 82 and 83. */
+ * but 82 and 83, and colfind_search_part in each but 82, 83 and 85. */
 
 enum { COLFIND_ALL = 0, COLFIND_CHAIN = 1 };             /* selection: all minimal matches, or a chain that do not overlap */
 enum { COLFIND_NON_IGNORABLE = 0, COLFIND_SHIFTED = 1 }; /* variable weighting */
@@ -124,10 +125,10 @@ size_t colfind_take(colfind_handle *search, colfind_range *out, size_t room);
 typedef struct { colfind_status status; size_t words; } colfind_saved;
 colfind_saved colfind_save(colfind_handle *search, uint64_t *words, size_t room);
 
-/* The first range, if `is_found` is 1. With a fault there is none before it. */
+/* A range, if `is_found` is 1; else `is_found` is 0, and so are the offsets. Beside a fault there is none. */
 typedef struct { colfind_status status; uint32_t is_found; colfind_range range; } colfind_first;
 
-/* The first range of a text in memory. */
+/* The first range of a text in memory. With a fault there is none before it. */
 colfind_first colfind_index(colfind_handle *pattern, const uint8_t *text, size_t n);
 
 /* The first range of what stands in the text from an offset on, taken as a text by itself. Offsets are from the beginning of the text. */
@@ -141,17 +142,31 @@ colfind_first colfind_first_in(colfind_handle *search, const uint8_t *text, size
  * fed is given up, as by colfind_first_in. */
 uint32_t colfind_has(colfind_handle *search, const uint8_t *text, size_t n);
 
-/* Whether a whole text in memory is equal to the pattern: `is_equal` is 1 where their sort keys are the same, else 0. Ignorable characters at
- * the ends of the text belong to it. It stops behind the first letter that differs. A fault is told where it stands before the answer is
- * decided. Memory is asked for at each call; where it is refused, 36 at 0. */
+/* Whether a whole text in memory is equal to a pattern, or to that of a search: `is_equal` is 1 where their sort keys are the same, else 0,
+ * also beside a fault. Ignorable characters at the ends of the text belong to it. It stops behind the first letter that differs. A fault is
+ * told where it stands before the answer is decided. With a pattern memory is asked for at each call. A search keeps it for the next text,
+ * which is faster for many short ones, and what it was fed stays. Where memory is refused, 36 at 0. */
 typedef struct { colfind_status status; uint32_t is_equal; } colfind_equality;
-colfind_equality colfind_equal(colfind_handle *pattern, const uint8_t *text, size_t n);
+colfind_equality colfind_equal(colfind_handle *handle, const uint8_t *text, size_t n);
 
 /* The shortest match that begins where the text begins: `range` is from 0 to its end. Ignorable characters in front belong to it. It stops
  * where that is decided, and asks for memory as colfind_equal. A fault is told where it stands before that. */
-colfind_first colfind_begins(colfind_handle *pattern, const uint8_t *text, size_t n);
+colfind_first colfind_begins(colfind_handle *handle, const uint8_t *text, size_t n);
 
-/* An offset, if `is_found` is 1. */
+/* The last range of a text in memory that ends at `at` or before it: what is met first going back from there, a range or a fault. `at` is in
+ * bytes from the beginning of the text, and may be within a character, or behind the end, which is as at the end. It begins at a safe offset
+ * some way back, reads on up to `at`, and behind it until a cluster begins, and goes further back where it found nothing. The range before
+ * the one that was told is asked for by `range.end - 1`. A fault is told where it stands before `at` and no range was found behind it: it is
+ * the first one of the text from a safe offset on, or from the beginning. Memory is asked for at each call; where it is refused, 36 at 0. */
+colfind_first colfind_last_before(colfind_handle *pattern, const uint8_t *text, size_t n, size_t at);
+
+/* The shortest match that ends where the text ends: `range` is from its start to `n`. Ignorable characters behind it belong to it. It goes
+ * back from the end as colfind_last_before, but no further than to where the rest has no range and more keys than the pattern: a fault in
+ * front of that may not be told. Memory is asked for at each call; where it is refused, 36 at 0, but without room to count keys it only goes
+ * further back. */
+colfind_first colfind_ends(colfind_handle *pattern, const uint8_t *text, size_t n);
+
+/* An offset, if `is_found` is 1; else both are 0. */
 typedef struct { colfind_status status; uint32_t is_found; uint64_t at; } colfind_place;
 
 /* The nearest safe offset at `from` or behind it, and the nearest one before `before`: a search that begins there finds what the whole text
@@ -167,6 +182,17 @@ colfind_place colfind_previous_safe(colfind_handle *handle, const uint8_t *bytes
  * What the search was fed is given up, with the ranges that wait; then it is at the beginning of a text. */
 typedef struct { colfind_status status; size_t count; } colfind_all;
 colfind_all colfind_all_in(colfind_handle *search, const uint8_t *text, size_t n, colfind_range *out, size_t room);
+
+/* Searches one part of a text in memory, from the offset `from` to the offset `to`, by a search that was made before: the ranges that begin
+ * there wait for colfind_take. It reads on behind `to` as far as one of them may reach. Parts of which each begins where the one before
+ * ends, at safe offsets, have together, of a search for all ranges, those of the text, up to the first part with a fault, with which the
+ * text ends; they may be searched at the same time, by a search each. Of a search for a chain each part has a chain of its own. A fault is
+ * told with the ranges before it where it stands at `to` or before it, the first one from `from` on; one behind `to` belongs to a later part.
+ * `to` may be behind the end; 85 where `from` is, or where `to` stands before `from`. What the search was fed is given up, with the ranges
+ * that waited; then it is at the beginning of a text. Memory is asked for as the ranges come, and kept for the next part; where it is
+ * refused, 81, and no range waits. Take all ranges before the search is fed, finished or stopped: else those of the next text come behind
+ * them, counted from its own beginning. */
+colfind_status colfind_search_part(colfind_handle *search, const uint8_t *text, size_t n, size_t from, size_t to);
 
 /* Writes what a status says as `fault K at N: words`, ended by a zero byte, or as much of it as has room: how many bytes it has without
  * the zero byte, so that a greater number than room - 1 says that it was cut. No text is longer than 160 bytes. */

@@ -13,7 +13,7 @@
 /* ---- requests for memory: the one of this number is refused, 0 for none */
 
 static long refuse_at, asked, refusals;
-static long wholes, fronts, undecided, safe_places; /* how often each answer has come */
+static long wholes, fronts, undecided, safe_places, backward, endings, parted; /* how often each answer has come */
 void *__real_malloc(size_t n);
 void *__real_realloc(void *p, size_t n);
 void *__wrap_malloc(size_t n) { return ++asked == refuse_at ? NULL : __real_malloc(n); }
@@ -144,6 +144,7 @@ static void by_library(colfind_handle *pattern, const uint8_t *text, size_t n, i
         assert(is(colfind_feed(&search, text, n), COLFIND_ENDED, 0) && is(colfind_finish(&search), COLFIND_ENDED, 0));
         assert(is(colfind_stop(&search), COLFIND_ENDED, 0) && is(colfind_save(&search, words, MOST).status, COLFIND_ENDED, 0));
         assert(is(colfind_first_in(&search, text, n, 0).status, COLFIND_ENDED, 0));
+        assert(is(colfind_search_part(&search, text, n, 0, n), COLFIND_ENDED, 0));
     }
     take_some(&search, out, MOST - out->count);
     out->fault = status;
@@ -180,6 +181,32 @@ static void all_at_once(colfind_handle *pattern, const uint8_t *text, size_t n, 
     colfind_free(&search);
 }
 
+static int same_told(colfind_first a, colfind_first b) {
+    return a.status.kind == b.status.kind && a.status.at == b.status.at && a.is_found == b.is_found && a.range.start == b.range.start &&
+           a.range.end == b.range.end;
+}
+
+/* The same answers by a search amid a text, twice, which goes on as if nothing had been asked; and where it has ended. */
+static void by_a_search(colfind_handle *pattern, const uint8_t *text, size_t n, colfind_equality wanted, colfind_first first) {
+    colfind_handle search = {0};
+    colfind_status status;
+    colfind_equality equality;
+    colfind_first begun;
+    assert(colfind_search(pattern, &search, COLFIND_ALL).kind == 0);
+    for (int i = 0; i < 3; i++) {
+        if (i < 2) assert(colfind_feed(&search, BYTES("\344\270\201")).kind == 0);
+        else assert(colfind_stop(&search).kind == 0);
+        size_t waiting = colfind_pending(&search);
+        IN_TURN(status, search, (equality = colfind_equal(&search, text, n)).status);
+        assert(equality.is_equal == wanted.is_equal && is(status, wanted.status.kind, wanted.status.at));
+        IN_TURN(status, search, (begun = colfind_begins(&search, text, n)).status);
+        assert(same_told(begun, first) && colfind_pending(&search) == waiting);
+        asked = 0;
+        assert(colfind_equal(&search, text, n).is_equal == wanted.is_equal && asked == 0);
+    }
+    colfind_free(&search);
+}
+
 /* Whether a text is equal to the pattern, and which match begins it, beside the first range of the text between letters that stand nowhere
  * else, for a pattern between these. */
 #define GUARD "\344\270\201"
@@ -203,7 +230,111 @@ static void from_the_beginning(colfind_handle *table, colfind_handle *pattern, c
     assert(first.is_found == wanted.is_found && (!status.kind || is(wanted.status, status.kind, status.at + 3)));
     if (first.is_found) assert(!status.kind && first.range.start == 0 && first.range.end + 3 == wanted.range.end);
     wholes += equality.is_equal, fronts += first.is_found, undecided += status.kind != 0;
+    by_a_search(pattern, text, n, equality, first);
     colfind_free(&whole), colfind_free(&front);
+}
+
+/* What the text from an offset on says up to another one: the fault, if it stands before that, else the last range that ends there or before. */
+static colfind_first said_from(colfind_handle *search, const uint8_t *text, size_t n, size_t from, size_t at) {
+    static answer rest;
+    colfind_first said = {0};
+    colfind_all all = colfind_all_in(search, text + from, n - from, rest.ranges, MOST);
+    if (all.status.kind && all.status.at + from < at) {
+        said.status = (colfind_status){all.status.kind, all.status.at + from};
+        return said;
+    }
+    for (size_t i = 0; i < all.count; i++)
+        if (rest.ranges[i].end + from <= at)
+            said.is_found = 1, said.range = (colfind_range){rest.ranges[i].start + from, rest.ranges[i].end + from};
+    return said;
+}
+
+/* What is met first going back: what the nearest safe offset says that says something, or the whole text. */
+static colfind_first met_first(colfind_handle *search, const uint8_t *text, size_t n, size_t at) {
+    for (size_t end = at < n ? at : n; ; ) {
+        colfind_place place = colfind_previous_safe(search, text, n, end);
+        colfind_first said = said_from(search, text, n, place.at, at);
+        if (said.is_found || said.status.kind || !place.is_found) return said;
+        end = place.at;
+    }
+}
+
+/* The last range before some offsets, and the match that ends where the text ends. Without a fault that is the range, up to a letter that
+ * stands nowhere else, of the pattern before this letter. */
+static void going_back(colfind_handle *table, colfind_handle *pattern, const char *word, int strength, int shifted, const uint8_t *text,
+                       size_t n) {
+    colfind_handle search = {0}, back = {0};
+    colfind_status status;
+    colfind_first first, wanted;
+    uint8_t guarded[MOST + 3];
+    char sought_back[64];
+    assert(colfind_search(pattern, &search, COLFIND_ALL).kind == 0);
+    for (int i = 0; i < 4; i++) {
+        size_t at = i ? below(n + 2) : n;
+        IN_TURN(status, *pattern, (first = colfind_last_before(pattern, text, n, at)).status);
+        assert(same_told(first, met_first(&search, text, n, at)));
+        backward += first.is_found;
+    }
+    snprintf(sought_back, sizeof sought_back, "%s" GUARD, word);
+    memcpy(guarded, text, n), memcpy(guarded + n, GUARD, 3);
+    assert(colfind_pattern(table, &back, BYTES(sought_back), (uint8_t)strength, (uint8_t)shifted).kind == 0);
+    IN_TURN(status, *pattern, (first = colfind_ends(pattern, text, n)).status);
+    wanted = colfind_index(&back, guarded, n + 3);
+    if (wanted.status.kind) {
+        wanted = met_first(&search, text, n, n);
+        if (wanted.is_found && !colfind_equal(pattern, text + wanted.range.start, n - wanted.range.start).is_equal) wanted = (colfind_first){0};
+    }
+    if (wanted.is_found) wanted.range.end = n;
+    assert(same_told(first, wanted));
+    endings += first.is_found;
+    colfind_free(&search), colfind_free(&back);
+}
+
+/* Searches a part, each request for memory refused in turn: then no range waits, or the search went on without. */
+static colfind_status part_in_turn(colfind_handle *search, const uint8_t *text, size_t n, size_t from, size_t to) {
+    for (long turn = 1;; turn++) {
+        asked = 0, refuse_at = turn;
+        colfind_status status = seen(colfind_search_part(search, text, n, from, to));
+        refuse_at = 0;
+        if (is_refusal(status.kind)) assert(is(status, COLFIND_NO_MEMORY, 0) && colfind_pending(search) == 0);
+        else if (asked < turn) return status;
+        refusals += asked >= turn;
+    }
+}
+
+/* A part between two offsets, beside the ranges of the rest of the text; and parts between safe offsets, beside those of the whole text. */
+static void in_parts(colfind_handle *pattern, const uint8_t *text, size_t n, int chain) {
+    static answer all, got;
+    colfind_handle search = {0}, other = {0};
+    colfind_status status;
+    size_t from = below(n + 1), to = from + below(n + 3 - from), cut, at = 0;
+    assert(colfind_search(pattern, &search, chain).kind == 0 && colfind_search(pattern, &other, chain).kind == 0);
+    assert(colfind_feed(&search, BYTES("resume aa res")).kind == 0);
+    status = part_in_turn(&search, text, n, from, to);
+    got.count = colfind_take(&search, got.ranges, MOST);
+    colfind_all rest = colfind_all_in(&other, text + from, n - from, all.ranges, MOST);
+    if (rest.status.kind && rest.status.at + from <= to) assert(is(status, rest.status.kind, rest.status.at + from));
+    else assert(is(status, COLFIND_GOOD, 0));
+    for (size_t i = 0; i < rest.count && all.ranges[i].start + from < to; i++, at++)
+        assert(at < got.count && got.ranges[i].start == all.ranges[i].start + from && got.ranges[i].end == all.ranges[i].end + from);
+    assert(at == got.count && colfind_feed(&search, BYTES("a")).kind == 0);
+    assert(is(colfind_search_part(&search, text, n, n + 1, n + 1), COLFIND_BAD_ARGUMENT, 0));
+    if (from) assert(is(colfind_search_part(&search, text, n, from, from - 1), COLFIND_BAD_ARGUMENT, 0));
+    colfind_free(&search), colfind_free(&other);
+    assert(colfind_search(pattern, &search, COLFIND_ALL).kind == 0 && colfind_search(pattern, &other, COLFIND_ALL).kind == 0);
+    rest = colfind_all_in(&other, text, n, all.ranges, MOST);
+    got.count = 0;
+    for (at = 0, cut = 0, status.kind = 0; !status.kind && (at < n || cut == 0); at = cut) {
+        colfind_place place = colfind_next_safe(&search, text, n, at + 1 + below(40));
+        cut = place.is_found ? place.at : n;
+        status = seen(colfind_search_part(&search, text, n, at, cut));
+        take_some(&search, &got, MOST - got.count);
+        parted++;
+        if (cut == n) break;
+    }
+    assert(status.kind == rest.status.kind && status.at == rest.status.at && got.count == rest.count);
+    assert(memcmp(got.ranges, all.ranges, got.count * sizeof *got.ranges) == 0);
+    colfind_free(&search), colfind_free(&other);
 }
 
 /* The word in the midst of characters of which some are ignored. */
@@ -262,7 +393,11 @@ static void random_round(const char *table_name, const char *program, colfind_ha
     all_at_once(&pattern, text, n, chain, &wanted);
     from_the_beginning(table, &pattern, word, strength, shifted, text, n);
     safe_offsets(table, &pattern, text, n);
-    from_the_beginning(table, &pattern, word, strength, shifted, around, text_around(word, around));
+    going_back(table, &pattern, word, strength, shifted, text, n);
+    in_parts(&pattern, text, n, chain);
+    size_t len = text_around(word, around);
+    from_the_beginning(table, &pattern, word, strength, shifted, around, len);
+    going_back(table, &pattern, word, strength, shifted, around, len);
     /* the first range, with a new search each time and with one for all */
     assert(colfind_search(&pattern, &search, COLFIND_ALL).kind == 0 && colfind_feed(&search, BYTES("resume aa res")).kind == 0);
     for (int twice = 0; twice < 2; twice++) {
@@ -350,8 +485,13 @@ static void statuses_of_calls(colfind_handle *table) {
             assert(is(colfind_resume(wrong[i], &out, COLFIND_ALL, words, count), COLFIND_WRONG_HANDLE, 0));
             assert(is(colfind_index(wrong[i], BYTES("a")).status, COLFIND_WRONG_HANDLE, 0));
             assert(is(colfind_index_from(wrong[i], BYTES("a"), 0).status, COLFIND_WRONG_HANDLE, 0));
-            assert(is(colfind_equal(wrong[i], BYTES("resume")).status, COLFIND_WRONG_HANDLE, 0));
-            assert(is(colfind_begins(wrong[i], BYTES("resume")).status, COLFIND_WRONG_HANDLE, 0));
+            assert(same_told(colfind_last_before(wrong[i], BYTES("resume"), 6), (colfind_first){{COLFIND_WRONG_HANDLE, 0}, 0, {0, 0}}));
+            assert(same_told(colfind_ends(wrong[i], BYTES("resume")), (colfind_first){{COLFIND_WRONG_HANDLE, 0}, 0, {0, 0}}));
+        }
+        if (wrong[i] == &empty || wrong[i] == table) {
+            colfind_equality equal = colfind_equal(wrong[i], BYTES("resume"));
+            assert(is(equal.status, COLFIND_WRONG_HANDLE, 0) && equal.is_equal == 0);
+            assert(same_told(colfind_begins(wrong[i], BYTES("resume")), (colfind_first){{COLFIND_WRONG_HANDLE, 0}, 0, {0, 0}}));
         }
         if (wrong[i] == &empty) {
             colfind_place next = colfind_next_safe(&empty, BYTES("a"), 0), before = colfind_previous_safe(&empty, BYTES("a"), 1);
@@ -363,6 +503,7 @@ static void statuses_of_calls(colfind_handle *table) {
             assert(is(colfind_stop(wrong[i]), COLFIND_WRONG_HANDLE, 0) && is(colfind_save(wrong[i], words, 1).status, COLFIND_WRONG_HANDLE, 0));
             assert(is(colfind_first_in(wrong[i], BYTES("a"), 0).status, COLFIND_WRONG_HANDLE, 0));
             assert(is(colfind_all_in(wrong[i], BYTES("a"), &range, 1).status, COLFIND_WRONG_HANDLE, 0));
+            assert(is(colfind_search_part(wrong[i], BYTES("a"), 0, 1), COLFIND_WRONG_HANDLE, 0));
             assert(colfind_has(wrong[i], BYTES("a")) == COLFIND_WRONG_HANDLE);
             assert(colfind_pending(wrong[i]) == 0 && colfind_take(wrong[i], &range, 1) == 0);
         }
@@ -386,6 +527,42 @@ static void statuses_of_calls(colfind_handle *table) {
     assert(is(colfind_resume(&pattern, &search, COLFIND_ALL, words, count), COLFIND_GOOD, 0));
     assert(is(colfind_feed(&search, BYTES("a")), COLFIND_TEXT_TOO_LONG, (uint64_t)1 << 62));
     colfind_free(&search), colfind_free(&pattern), colfind_free(&other), colfind_free(&empty);
+}
+
+/* ---- worked rows */
+
+#define ROW(call, found, from, to) assert(same_told((call), (colfind_first){{0, 0}, found, {from, to}}))
+#define FAULT(call, at) assert(same_told((call), (colfind_first){{COLFIND_TEXT_ILL_FORMED, at}, 0, {0, 0}}))
+
+static void rows(colfind_handle *table) {
+    colfind_handle aa = {0}, c = {0}, search = {0};
+    colfind_range range;
+    assert(colfind_pattern(table, &aa, BYTES("aa"), 3, 0).kind == 0 && colfind_pattern(table, &c, BYTES("c"), 3, 0).kind == 0);
+    ROW(colfind_last_before(&aa, BYTES("aaa"), 3), 1, 1, 3);
+    ROW(colfind_last_before(&aa, BYTES("aaa"), 9), 1, 1, 3);
+    ROW(colfind_last_before(&aa, BYTES("aaa"), 2), 1, 0, 2);
+    ROW(colfind_last_before(&aa, BYTES("aaa"), 1), 0, 0, 0);
+    FAULT(colfind_last_before(&aa, BYTES("aaa\377"), 4), 3);
+    ROW(colfind_last_before(&aa, BYTES("aaa\377"), 3), 1, 0, 2);
+    ROW(colfind_last_before(&aa, BYTES("\377 aa"), 4), 1, 2, 4);
+    ROW(colfind_ends(&aa, BYTES("aaa")), 1, 1, 3);
+    ROW(colfind_ends(&aa, BYTES("aa ")), 0, 0, 0);
+    ROW(colfind_ends(&aa, BYTES("a aa\302\255")), 1, 2, 6);
+    ROW(colfind_ends(&aa, BYTES("aa\314\201")), 0, 0, 0);
+    ROW(colfind_ends(&aa, BYTES("")), 0, 0, 0);
+    ROW(colfind_ends(&c, BYTES("ac")), 1, 1, 2);
+    ROW(colfind_ends(&c, BYTES("ach")), 0, 0, 0);
+    FAULT(colfind_ends(&aa, BYTES("aa\377")), 2);
+    ROW(colfind_ends(&aa, BYTES("\377 aa")), 1, 2, 4);
+    assert(colfind_search(&aa, &search, COLFIND_ALL).kind == 0);
+    assert(is(colfind_search_part(&search, BYTES("aaaa"), 0, 2), COLFIND_GOOD, 0) && colfind_pending(&search) == 2);
+    assert(colfind_take(&search, &range, 1) == 1 && range.start == 0 && range.end == 2);
+    assert(colfind_take(&search, &range, 1) == 1 && range.start == 1 && range.end == 3);
+    assert(is(colfind_search_part(&search, BYTES("aaaa"), 2, 9), COLFIND_GOOD, 0) && colfind_pending(&search) == 1);
+    assert(is(colfind_search_part(&search, BYTES("aaaa"), 4, 4), COLFIND_GOOD, 0) && colfind_pending(&search) == 0);
+    assert(is(colfind_search_part(&search, BYTES("aa\377aa"), 1, 2), COLFIND_TEXT_ILL_FORMED, 2) && colfind_pending(&search) == 0);
+    assert(is(colfind_search_part(&search, BYTES("aa\377aa"), 3, 5), COLFIND_GOOD, 0) && colfind_pending(&search) == 1);
+    colfind_free(&aa), colfind_free(&c), colfind_free(&search);
 }
 
 /* ---- refused memory */
@@ -426,6 +603,12 @@ static void refusals_in_turn(const uint8_t *base, size_t n) {
         assert(status.kind == 0 && colfind_equal(&pattern, BYTES("resume")).is_equal == 1);
         IN_TURN(status, pattern, colfind_begins(&pattern, BYTES("resume a")).status);
         assert(status.kind == 0 && colfind_begins(&pattern, BYTES("resume a")).range.end == 6);
+        IN_TURN(status, pattern, colfind_last_before(&pattern, BYTES("a resume a"), 9).status);
+        assert(status.kind == 0 && colfind_last_before(&pattern, BYTES("a resume a"), 9).range.start == 2);
+        IN_TURN(status, pattern, colfind_ends(&pattern, BYTES("a resume")).status);
+        assert(status.kind == 0 && colfind_ends(&pattern, BYTES("a resume")).range.start == 2);
+        status = part_in_turn(&search, BYTES("a resume resume"), 1, 9);
+        assert(status.kind == 0 && colfind_pending(&search) == 1);
         asked = 0;
         assert(colfind_next_safe(&pattern, BYTES("ha"), 0).at == 1 && colfind_previous_safe(&pattern, BYTES("ah"), 2).is_found && asked == 0);
         ONCE_IN_TURN(status, search, twice ? colfind_finish(&search) : colfind_stop(&search));
@@ -499,13 +682,15 @@ int main(int argc, char **argv) {
     for (long round = 0; round < atol(argv[3]); round++) random_round(argv[1], argv[2], &table, (int)below(2));
     statuses_of_tables();
     statuses_of_calls(&table);
+    rows(&table);
     long_piece(&table);
     messages();
     colfind_free(&table);
     refusals_in_turn(base, n);
     for (size_t i = 0; i < sizeof kinds / sizeof *kinds; i++)
         if (!reached[kinds[i]]) { printf("status %u has not come\n", kinds[i]); return 1; }
-    assert(atol(argv[3]) < 50 || (wholes && fronts > wholes && undecided && safe_places));
-    printf("all passed, %ld refusals, %ld whole texts, %ld beginnings, %ld safe offsets\n", refusals, wholes, fronts, safe_places);
+    assert(atol(argv[3]) < 50 || (wholes && fronts > wholes && undecided && safe_places && backward && endings && parted));
+    printf("all passed, %ld refusals, %ld whole texts, %ld beginnings, %ld endings, %ld safe offsets, %ld ranges before an offset, %ld parts\n",
+           refusals, wholes, fronts, endings, safe_places, backward, parted);
     return 0;
 }

@@ -58,9 +58,7 @@ _LEAST, _MOST = 1 << 12, 1 << 16  # the sizes of the first part of a text that i
 _NEAR = 16  # how many characters are asked first for a safe one
 _LONG = 1 << 12  # how many bytes a call has that lets the lock of the interpreter go: to get it back costs as much as a shorter one
 _AHEAD, _MOST_JOINED = 512, 1 << 16  # how many texts are read, and searched by one call, and how many characters they have at most
-_PART, _SELDOM = 1 << 22, 256  # the bytes of a part that one of some threads searches, and of a text that have room for one range at first
-_BEHIND, _MOST_BEHIND = 1 << 8, 1 << 12  # how many bytes are read at once behind a part, first and at most
-_CLUSTER, _MATCHED, _OLDEST = 12, 15, 20  # words of a search: where its cluster starts; how many keys match, and where the first of these stands
+_PART = 1 << 22  # the bytes of a part that one of some threads searches
 _Owning = TypeVar("_Owning", bound="_Owner")
 _Given = TypeVar("_Given")
 _FOLDER = Path(__file__).parent
@@ -76,7 +74,9 @@ for _dll in _C, _UNLOCKED:
         ("finish", _Status, [_HANDLE]), ("stop", _Status, [_HANDLE]), ("free", None, [_HANDLE]), ("pending", c_size_t, [_HANDLE]),
         ("take", c_size_t, [_HANDLE, c_void_p, c_size_t]), ("save", _Saved, [_HANDLE, c_void_p, c_size_t]),
         ("first_in", _First, [_HANDLE, *_BYTES, c_size_t]), ("all_in", _All, [_HANDLE, *_BYTES, c_void_p, c_size_t]),
-        ("equal", _Equality, [_HANDLE, *_BYTES]), ("begins", _First, [_HANDLE, *_BYTES]),
+        ("search_part", _Status, [_HANDLE, *_BYTES, c_size_t, c_size_t]),
+        ("equal", _Equality, [_HANDLE, *_BYTES]), ("begins", _First, [_HANDLE, *_BYTES]), ("ends", _First, [_HANDLE, *_BYTES]),
+        ("last_before", _First, [_HANDLE, *_BYTES, c_size_t]),
         ("next_safe", _Place, [_HANDLE, *_BYTES, c_size_t]), ("previous_safe", _Place, [_HANDLE, *_BYTES, c_size_t]),
         ("message", c_size_t, [_Status, c_char_p, c_size_t]),
     ]:
@@ -187,6 +187,13 @@ def _check(status: Structure) -> None:
         raise Fault(status.kind, status.at)
 
 
+def _range_of(first: Structure) -> tuple[int, int] | None:
+    if first.is_found:
+        return first.range.start, first.range.end
+    _check(first.status)
+    return None
+
+
 def _then_fault(numbers: array[int], status: Structure) -> Ranges:
     yield from zip(numbers[::2], numbers[1::2])
     _check(status)
@@ -220,6 +227,10 @@ def _offset(start: int, length: int, name: str = "start") -> int:
     if not 0 <= start <= length:
         raise ValueError(f"{name} is {start}, and the text has the offsets 0 to {length}")
     return start
+
+
+def _offset_or_end(at: int | None, length: int) -> int:
+    return length if at is None else _offset(at, length, "at")
 
 
 class _View(c_char_p):
@@ -300,7 +311,7 @@ def _characters_of(text: str, start: int) -> Callable[[int], int]:
 
 def _moved(fault: Fault, place: Callable[[int], int]) -> Fault:
     """A fault of a text elsewhere; one of a call stands nowhere."""
-    return Fault(fault.kind, place(fault.at)) if fault.kind < Kind.NO_MEMORY else fault
+    return Fault(fault.kind, place(fault.at)) if fault.kind < Kind.TEXT_NO_MEMORY else fault
 
 
 def _in_characters(text: str, ranges: Ranges, start: int = 0) -> Ranges:
@@ -396,6 +407,42 @@ class _Owner:
     def __reduce_ex__(self, _: object) -> tuple[Any, ...]:
         raise TypeError(f"a {type(self).__name__} can't be copied or pickled: save it")
 
+    def _shared(self) -> _Owner:
+        """A second handle for the table or the pattern that it holds: for a call that may be long."""
+        own = _Owner()
+        with _LOCK:
+            _check(_C.colfind_share(self._handle, own._handle))
+        return own
+
+    def _place(self, call: Callable[..., Structure], data: bytes | _View, length: int, offset: int) -> int | None:
+        with _LOCK:
+            place = call(self._handle, data, length, offset)
+        _check(place.status)
+        return place.at if place.is_found else None
+
+    def _next_safe(self, text: str, start: int) -> int | None:
+        size = _NEAR
+        while True:
+            data = _encoded(text[start:start + size])
+            place = self._place(_C.colfind_next_safe, data, len(data), 0)
+            if place is not None:
+                return start + _characters_in(data[:place])
+            start, size = start + size, min(2 * size, _MOST)
+            if start >= len(text):
+                return None
+
+    def _previous_safe(self, text: str, before: int) -> int | None:
+        size = _NEAR
+        while True:
+            start = max(0, before - size)
+            data = _encoded(text[start:before])
+            place = self._place(_C.colfind_previous_safe, data, len(data), len(data))
+            if place is not None:
+                return start + _characters_in(data[:place])
+            before, size = start, min(2 * size, _MOST)
+            if before == 0:
+                return None
+
 
 class Table(_Owner):
     """The table of a file's bytes, and of a file's that tailors it.
@@ -420,15 +467,7 @@ class Table(_Owner):
         if not isinstance(text, str):
             return _over("text", text, lambda data, length: self._place(_C.colfind_next_safe, data, length, _offset(start, length)), _TEXT)
         text = _exact(text)
-        start, size = _offset(start, len(text)), _NEAR
-        while True:
-            data = _encoded(text[start:start + size])
-            place = self._place(_C.colfind_next_safe, data, len(data), 0)
-            if place is not None:
-                return start + _characters_in(data[:place])
-            start, size = start + size, min(2 * size, _MOST)
-            if start >= len(text):
-                return None
+        return self._next_safe(text, _offset(start, len(text)))
 
     def previous_safe(self, text: str | Bytes, before: int) -> int | None:
         """The same before an offset, the last one there is. None says that a search begins at 0."""
@@ -436,22 +475,7 @@ class Table(_Owner):
             return _over("text", text,
                          lambda data, length: self._place(_C.colfind_previous_safe, data, length, _offset(before, length, "before")), _TEXT)
         text = _exact(text)
-        before, size = _offset(before, len(text), "before"), _NEAR
-        while True:
-            start = max(0, before - size)
-            data = _encoded(text[start:before])
-            place = self._place(_C.colfind_previous_safe, data, len(data), len(data))
-            if place is not None:
-                return start + _characters_in(data[:place])
-            before, size = start, min(2 * size, _MOST)
-            if before == 0:
-                return None
-
-    def _place(self, call: Callable[..., Structure], data: bytes | _View, length: int, offset: int) -> int | None:
-        with _LOCK:
-            place = call(self._handle, data, length, offset)
-        _check(place.status)
-        return place.at if place.is_found else None
+        return self._previous_safe(text, _offset(before, len(text), "before"))
 
 
 _TABLES: WeakValueDictionary[bytes, Table] = WeakValueDictionary()  # by their digests: those that were pickled, or came so
@@ -478,9 +502,7 @@ class Pattern(_Owner):
             raise ValueError(f"strength is 1, 2 or 3, not {strength}")
         data = _encoded(_exact(text)) if isinstance(text, str) else _copied("text", text, _TEXT)
         self._made_of = table, data, int(strength), shifted
-        own = _Owner()  # of the table too, for the call may be long
-        with _LOCK:
-            _check(_C.colfind_share(table._handle, own._handle))
+        own = table._shared()
         library = _C if len(data) < _LONG // 32 else _UNLOCKED  # a byte of a pattern takes as long as many of a text
         status = library.colfind_pattern(own._handle, self._handle, data, len(data), strength, shifted)
         if status.kind == Kind.BAD_ARGUMENT:
@@ -547,30 +569,84 @@ class Pattern(_Owner):
 
     def fullmatch(self, text: str | Bytes) -> bool:
         """Whether the whole text is equal to the pattern, by their sort keys. It stops behind the first letter that differs."""
-        return bool(self._of_whole(text, _C.colfind_equal).is_equal)
+        return bool(self._of_whole("colfind_equal", text).is_equal)
 
     def match(self, text: str | Bytes) -> tuple[int, int] | None:
         """The shortest match that begins where the text begins, as 0 and its end, or None. It stops where that is decided."""
-        first = self._of_whole(text, _C.colfind_begins)
-        if not first.is_found:
-            return None
-        return 0, _characters_of(_exact(text), 0)(first.range.end) if isinstance(text, str) else first.range.end
+        found = _range_of(self._of_whole("colfind_begins", text))
+        return (0, _characters_of(_exact(text), 0)(found[1])) if found and isinstance(text, str) else found
 
-    def _of_whole(self, text: str | Bytes, call: Callable[..., Structure]) -> Structure:
+    def ends(self, text: str | Bytes) -> tuple[int, int] | None:
+        """The shortest match that ends where the text ends, as its start and the length of the text, or None. It goes back from there to a
+        safe offset before a range, or before many letters: a fault there is raised, and what stands before costs nothing."""
         if not isinstance(text, str):
-            return _over("text", text, lambda data, length: self._answered(call, data, length), _TEXT)
+            return _over("text", text, lambda data, length: _range_of(self._asked("colfind_ends", data, length)), _TEXT)
         text = _exact(text)
-        data = _encoded(text)
-        try:
-            return self._answered(call, data, len(data))
-        except Fault as fault:
-            raise _moved(fault, _characters_of(text, 0)) from None
+        start, size = len(text), _LEAST
+        while True:
+            start = self._previous_safe(text, max(0, start - size)) or 0
+            front = b"\xff" if start else b""  # no UTF-8: where it is told as the fault, what stands before it decides
+            data = front + _encoded(text[start:])
+            try:
+                found = _range_of(self._asked("colfind_ends", data, len(data)))
+            except Fault as fault:
+                if not front or (fault.kind, fault.at) != (Kind.TEXT_ILL_FORMED, 0):
+                    raise _moved(Fault(fault.kind, max(0, fault.at - len(front))), _characters_of(text, start)) from None
+                size *= 2
+                continue
+            return (len(text) - _characters_in(data[found[0]:]), len(text)) if found else None
 
-    def _answered(self, call: Callable[..., Structure], data: bytes | _View, length: int) -> Structure:
-        with _LOCK:
-            answer = call(self._handle, data, length)
-        _check(answer.status)
-        return answer
+    def last_before(self, text: str | Bytes, at: int | None = None) -> tuple[int, int] | None:
+        """The last range that ends at an offset or before it, by default the end of the text, or None. It goes back from there to a safe
+        offset before a range: a fault there is raised, and what stands before costs nothing."""
+        if not isinstance(text, str):
+            return _over("text", text, lambda data, length: self._last(data, length, _offset_or_end(at, length)), _TEXT)
+        text = _exact(text)
+        at = _offset_or_end(at, len(text))
+        behind, start, size = _encoded(text[at:self._next_safe(text, at)]), at, _LEAST
+        while True:
+            start = self._previous_safe(text, max(0, start - size)) or 0
+            front, place = _encoded(text[start:at]), _characters_of(text, start)
+            try:
+                found = self._last(front + behind, len(front) + len(behind), len(front))
+            except Fault as fault:
+                raise _moved(fault, place) from None
+            if found or start == 0:
+                return (place(found[0]), place(found[1])) if found else None
+            size *= 2
+
+    def _last(self, data: bytes | _View, length: int, at: int) -> tuple[int, int] | None:
+        return _range_of(self._asked("colfind_last_before", data, length, at))
+
+    def _of_whole(self, name: str, text: str | Bytes) -> Structure:
+        if not isinstance(text, str):
+            answer = _over("text", text, lambda data, length: self._asked(name, data, length), _TEXT)
+            _check(answer.status)
+            return answer
+        text = _exact(text)
+        told = self._of_front(name, text) if len(text) > _LEAST else None
+        if told is None:
+            data = _encoded(text)
+            told = self._asked(name, data, len(data))
+        if told.status.kind:
+            raise _moved(Fault(told.status.kind, told.status.at), _characters_of(text, 0))
+        return told
+
+    def _of_front(self, name: str, text: str) -> Structure | None:
+        """The answer to a long text where its front decides it, up to a safe offset: else a byte there that is no UTF-8 is told."""
+        front = _encoded(text[:_LEAST])
+        end = self._place(_C.colfind_previous_safe, front, len(front), len(front)) or 0
+        answer = self._asked(name, front[:end] + b"\xff", end + 1)
+        return None if (answer.status.kind, answer.status.at) == (Kind.TEXT_ILL_FORMED, end) else answer
+
+    def _asked(self, name: str, data: bytes | _View, length: int, *at: int) -> Structure:
+        library = _library(data, length)
+        call: Callable[..., Structure] = getattr(library, name)
+        if library is _C:
+            with _LOCK:
+                return call(self._handle, data, length, *at)
+        own = self._shared()
+        return call(own._handle, data, length, *at)
 
     def _first(self, data: bytes | _View, length: int, start: int) -> tuple[int, int] | None:
         spare = self._spare[False]
@@ -638,10 +714,9 @@ class Pattern(_Owner):
         the other and up to the first fault, the ranges of the text. A fault is raised that stands where the part ends, or before."""
         spare = self._spare[False]
         search = self._lent(spare)
-        try:
-            return _then_fault(*_over("text", text, lambda data, length: search._between(data, length, start, end)))
-        finally:
-            spare.append(search)
+        found = _over("text", text, lambda data, length: search._between(data, length, start, end))
+        spare.append(search)  # not where an error is raised: ranges may wait there
+        return _then_fault(*found)
 
     def search_parallel(self, text: Bytes | os.PathLike[str], workers: int | None = None, chain: bool = False,
                         part_bytes: int = _PART) -> Ranges:
@@ -671,17 +746,6 @@ def _chained(ranges: Ranges) -> Ranges:
         if start >= behind:
             yield start, end
             behind = end
-
-
-def _of_part(numbers: array[int], status: Structure, start: int, size: int) -> tuple[array[int], Structure]:
-    """Of a part its numbers and its fault, counted from the beginning of the text: what stands behind it belongs to the next one."""
-    if status.kind in _OF_CALLS:
-        return array("Q"), status
-    while numbers and numbers[-2] >= size:
-        del numbers[-2:]
-    if status.kind:
-        status = _Status(status.kind, start + status.at) if status.at <= size else _Status(0, 0)
-    return array("Q", map(start.__add__, numbers)) if start else numbers, status
 
 
 def _of_parts(view: _View, cutting: Search, searches: list[Search], size: int) -> Ranges:
@@ -760,13 +824,16 @@ class Search(_Owner):
     def _taken(self, status: Structure) -> Ranges:
         if status.kind in _OF_CALLS:
             _check(status)
-        waiting = _C.colfind_pending(self._handle)
-        if not waiting and not status.kind:
-            return iter(())
-        numbers = array("Q", bytes(16 * waiting))
-        if waiting:
-            _C.colfind_take(self._handle, numbers.buffer_info()[0], waiting)
-        return _then_fault(numbers, status)
+        numbers = self._waiting()
+        return _then_fault(numbers, status) if numbers or status.kind else iter(())
+
+    def _waiting(self) -> array[int]:
+        """The numbers of the ranges that wait, which are taken."""
+        count = _C.colfind_pending(self._handle)
+        numbers: array[int] = array("Q", [0]) * (2 * count)
+        if count:
+            _C.colfind_take(self._handle, numbers.buffer_info()[0], count)
+        return numbers
 
     def _fed(self, data: bytes | _View, length: int) -> Ranges:
         return self._taken(_library(data, length).colfind_feed(self._handle, data, length))
@@ -858,40 +925,12 @@ class Search(_Owner):
         start = self._safe(data, min(end + 3, length), start) if start else 0  # a character may stand over the end
         if 0 < end <= start:
             return array("Q"), _Status(0, 0)
-        try:
-            return self._part(data, length, start, self._safe(data, length, end) if end else 0)
-        finally:
-            _C.colfind_first_in(self._handle, b"", 0, 0)  # begins again, for the next text
+        return self._part(data, length, start, self._safe(data, length, end) if end else 0)
 
     def _part(self, data: bytes | _View, length: int, start: int, end: int) -> tuple[array[int], Structure]:
-        """The numbers of the ranges that begin in a part of a text, and how the call has ended. It reads on behind the part until none of
-        these is to come: what its words say of the oldest key that matches, or else of its cluster, stands behind the part then."""
-        _C.colfind_first_in(self._handle, b"", 0, 0)  # begins again
-        first, at, behind, size, numbers = cast(data, c_void_p).value or 0, start, _BEHIND, end - start, array("Q")
-        while (stop := max(at, end) + behind) < length:
-            status = _library(data, stop - at).colfind_feed(self._handle, c_char_p(first + at), stop - at)
-            if waiting := _C.colfind_pending(self._handle):
-                numbers.frombytes(bytes(16 * waiting))
-                _C.colfind_take(self._handle, numbers.buffer_info()[0] + 8 * (len(numbers) - 2 * waiting), waiting)
-            if status.kind or self._is_past(size):
-                return _of_part(numbers, status, start, size)
-            at, behind = stop, min(2 * behind, _MOST_BEHIND)
-        return self._rest(data, first + start, length - start, start, size)
-
-    def _is_past(self, size: int) -> bool:
-        """No range is to come that begins in the first so many bytes, and no fault stands there."""
-        words = self._saved()
-        return (words[_OLDEST] if words[_MATCHED] else words[_CLUSTER]) >= size < words[_CLUSTER]
-
-    def _rest(self, data: bytes | _View, place: int, length: int, start: int, size: int) -> tuple[array[int], Structure]:
-        """The same where it reads on to the end of the text. Where there are more ranges than had room, it is searched once more."""
-        room = length // _SELDOM + 1
-        while True:
-            numbers = array("Q", [0]) * (2 * room)
-            found = _library(data, length).colfind_all_in(self._handle, c_char_p(place), length, numbers.buffer_info()[0], room)
-            if found.status.kind != Kind.SMALL_BUFFER:
-                return _of_part(numbers[:2 * found.count], found.status, start, size)
-            room = found.count
+        """The numbers of the ranges that begin in a part of a text, and how the call has ended."""
+        status = _library(data, end - start).colfind_search_part(self._handle, data, length, start, end)
+        return self._waiting(), status
 
     def _many_first(self, data: bytes, in_characters: bool, count: int) -> tuple[int, array[int]]:
         """How many texts were searched, up to one with a fault, and of each that has a range its number and the first range."""

@@ -20,6 +20,7 @@ import unittest
 from array import array
 from concurrent.futures import ThreadPoolExecutor
 from contextlib import closing, suppress
+from itertools import chain as one_by_one
 from pathlib import Path
 from unittest.mock import patch
 
@@ -53,6 +54,31 @@ def all_of(ranges) -> tuple[list[tuple[int, int]], str]:
     except Fault as fault:
         return found, str(fault).split(":")[0]
     return found, ""
+
+
+def answer(call):
+    """What a call gives, or its fault."""
+    try:
+        return call()
+    except Fault as fault:
+        return fault.kind, fault.at, "fault"
+
+
+def met_before(table: Table, pattern: Pattern, data: bytes, at: int):
+    """The last range of bytes up to an offset behind the last fault before it, or else this fault, or None; by searches from the beginning
+    on, and from the next safe offset behind each fault."""
+    start, met = 0, None
+    while start is not None and (start < at or start == 0):
+        search, ranges, fault = Search(pattern), [], None
+        try:
+            for one in one_by_one(search.feed(data[start:]), search.finish()):
+                ranges.append((start + one[0], start + one[1]))
+        except Fault as wrong:
+            fault = wrong.kind, start + wrong.at, "fault"
+        if not fault or fault[1] >= at:
+            return next((one for one in reversed(ranges) if one[1] <= at), met)
+        met, start = fault, table.next_safe(data, fault[1] + 1) if fault[1] < len(data) else None
+    return met
 
 
 def freed(pattern: Pattern) -> Pattern:
@@ -142,6 +168,132 @@ class Tests(unittest.TestCase):
         self.assertEqual((fault.exception.kind, fault.exception.at), (Kind.TEXT_ILL_FORMED, 6))
         self.assertFalse(pattern.fullmatch(b"a\xff"))  # decided before
         self.assertEqual(pattern.match(bytearray(b"resume b")), (0, 6))
+
+    def test_last_before(self) -> None:
+        """Beside searches from the beginning on, in bytes and in a str, at each offset and in parts of a few characters."""
+        rng, seen = random.Random(4), set()
+        for _ in range(120):
+            text = "".join(rng.choice([*PARTS, "ch", "h", "\u00ad"]) for _ in range(rng.randrange(25)))
+            data = text.encode("utf-8", "surrogatepass")
+            pattern = Pattern(self.table, rng.choice(["resume", "aa", "e", "ch", "\u6f22"]), rng.randrange(1, 4), rng.random() < 0.3)
+            wanted = [met_before(self.table, pattern, data, at) for at in range(len(data) + 1)]
+            self.assertEqual([answer(lambda at=at: pattern.last_before(data, at)) for at in range(len(data) + 1)], wanted)
+            places = [len(text[:at].encode("utf-8", "surrogatepass")) for at in range(len(text) + 1)]
+            with patch.multiple(colfind, _LEAST=rng.choice([1, 2, 8, 1 << 12]), _NEAR=rng.choice([1, 2, 16])):
+                for at, place in enumerate(places):
+                    found = answer(lambda at=at: pattern.last_before(text, at))
+                    if found is not None:
+                        found = (found[0], places[found[1]], "fault") if len(found) == 3 else (places[found[0]], places[found[1]])
+                    self.assertEqual(found, wanted[place])
+                    seen.add(None if found is None else len(found))
+            self.assertEqual(answer(lambda: pattern.last_before(text)), answer(lambda: pattern.last_before(text, len(text))))
+            self.assertEqual(answer(lambda: pattern.last_before(bytearray(data))), wanted[-1])
+        self.assertEqual(seen, {None, 2, 3})
+
+    def test_last_before_by_hand(self) -> None:
+        """It is within a character, behind marks and faults; and from call to call all ranges come, the last one first."""
+        pattern, found, at = Pattern(self.table, "e", 1), [], None
+        self.assertEqual([pattern.last_before("e\u00e9\u0301e".encode(), at) for at in range(7)], [None, *[(0, 1)] * 4, (1, 5), (5, 6)])
+        self.assertEqual([pattern.last_before("e\u00e9\u0301e", at) for at in range(5)], [None, (0, 1), (0, 1), (1, 3), (3, 4)])
+        while last := pattern.last_before("re\u0301sume\u0301, resume", at):
+            found.append(last)
+            at = last[1] - 1
+        self.assertEqual(found, [(15, 16), (11, 12), (6, 8), (1, 3)])
+        bad = "e\ud800\u00e9 a"
+        self.assertEqual((pattern.last_before(bad), pattern.last_before(bad, 1)), ((2, 3), None))
+        for text, at in (bad, 2), (bad.encode("utf-8", "surrogatepass"), 4):
+            self.assertEqual(answer(lambda: pattern.last_before(text, at)), (Kind.TEXT_ILL_FORMED, 1, "fault"))
+        self.assertIsNone(pattern.last_before(""))
+        self.assertIsNone(pattern.last_before(b"", 0))
+
+    def test_last_before_reads_the_way_back(self) -> None:
+        """No more than some times of it, whatever stands before."""
+        pattern, encoded = Pattern(self.table, "resume", 1), []
+        text = "\u6f22" * 1_000_000 + "r\u00e9sum\u00e9 " + "\u6f22" * 100_000 + "resume " + "\ud800" * 9
+        with patch.object(colfind, "_encoded", lambda part: encoded.append(len(part)) or part.encode("utf-8", "surrogatepass")):
+            for at, wanted, most in [(1_100_013, (1_100_007, 1_100_013), 10_000), (1_100_012, (1_000_000, 1_000_006), 500_000)]:
+                encoded.clear()
+                self.assertEqual(pattern.last_before(text, at), wanted)
+                self.assertLess(sum(encoded), most)
+            encoded.clear()
+            self.assertEqual(answer(lambda: pattern.last_before(text)), (Kind.TEXT_ILL_FORMED, 1_100_014, "fault"))
+            self.assertLess(sum(encoded), 10_000)
+        self.assertIsNone(pattern.last_before("\u6f22" * 100_000))
+
+    def test_ends(self) -> None:
+        """Beside the last range of the text with a letter behind it that stands nowhere else, for a pattern with this letter behind it."""
+        rng, guard, seen = random.Random(5), "\u4e01", set()
+        for _ in range(400):
+            sought, strength, shifted = rng.choice(["resume", "aa", "r\u00e9sum\u00e9", "ch", "\u6f22"]), rng.randrange(1, 4), rng.random() < 0.3
+            around = ["", "", "\u00ad", "-", " ", "\u0301", "a", "h"]
+            text = rng.choice(around) + rng.choice([sought, "re\u0301sume\u0301", "RESUME", "aa"]) + rng.choice(around)
+            pattern = Pattern(self.table, sought, strength, shifted)
+            ranges = list(Pattern(self.table, sought + guard, strength, shifted).search(text + guard))
+            wanted = (ranges[-1][0], len(text)) if ranges else None
+            self.assertEqual(pattern.ends(text), wanted)
+            places = [len(text[:at].encode()) for at in range(len(text) + 1)]
+            self.assertEqual(pattern.ends(text.encode()), wanted and (places[wanted[0]], places[wanted[1]]))
+            seen.add((wanted is None, bool(list(pattern.search(text)))))
+        self.assertEqual(seen, {(True, True), (True, False), (False, True)})
+        pattern = Pattern(self.table, "aa", 1)
+        for text, found in ("aaa", (1, 3)), ("aa\u0301", (0, 3)), ("aa\u00ad", (0, 3)), ("aab", None), ("\ud800aa", (1, 3)), ("", None):
+            self.assertEqual(pattern.ends(text), found)
+        self.assertEqual(pattern.ends(b"\xff\xffaa"), (2, 4))
+        for text in "aa\ud800", b"aa\xff":
+            self.assertEqual(answer(lambda: pattern.ends(text)), (Kind.TEXT_ILL_FORMED, 2, "fault"))
+
+    def test_ends_reads_what_stands_there(self) -> None:
+        """A str in parts is told as its bytes are, and no more of it is encoded than the end."""
+        rng, seen = random.Random(7), set()
+        for _ in range(600):
+            sought, strength = rng.choice(["resume", "aa", "ch", "c", "\u6f22"]), rng.randrange(1, 4)
+            text = "".join(rng.choice([*PARTS, "ch", "h", "\u00ad", "\u6f23" * 9]) for _ in range(rng.randrange(12)))
+            text += rng.choice(["", sought, sought + "\u00ad", sought + "\u0301"])
+            pattern, data = Pattern(self.table, sought, strength), text.encode("utf-8", "surrogatepass")
+            wanted = answer(lambda: pattern.ends(data))
+            if isinstance(wanted, tuple):
+                places = {len(text[:at].encode("utf-8", "surrogatepass")): at for at in range(len(text) + 1)}
+                wanted = (wanted[0], places[wanted[1]], *wanted[2:]) if len(wanted) == 3 else (places[wanted[0]], places[wanted[1]])
+            with patch.multiple(colfind, _LEAST=rng.choice([1, 2, 8]), _NEAR=rng.choice([1, 2, 16])):
+                self.assertEqual(answer(lambda: pattern.ends(text)), wanted)
+            seen.add(len(wanted) if isinstance(wanted, tuple) else wanted)
+        self.assertEqual(seen, {None, 2, 3})
+        pattern, encoded = Pattern(self.table, "resume", 1), []
+        with patch.object(colfind, "_encoded", lambda part: encoded.append(len(part)) or part.encode("utf-8", "surrogatepass")):
+            for front in "\u6f22" * 1_000_000, "\ud800" + "\u6f22" * 1_000_000:
+                size = len(front)
+                for end, wanted in ("resume", (size, size + 6)), ("resum", None), ("resume\ud800", (Kind.TEXT_ILL_FORMED, size + 6, "fault")):
+                    encoded.clear()
+                    self.assertEqual(answer(lambda: pattern.ends(front + end)), wanted)
+                    self.assertLess(sum(encoded), 20_000)
+
+    def test_want_of_memory_stands_nowhere(self) -> None:
+        refused = colfind._First(colfind._Status(Kind.TEXT_NO_MEMORY, 0), 0, colfind._Range(0, 0))
+        with patch.object(colfind._C, "colfind_last_before", return_value=refused), patch.object(colfind._C, "colfind_ends", return_value=refused):
+            for call in Pattern(self.table, "a").last_before, Pattern(self.table, "a").ends:
+                self.assertEqual(answer(lambda: call("\u6f22" * 50)), (Kind.TEXT_NO_MEMORY, 0, "fault"))
+
+    def test_the_front_of_a_long_str_decides(self) -> None:
+        """No more of it is encoded where it does, and what is told is what the whole text has."""
+        encoded = []
+        with patch.object(colfind, "_encoded", lambda part: encoded.append(len(part)) or part.encode("utf-8", "surrogatepass")):
+            pattern = Pattern(self.table, "resume", 1)
+            for front, wanted in ("resume of", (False, (0, 6))), ("r\u00e9sum", (False, None)), ("\u6f22", (False, None)):
+                text = front + "\u6f22" * 1_000_000
+                encoded.clear()
+                self.assertEqual((pattern.fullmatch(text), pattern.match(text)), wanted)
+                self.assertLess(sum(encoded), 20_000)
+        rng = random.Random(6)
+        for _ in range(300):
+            sought, strength = rng.choice(["resume", "aa", "ch", "c", "\u6f22"]), rng.randrange(1, 4)
+            text = rng.choice(["", "\u00ad"]) + sought + "".join(rng.choice([*PARTS, "h", "\u00ad"]) for _ in range(rng.randrange(8)))
+            pattern, data = Pattern(self.table, sought, strength), text.encode("utf-8", "surrogatepass")
+            with patch.multiple(colfind, _LEAST=rng.randrange(1, 9)):
+                for call in pattern.fullmatch, pattern.match:
+                    found, wanted = answer(lambda: call(text)), answer(lambda: call(data))
+                    if isinstance(wanted, tuple):
+                        wanted = (*wanted[:1], len(data[:wanted[1]].decode("utf-8", "surrogatepass")), *wanted[2:])
+                    self.assertEqual(found, wanted)
 
     def test_safe_offsets(self) -> None:
         """From each of them on the ranges are those of the whole text, and in a str they are those of its bytes."""
@@ -242,7 +394,10 @@ class Tests(unittest.TestCase):
             (TypeError, "text", lambda: pattern.search(parts)),
             (TypeError, "text", lambda: pattern.index(None)),
             (TypeError, "start", lambda: pattern.index("a", "0")),
-            *((TypeError, "text", lambda call=call: call(None)) for call in (pattern.fullmatch, pattern.match, self.table.next_safe)),
+            *((TypeError, "text", lambda call=call: call(None))
+              for call in (pattern.fullmatch, pattern.match, pattern.ends, pattern.last_before, self.table.next_safe)),
+            *((ValueError, "at", lambda text=text, at=at: pattern.last_before(text, at)) for text in ("ab", b"ab") for at in (-1, 3, 2 ** 64)),
+            (TypeError, "at", lambda: pattern.last_before("a", "1")),
             (TypeError, "text", lambda: self.table.previous_safe(None, 0)),
             *((ValueError, "start", lambda text=text, start=start: self.table.next_safe(text, start))
               for text in ("ab", b"ab") for start in (-1, 3, 2 ** 64)),
@@ -507,7 +662,8 @@ class Tests(unittest.TestCase):
             self.assertEqual(next(going_on), (0, 1))
         for call in (search.finish, search.save, lambda: search.feed(b"a"), lambda: search.first_in(b"a"), lambda: Pattern(table, "a"),
                      lambda: pattern.index("a"), lambda: pattern.index(b"a"), lambda: pattern.search("a"), lambda: pattern.resume([]),
-                     lambda: pattern.match("a"), lambda: pattern.fullmatch(b"a"), lambda: table.next_safe(""), lambda: table.previous_safe("", 0)):
+                     lambda: pattern.match("a"), lambda: pattern.fullmatch(b"a"), lambda: pattern.ends("a"), lambda: pattern.last_before(b"a"),
+                     lambda: table.next_safe(""), lambda: table.previous_safe("", 0)):
             with self.assertRaisesRegex(Fault, "^fault 82 at 0: it was freed") as fault:
                 call()
             self.assertIs(fault.exception.kind, Kind.WRONG_HANDLE)

@@ -148,10 +148,10 @@ class ParallelTest(unittest.TestCase):
     def test_the_lock_is_let_go(self) -> None:
         """Unless another thread could change the bytes."""
         for kind, of_calls in (bytes, colfind._UNLOCKED), (bytearray, colfind._C):
-            with patch.object(of_calls, "colfind_feed", wraps=of_calls.colfind_feed) as called:
+            with patch.object(of_calls, "colfind_search_part", wraps=of_calls.colfind_search_part) as called:
                 found = self.pattern.search_parallel(kind((b"aa" + b"b" * 8_998) * 4), 2, part_bytes=9_000)
                 self.assertEqual(len(list(found)), 4)
-            self.assertEqual(called.call_count, 3)  # of the last part, which reads to the end of the text, another call
+            self.assertEqual(called.call_count, 4)
 
     def test_it_is_lazy(self) -> None:
         """Nothing is searched before the first range is asked for, then at most two parts a thread, and memory does not grow."""
@@ -211,15 +211,12 @@ class ParallelTest(unittest.TestCase):
         self.assertEqual(threading.active_count(), 1)
 
     def test_memory_that_is_refused(self) -> None:
-        refused = colfind._All(colfind._Status(Kind.NO_MEMORY, 0), 0)
-        with patch.object(colfind._C, "colfind_all_in", return_value=refused):
-            with self.assertRaises(Fault) as fault:
-                list(self.pattern.search_parallel(b"aa b" * 9, 2, part_bytes=4))
-        self.assertIs(fault.exception.kind, Kind.NO_MEMORY)
-        for name, refused in ("colfind_feed", colfind._Status(Kind.NO_MEMORY, 1)), ("colfind_save", colfind._Saved(refused.status, 0)):
-            with patch.object(colfind._C, name, return_value=refused):
-                self.assertRaisesRegex(Fault, "^fault 81", lambda: list(self.pattern.search_part(b"aa b" * 99, 0, 4)))
-            self.assertEqual(list(self.pattern.search_part(b"aa b" * 99, 0, 4)), [(0, 2)])
+        for call in lambda: self.pattern.search_parallel(b"aa b" * 9, 2, part_bytes=4), lambda: self.pattern.search_part(b"aa b" * 99, 0, 4):
+            with patch.object(colfind._C, "colfind_search_part", return_value=colfind._Status(Kind.NO_MEMORY, 0)):
+                with self.assertRaises(Fault) as fault:
+                    list(call())
+            self.assertIs(fault.exception.kind, Kind.NO_MEMORY)
+            self.assertEqual(next(call()), (0, 2))
 
     def test_behind_a_freed_table_and_pattern(self) -> None:
         with Table(LETTERS.read_bytes()) as table, Pattern(table, "aa") as pattern:

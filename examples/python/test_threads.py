@@ -18,6 +18,7 @@ from colfind import Fault, Pattern, Search, Table
 ROOT = Path(os.environ.get("REPOSITORY", Path(__file__).absolute().parents[2]))
 LETTERS = ROOT / "docs" / "example" / "letters.txt"
 TEXT = b"x" * (1 << 22) + b"resume"
+IGNORED = b"\xc2\xad" * (1 << 20)
 TRIES = 100  # of what one try may miss where the machine does much else
 
 
@@ -79,6 +80,8 @@ class ThreadsTest(unittest.TestCase):
                     for call in (lambda: self.pattern.index(TEXT), lambda: self.pattern.index(text), lambda: self.pattern.index(mapped),
                                  lambda: self.pattern.index(memoryview(TEXT)), lambda: list(self.pattern.search(text)),
                                  lambda: Search(self.pattern).feed(TEXT), lambda: Search(self.pattern).first_in(TEXT),
+                                 lambda: self.pattern.fullmatch(IGNORED), lambda: self.pattern.match(IGNORED.decode()),
+                                 lambda: self.pattern.ends(TEXT[:-1]), lambda: self.pattern.last_before(text, len(text) - 1),
                                  lambda: Table(LETTERS.read_bytes() + b"#" * (1 << 22)), lambda: Pattern(self.table, "a" * 65_000),
                                  *(many if colfind._MANY else ())):
                         self.assertTrue(self.was_seen_under_way(lambda: call() and None, TRIES))
@@ -95,7 +98,9 @@ class ThreadsTest(unittest.TestCase):
         ways = [self.pattern.index, lambda text: self.pattern.index(text.encode()), lambda text: list(self.pattern.search(text)),
                 lambda text: list(self.pattern.search(text.encode(), True)), lambda text: list(self.pattern.index_many([text] * 9)),
                 lambda text: list(self.pattern.search_many([text] * 9)), lambda text: Pattern(self.table, "aa").index(text),
-                lambda text: list(Search(self.pattern).feed(text.encode()))]
+                lambda text: list(Search(self.pattern).feed(text.encode())), self.pattern.last_before, self.pattern.match,
+                lambda text: self.pattern.last_before(text.encode()), lambda text: self.pattern.ends(text.encode()),
+                lambda text: self.pattern.fullmatch("\u00ad" * len(text) + "resume")]
         jobs = [(way, text) for text in texts for way in ways] * 5
         wanted = [way(text) for way, text in jobs]
         with ThreadPoolExecutor(4) as pool:

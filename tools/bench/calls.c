@@ -6,37 +6,12 @@
      calls TABLE PATTERN TEXT        nanoseconds of processor time for a search that is made, one that is resumed amid the text, and pieces of
                                      64 and of 4,096 bytes of the text
    At strength 1. The status is 2 where something is wrong. */
-#include "../../examples/c/colfind.h"
-#include <stdio.h>
-#include <stdlib.h>
-#include <string.h>
-#include <time.h>
+#include "common.h"
 #include <unicode/ucol.h>
 #include <unicode/usearch.h>
 #include <unicode/ustring.h>
 
 typedef struct { const uint8_t *bytes; size_t len; const UChar *units; int32_t units_len; } title;
-
-static void need(int holds, const char *what) {
-    if (!holds) { fprintf(stderr, "calls: %s\n", what); exit(2); }
-}
-
-static uint8_t *read_file(const char *path, size_t *len) {
-    FILE *file = fopen(path, "rb");
-    need(file && fseek(file, 0, SEEK_END) == 0, path);
-    *len = (size_t)ftell(file);
-    rewind(file);
-    uint8_t *bytes = malloc(*len + 1);
-    need(bytes && fread(bytes, 1, *len, file) == *len, path);
-    fclose(file);
-    return bytes;
-}
-
-static double seconds(void) {
-    struct timespec now;
-    clock_gettime(CLOCK_PROCESS_CPUTIME_ID, &now);
-    return (double)now.tv_sec + 1e-9 * (double)now.tv_nsec;
-}
 
 static void count_ranges(colfind_handle *pattern) {
     colfind_handle search = {0};
@@ -144,12 +119,8 @@ static void time_searches(colfind_handle *pattern, const char *path) {
 
 int main(int argc, char **argv) {
     need(argc >= 3 && argc <= 5, "TABLE PATTERN [TEXT | TITLES N]");
-    size_t n;
-    uint8_t *table_bytes = read_file(argv[1], &n);
     colfind_handle table = {0}, pattern = {0};
-    need(colfind_table(&table, table_bytes, n, (const uint8_t *)"", 0).kind == 0, "table");
-    free(table_bytes);
-    need(colfind_pattern(&table, &pattern, (const uint8_t *)argv[2], strlen(argv[2]), 1, COLFIND_NON_IGNORABLE).kind == 0, "pattern");
+    read_pattern(argv[1], argv[2], &table, &pattern);
     if (argc == 3) count_ranges(&pattern);
     else if (argc == 4) time_searches(&pattern, argv[3]);
     else time_titles(&pattern, argv[2], argv[3], atol(argv[4]));

@@ -298,6 +298,52 @@ class SafeOffsets:
                     break
 
 
+# ---- a text from its end
+
+
+def said_up_to(at, ranges, fault):
+    """What is said up to an offset: a fault that stands before it, or else the last range that ends there or before it, or None."""
+    if fault and fault[1] < at:
+        return "fault", *fault
+    return next((found for found in reversed(ranges) if found[1] <= at), None)
+
+
+class Back:
+    """What one meets first who goes back through a text, beside a pattern: from each place the rest is searched as a text by itself."""
+
+    def __init__(self, table, strength, is_shifted, pattern, data, places):
+        self.settings, self.pattern, self.data = (table, strength, is_shifted), pattern, data
+        self.places = sorted({0, *places}, reverse=True)
+        self.rest = functools.cache(self.rest)
+
+    def rest(self, place):
+        """The ranges and the fault of what stands from a place on, counted from the beginning of the text."""
+        ranges, fault = answer(*self.settings, False, self.pattern, self.data[place:])
+        return [(place + start, place + end) for start, end in ranges], fault and (fault[0], place + fault[1])
+
+    def last_before(self, at):
+        said = (said_up_to(at, *self.rest(place)) for place in self.places if place < at or not place)
+        return next(filter(None, said), None)
+
+    def is_decided_by(self, place, more):
+        """From a place on there is neither a range nor a fault, but more keys than the pattern has, with `more` that stand there too: then no
+        match ends with the text, whatever stands in front."""
+        of = [len(keys(*self.settings, good_front(data)[0])) for data in (self.pattern, self.data[place:])]
+        return self.rest(place) == ([], None) and of[0] < of[1] + more
+
+    def ends(self):
+        """The match with the greatest start, minimal or not, that ends where the text ends, or what else is met there."""
+        met, length = self.last_before(len(self.data)), len(self.data)
+        if not met or met[0] == "fault":
+            return met
+        first = min(place for place in self.places if not self.rest(place)[1])
+        characters = good_front(self.data[first:])[0]
+        key = sort_key(*self.settings, good_front(self.pattern)[0])
+        starts = [start for start in boundaries(self.settings[0], characters, length - first)
+                  if sort_key(*self.settings, part(characters, start, length - first)) == key]
+        return (first + starts[-1], length) if starts else None
+
+
 def pattern_fault(table, strength, is_shifted, pattern):
     if len(pattern) > MOST_PATTERN_BYTES:
         return 21

@@ -1,6 +1,6 @@
-"""Compares what libcolfind answers of whole texts, of their beginnings and of safe offsets with what model.py gives, on the random tables,
-patterns and texts of random_searches.py. Where a TABLE is given all questions are with that one, over texts of all scripts of
-tools/bench, and Perl's Unicode::Collate is asked too whether texts without a fault are equal.
+"""Compares what libcolfind answers of whole texts, of their beginnings and ends, of matches before an offset and of safe offsets with what
+model.py gives, and the parts of a text with the whole, on the random tables, patterns and texts of random_searches.py. Where a TABLE is given all questions are with that one, over
+texts of all scripts of tools/bench, and Perl's Unicode::Collate is asked too whether texts without a fault, and matches, are equal.
 
     python3 random_questions.py FOLDER SEED QUESTIONS [TABLE]
 
@@ -20,6 +20,7 @@ import scripts
 PERL = os.path.join(os.path.dirname(os.path.abspath(__file__)), "perl_equal.pl")
 IGNORED = ["\u00ad", "\u200b", "-", " ", "\u0301", "\u20dd"]
 FAULTS = [b"\xff", b"\xc3", "a\u0301".encode() + "\u0301".encode() * 31]
+QUIET = "\U0002a6d6".encode()  # a letter that stands in no pattern, and in no string of a table
 
 
 def spelled_again(choice, pattern):
@@ -46,12 +47,42 @@ def random_case(choice, words):
     return pattern, data
 
 
+class Way:
+    """A text to go back through: spellings of a pattern amid words and faults, and somewhere a letter so many times that no match is near.
+    In `short` that stands once, and has the answers of the text."""
+
+    def __init__(self, choice, pattern, words):
+        parts = [(spelled_again(choice, pattern) if choice.random() < 0.6 else words(4)).encode() for _ in range(choice.randrange(1, 5))]
+        for _ in range(choice.choice([0, 0, 0, 1, 2])):
+            parts.insert(choice.randrange(len(parts) + 1), choice.choice(FAULTS))
+        place = choice.randrange(len(parts) + 1)
+        front, rest, times = b"".join(parts[:place]), b"".join(parts[place:]), choice.choice([1, 1, 1, 300, 1_500])
+        self.short, self.data = front + QUIET + rest, front + QUIET * times + rest
+        self.quiet, self.more = len(front) + len(QUIET), (times - 1) * len(QUIET)
+        self.at = choice.choice([len(self.data), choice.randrange(len(self.data) + 1), choice.randrange(len(front) + 1),
+                                 len(self.data) - choice.randrange(len(rest) + 1)])
+
+    def in_short(self, at):
+        return at if at < self.quiet else max(self.quiet, at - self.more)
+
+    def counted(self, places):
+        """Each place of the short text, and how many letters more stand behind it in the whole one."""
+        return [(place, self.more // len(QUIET) if place < self.quiet else 0) for place in places]
+
+    def in_data(self, told):
+        """An answer of the short text, with the offsets of the whole one."""
+        if told and told[0] == "fault":
+            return *told[:2], self.in_data(told[2:])[0]
+        return told and tuple(at + self.more if at >= self.quiet else at for at in told)
+
+
 class Questions:
     """Random questions of a library, beside the answers of the model."""
 
     def __init__(self, colfind, choice, perl):
         self.colfind, self.choice, self.perl = colfind, choice, perl
-        self.asked = self.equal = self.begun = self.faults = self.safe = self.by_perl = self.different = 0
+        self.asked = self.equal = self.begun = self.faults = self.safe = self.before = self.ended = self.met = self.parts = self.by_perl = 0
+        self.different = 0
 
     def answered(self, call):
         try:
@@ -63,8 +94,9 @@ class Questions:
         self.different += 1
         print("different:", *words, sep="\n  ")
 
-    def ask(self, table, library_table, safe, pattern, data):
+    def ask(self, table, library_table, safe, words):
         choice = self.choice
+        pattern, data = random_case(choice, words)
         strength, is_shifted = choice.choice([1, 2, 3]), choice.random() < 0.5
         if model.pattern_fault(table, strength, is_shifted, pattern.encode()):
             return
@@ -73,6 +105,9 @@ class Questions:
         told, fault = front.equal(), front.fault and ("fault", *front.fault)
         with self.colfind.Pattern(library_table, pattern, strength, is_shifted) as compiled:
             equal, begins = self.answered(lambda: compiled.fullmatch(data)), self.answered(lambda: compiled.match(data))
+            way = Way(choice, pattern, words)
+            self.ask_back(table, safe, (strength, is_shifted, pattern), compiled, way)
+            self.ask_parts(compiled, way.data)
         is_told, end = front.begins()
         wanted = fault if told is None else told, ((None if end is None else (0, end)) if is_told else fault)
         self.equal, self.begun, self.faults = self.equal + (equal is True), self.begun + (end is not None), self.faults + (told is None)
@@ -82,6 +117,49 @@ class Questions:
             self.differ("Perl", strength, is_shifted, pattern, data, told)
         self.by_perl += self.perl is not None and not front.fault
         self.ask_safe(library_table, table, safe, data)
+
+    def ask_back(self, table, safe, settings, compiled, way):
+        """The last match before an offset, and the one that ends the text. What each tells is equal for Perl too."""
+        strength, is_shifted, pattern = settings
+        places = [at for at, begins_longer in safe.of(way.short) if not begins_longer]
+        back = model.Back(table, strength, is_shifted, pattern.encode(), way.short, places)
+        wanted = way.in_data(back.last_before(way.in_short(way.at))), way.in_data(back.ends())
+        told = self.answered(lambda: compiled.last_before(way.data, way.at)), self.answered(lambda: compiled.ends(way.data))
+        if wanted[1] and wanted[1][0] == "fault" and told[1] is None and any(back.is_decided_by(*place) for place in way.counted(places)):
+            wanted = wanted[0], None
+        if told != wanted:
+            self.differ(table if len(table[0]) < 99 else "", settings, way.short, way.more, way.at, wanted, told)
+        for found in set(told):
+            self.met += found is not None and found[0] == "fault"
+            if self.perl and found and found[0] != "fault":
+                self.by_perl += 1
+                if not self.perl.are_equal(strength, is_shifted, pattern, way.data[slice(*found)].decode()):
+                    self.differ("Perl", settings, way.data, found)
+        self.before, self.ended = self.before + (len(told[0] or ()) == 2), self.ended + (len(told[1] or ()) == 2)
+
+    def drawn(self, ranges):
+        """Ranges, up to the fault behind them."""
+        found = []
+        try:
+            found.extend(ranges)
+        except self.colfind.Fault as fault:
+            return found, (int(fault.kind), fault.at)
+        return found, None
+
+    def ask_parts(self, compiled, data):
+        """The parts between any offsets, up to the first that has a fault, have together the ranges of the text, and its fault."""
+        wanted, choice = self.drawn(compiled.search(data)), self.choice
+        for _ in range(8):
+            cuts = [0, *sorted(choice.randrange(len(data) + 1) for _ in range(choice.randrange(1, 6))), len(data)]
+            ranges, fault = [], None
+            for start, end in zip(cuts, cuts[1:]):
+                of_part, fault = self.drawn(compiled.search_part(data, start, end))
+                ranges += of_part
+                if fault:
+                    break
+            self.parts += 1
+            if (ranges, fault) != wanted:
+                self.differ("parts", cuts, data, wanted, (ranges, fault))
 
     def ask_safe(self, library_table, table, safe, data):
         """Each offset that is told must be safe, and the nearest one but for those with which a contraction begins."""
@@ -120,7 +198,7 @@ def over_random_tables(questions, choice, most):
             continue
         safe = model.SafeOffsets(table)
         for _ in range(12):
-            questions.ask(table, made, safe, *random_case(choice, lambda most: searches.random_text(choice, most)))
+            questions.ask(table, made, safe, lambda most: searches.random_text(choice, most))
 
 
 def over_scripts(questions, choice, most, path, seed):
@@ -129,7 +207,7 @@ def over_scripts(questions, choice, most, path, seed):
     with open(path, "rb") as file:
         table = questions.colfind.Table(file.read())
     while questions.asked < most:
-        questions.ask(given.table, table, safe, *random_case(choice, lambda most: given.words(choice, most)))
+        questions.ask(given.table, table, safe, lambda most: given.words(choice, most))
 
 
 def main():
@@ -146,7 +224,8 @@ def main():
         over_random_tables(questions, choice, most)
     print(
         f"seed {seed}: {questions.asked} texts, {questions.equal} equal, {questions.begun} that begin so, {questions.faults} with faults that"
-        f" decide, {questions.safe} safe offsets, {questions.by_perl} beside Perl, {questions.different} different"
+        f" decide, {questions.safe} safe offsets, {questions.before} matches before an offset, {questions.ended} that end a text,"
+        f" {questions.met} faults met first, {questions.parts} texts in parts, {questions.by_perl} beside Perl, {questions.different} different"
     )
     sys.exit(1 if questions.different else 0)
 

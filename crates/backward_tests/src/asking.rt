@@ -1,7 +1,7 @@
 //! What the tests share: the table, patterns, and what goes back through texts. Where memory is refused it is asked for again, so that
 //! each allocation may be refused in turn.
 
-use collation_backward::{Backward, TextFault};
+use collation_backward::{Backward, TextFault, ends, last_before};
 use collation_elements::{Strength, Variable};
 use collation_pattern::Pattern;
 use collation_table::{PlainTable, Strings, Table};
@@ -37,6 +37,9 @@ const FOLLOWING: &str = "@version 0.0.0
 
 /// What is told going back: a range, or a fault, or nothing.
 pub(crate) type Told = Result<Option<(u64, u64)>, TextFault>;
+
+/// What is told of the match that ends where a text ends: its start, or a fault, or that there is none.
+pub(crate) type Start = Result<Option<u64>, TextFault>;
 
 /// The table of these lines, read again where memory was refused.
 pub(crate) fn read(rt: &impl Abort, alloc: Global) -> Table {
@@ -90,6 +93,35 @@ pub(crate) fn begin<'a, W: Strings>(
     match Backward::new(alloc, table, pattern) {
         Ok(backward) => backward,
         Err(_refused) => Backward::new(alloc, table, pattern).expect(rt, "memory"),
+    }
+}
+
+/// The free call, asked again where memory was refused.
+pub(crate) fn last_at_once<W: Strings>(
+    alloc: Global,
+    table: &W,
+    pattern: &Pattern,
+    text: &[u8],
+    at: usize,
+) -> Told {
+    match last_before(alloc, table, pattern, text, at) {
+        Err(fault) if fault.kind == TextFault::NO_MEMORY => {
+            last_before(alloc, table, pattern, text, at)
+        }
+        told => told,
+    }
+}
+
+/// The free call, asked again where memory was refused.
+pub(crate) fn ends_at_once<W: Strings>(
+    alloc: Global,
+    table: &W,
+    pattern: &Pattern,
+    text: &[u8],
+) -> Start {
+    match ends(alloc, table, pattern, text) {
+        Err(fault) if fault.kind == TextFault::NO_MEMORY => ends(alloc, table, pattern, text),
+        told => told,
     }
 }
 

@@ -1,6 +1,8 @@
-//! Made texts: what is told before each offset, beside a search from the beginning that goes on behind each fault.
+//! Made texts: what is told before each offset, and of the match that ends there, beside a search from the beginning that goes on behind
+//! each fault.
 
-use crate::asking::{Told, begin, compile, read, same_at};
+use crate::asking::{Start, Told, begin, compile, read, same_at};
+use collation_anchored::equal;
 use collation_elements::{Strength, Variable};
 use collation_pattern::Pattern;
 use collation_safe::next_safe;
@@ -182,6 +184,43 @@ fn told(rests: &[Rest], at: usize) -> Told {
     }
 }
 
+/// Whether the text from a place on is equal, asked again where memory was refused.
+fn is_equal_from<W: Strings>(
+    alloc: Global,
+    table: &W,
+    pattern: &Pattern,
+    text: &[u8],
+    from: u64,
+) -> bool {
+    let (_, rest) = text.split_at((from as usize).min(text.len()));
+    match equal(alloc, table, pattern, rest) {
+        Err(fault) if fault.kind == TextFault::NO_MEMORY => {
+            equal(alloc, table, pattern, rest) == Ok(true)
+        }
+        told => told == Ok(true),
+    }
+}
+
+/// The greatest start of a range, wherever that ends, from which on the text is equal; or the fault that is met first.
+fn start_of_equal<W: Strings>(
+    alloc: Global,
+    table: &W,
+    pattern: &Pattern,
+    text: &[u8],
+    rests: &[Rest],
+) -> Start {
+    told(rests, text.len())?;
+    let mut start = None;
+    if let Some(rest) = rests.last() {
+        for range in &rest.ranges {
+            if is_equal_from(alloc, table, pattern, text, range.0) {
+                start = Some(range.0);
+            }
+        }
+    }
+    Ok(start)
+}
+
 /// Goes back from offsets of a text, each so many bytes from the one before.
 fn compare<W: Strings>(
     rt: &impl Abort,
@@ -210,7 +249,42 @@ fn compare<W: Strings>(
     }
 }
 
-/// The same for each pattern, with and without bytes that are no UTF-8.
+/// A fault stands so far before the end of a text that the rest may have more keys than the pattern, so that it is not met.
+fn is_far_back(wanted: &Start, end: usize) -> bool {
+    match wanted {
+        Err(fault) => (fault.offset as usize).saturating_add(1_024) < end,
+        Ok(_) => false,
+    }
+}
+
+/// What is told of the match that ends with a text, and with beginnings of it, each so many bytes longer than the one before.
+fn compare_ends<W: Strings>(
+    rt: &impl Abort,
+    alloc: Global,
+    table: &W,
+    pattern: &Pattern,
+    text: &[u8],
+    stride: usize,
+) {
+    let mut backward = begin(rt, alloc, table, pattern);
+    let mut wait = 0usize;
+    for end in 0..text.len().saturating_add(1) {
+        if wait == 0 || end == text.len() {
+            let (front, _) = text.split_at(end.min(text.len()));
+            if let Ok(searched) = rests(alloc, table, pattern, front) {
+                let got = backward.ends(front);
+                let wanted = start_of_equal(alloc, table, pattern, front, &searched);
+                if !(got == Ok(None) && is_far_back(&wanted, end)) {
+                    same_at(rt, &got, &wanted, end);
+                }
+            }
+            wait = stride;
+        }
+        wait = wait.saturating_sub(1);
+    }
+}
+
+/// All of it for each pattern, with and without bytes that are no UTF-8.
 fn compare_made(
     rt: &impl Abort,
     alloc: Global,
@@ -225,6 +299,7 @@ fn compare_made(
             for with_bad in [false, true] {
                 if let Ok(text) = make(alloc, seed, count, with_bad) {
                     compare(rt, alloc, table, &pattern, &text, stride);
+                    compare_ends(rt, alloc, table, &pattern, &text, stride.saturating_mul(9));
                 }
             }
         }
@@ -267,6 +342,7 @@ fn far_back(rt: HostRuntime) {
         let made = text.extend_from_slice(front).is_ok() && text.resize(40_000, b'e').is_ok();
         if made {
             compare(&rt, alloc, &table, &pattern, &text, 4_999);
+            compare_ends(&rt, alloc, &table, &pattern, &text, 39_998);
         }
     }
 }

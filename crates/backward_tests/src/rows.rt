@@ -1,6 +1,9 @@
 //! Worked rows: what is told before some offsets of small texts, by either table.
 
-use crate::asking::{Told, begin, compile, ill_formed, read, read_plain, same_at};
+use crate::asking::{
+    Start, Told, begin, compile, ends_at_once, ill_formed, last_at_once, read, read_plain, same_at,
+};
+use collation_backward::TextFault;
 use collation_elements::{Strength, Variable};
 use collation_table::Strings;
 use std::alloc::Global;
@@ -65,6 +68,53 @@ const FAULTS: [(&str, &[u8], usize, u64); 4] = [
     ("a", b"\xff", 1, 0),
 ];
 
+/// A pattern, its strength, whether it is shifted, a text, and where the match starts that ends with the text.
+type End<'a> = (&'a str, Strength, Variable, &'a [u8], Start);
+
+const KEPT: Variable = Variable::NonIgnorable;
+
+const ENDS: [End; 16] = [
+    ("aa", Strength::Three, KEPT, b"aaa", Ok(Some(1))),
+    ("ab", Strength::Three, KEPT, b"aba", Ok(None)),
+    ("a", Strength::Three, KEPT, b"", Ok(None)),
+    ("a", Strength::Three, KEPT, b"bb", Ok(None)),
+    // an accent belongs to the match at strength one alone
+    ("a", Strength::One, KEPT, b"baa\xcc\x81", Ok(Some(2))),
+    ("a", Strength::Two, KEPT, b"baa\xcc\x81", Ok(None)),
+    // what is ignorable belongs to it, though no minimal match ends there
+    (
+        "ab",
+        Strength::Three,
+        Variable::Shifted,
+        b"cab - ",
+        Ok(Some(1)),
+    ),
+    ("ab", Strength::Three, KEPT, b"cab-", Ok(None)),
+    (
+        "ab",
+        Strength::Three,
+        KEPT,
+        b"cab\xc2\xad\xc2\xad",
+        Ok(Some(1)),
+    ),
+    // a contraction is one letter
+    ("c", Strength::Three, KEPT, b"ach", Ok(None)),
+    ("h", Strength::Three, KEPT, b"ach", Ok(None)),
+    ("ch", Strength::Three, KEPT, b"ach", Ok(Some(1))),
+    // a fault that ends the text, one that cuts a character, and one in front of the match
+    ("a", Strength::Three, KEPT, b"a\xff", Err(FIRST_FAULT)),
+    ("a", Strength::Three, KEPT, b"a\xe4\xb8", Err(FIRST_FAULT)),
+    ("a", Strength::Three, KEPT, b"a\xffba", Ok(Some(3))),
+    // behind the fault is a match, and the text goes on behind it
+    ("a", Strength::Three, KEPT, b"a\xffab", Ok(None)),
+];
+
+/// An ill-formed sequence behind the first letter.
+const FIRST_FAULT: TextFault = TextFault {
+    kind: TextFault::ILL_FORMED,
+    offset: 1,
+};
+
 fn compare<W: Strings>(rt: &impl Abort, alloc: Global, table: &W) {
     for row in &ROWS {
         let (letters, text, asked) = *row;
@@ -79,6 +129,12 @@ fn compare<W: Strings>(rt: &impl Abort, alloc: Global, table: &W) {
         let mut backward = begin(rt, alloc, table, &pattern);
         for (at, want) in asked {
             same_at(rt, &backward.last_before(text, *at), want, *at);
+            same_at(
+                rt,
+                &last_at_once(alloc, table, &pattern, text, *at),
+                want,
+                *at,
+            );
         }
     }
 }
@@ -87,6 +143,26 @@ fn compare<W: Strings>(rt: &impl Abort, alloc: Global, table: &W) {
 fn rows(rt: HostRuntime) {
     let alloc = rt.alloc();
     compare(&rt, alloc, &read(&rt, alloc));
+}
+
+#[test]
+fn ends(rt: HostRuntime) {
+    let alloc = rt.alloc();
+    let table = read(&rt, alloc);
+    let mut row = 0usize;
+    for end in &ENDS {
+        let (letters, strength, variable, text, want) = *end;
+        let pattern = compile(&rt, alloc, &table, letters, strength, variable);
+        let mut backward = begin(&rt, alloc, &table, &pattern);
+        same_at(&rt, &backward.ends(text), &want, row);
+        same_at(
+            &rt,
+            &ends_at_once(alloc, &table, &pattern, text),
+            &want,
+            row,
+        );
+        row = row.saturating_add(1);
+    }
 }
 
 #[test]
@@ -134,4 +210,6 @@ fn no_safe_offset(rt: HostRuntime) {
         &Err(ill_formed(2)),
         5,
     );
+    same_at(&rt, &backward.ends(b"baa"), &Ok(Some(1)), 3);
+    same_at(&rt, &backward.ends(b"aa\xffaa"), &Err(ill_formed(2)), 5);
 }

@@ -1,6 +1,6 @@
 -- What a handle holds after a call, by what it held before.
-use Rattle.std.proofs.Common.{◌≡◌, ◌∙◌, refl, sym, ap, subst, Some, None}
-use Rattle.std.specs.Prelude.{◌⊎◌, Bool, Result, Ok, Err, Option}
+use Rattle.std.proofs.Common.{◌≡◌, ◌∙◌, refl, sym, ap, subst, Some, None, inr}
+use Rattle.std.specs.Prelude.{◌⊎◌, Bool, IfErr, Result, Ok, Err, Option}
 use Rattle.std.specs.Arc.{arc_value}
 use Rattle.std.specs.declared.alloc.Global.{Global}
 use Rattle.std_alloc.specs.declared.arc.Arc.{Arc}
@@ -11,19 +11,22 @@ use Rattle.colfind_c.specs.declared.owned.Owned.{Owned}
 use Rattle.colfind_c.specs.declared.owned.Owned.TheVariants.{Table as ATable, Pattern as APattern, Search as ASearch}
 use Rattle.colfind_c.specs.declared.outcome.Outcome.{Outcome}
 use Rattle.colfind_c.specs.declared.outcome.Outcome.TheVariants.{Good, Table as InTable, Pattern as InPattern, Text, State, NoMemory, Partly, WrongHandle, Ended, Short, BadArgument}
-use Rattle.colfind_c.specs.Exports.{OfTable, OfPattern, OfSearch, TakesOldest, SharesTable, SharesQuery, IsGiven, GivesTable, GivesPattern, IsCompiled, MakesPattern, StartsSearch, GoesOnFrom, SavesInto, IsEqualTo, IsBegunBy, IsNextSafe, IsPreviousSafe, AnswersNextSafe, AnswersPreviousSafe, table_under, strength_for, variable_for, select_for}
-use Rattle.std.specs.Prelude.{ℕ, List, [], ◌≢◌}
+use Rattle.colfind_c.specs.Exports.{OfTable, OfPattern, OfSearch, AsksPattern, AsksQuery, AsksSearch, KeepsAll, TakesOldest, SharesTable, SharesQuery, IsGiven, GivesTable, GivesPattern, IsCompiled, MakesPattern, StartsSearch, GoesOnFrom, SavesInto, IsEqualTo, IsBegunBy, IsLastBefore, IsEndedBy, IsNextSafe, IsPreviousSafe, AnswersNextSafe, AnswersPreviousSafe, table_under, strength_for, variable_for, select_for}
+use Rattle.std.specs.Prelude.{ℕ, ◌≤◌, List, [], length, false, ◌≢◌}
 use Rattle.collation_table.specs.Table.{TableMap}
 use Rattle.collation_table.specs.contracts.table.TableWeights.TheImpl.{ghosts as weights}
 use Rattle.collation_elements.specs.declared.settings.Strength.{Strength}
 use Rattle.collation_elements.specs.declared.settings.Variable.{Variable}
+use Rattle.collation_anchored.specs.Anchored.{ends}
 use Rattle.collation_anchored.specs.Answers.{equal_answer, begins_answer, no_memory}
-use Rattle.collation_pattern.specs.Compiled.{IsCompiledWith}
+use Rattle.collation_pattern.specs.Compiled.{Compiled, IsCompiledWith}
 use Rattle.collation_pattern.specs.PatternFaults.{pattern_fault}
 use Rattle.collation_matches.specs.declared.faults.TextFault.{TextFault}
 use Rattle.collation_matches.specs.declared.select.Select.{Select}
 use Rattle.collation_matches.specs.declared.select.Select.TheVariants.{All}
-use Rattle.collation_matches.specs.Sought.{IsCompiledFrom, answer_to}
+use Rattle.collation_matches.specs.GoodPrefix.{fault as fault_in, most_bytes}
+use Rattle.collation_matches.specs.Sought.{IsCompiledFrom, answer_to, seeking}
+use Rattle.collation_backward.specs.Backward.{is_fault_before, last_up_to, IsToldBefore, IsNothingBehind, IsStartTold}
 use Rattle.collation_matches.specs.Offsets.{answer_from}
 use Rattle.collation_search.specs.Indexing.{IsFirstOf}
 use Rattle.collation_search.specs.Resuming.{IsRefused}
@@ -114,6 +117,45 @@ of_pattern_err C (Some (ATable t)) how e none = ap (outcome_or how) e
 of_pattern_err C (Some (ASearch t)) how e none = ap (outcome_or how) e
 of_pattern_err C None how e none = ap (outcome_or how) e
 
+-- the same of a call that answers something
+pub asked_ok : {A : Type 0} (none : A) (C : Query → A → Outcome → Type 0) (v : Option Owned) (x : Arc Query Global) (answer : A) (how : Outcome) → SharesQuery v (Ok x) → C (arc_value x) answer how
+    → AsksPattern none C v answer how
+asked_ok none C (Some (APattern t)) x answer how e is = subst (λ y. C y answer how) e is
+asked_ok none C (Some (ATable t)) x answer how e is = absurd (subst IsOk_ e tt)
+asked_ok none C (Some (ASearch t)) x answer how e is = absurd (subst IsOk_ e tt)
+asked_ok none C None x answer how e is = absurd (subst IsOk_ e tt)
+
+pub asked_err : {A : Type 0} (none : A) (C : Query → A → Outcome → Type 0) (v : Option Owned) (how : Outcome) → SharesQuery v (Err how) → ((x : Query) → C x none NoMemory)
+    → AsksPattern none C v none how
+asked_err none C (Some (APattern t)) how e is = subst (λ h. C (arc_value t) none h) (sym e) (is (arc_value t))
+asked_err none C (Some (ATable t)) how e is = (ap (outcome_or how) e, refl)
+asked_err none C (Some (ASearch t)) how e is = (ap (outcome_or how) e, refl)
+asked_err none C None how e is = (ap (outcome_or how) e, refl)
+
+pub asked_search : {A : Type 0} (none : A) (C : Session → A → Outcome → Session → Type 0) (before after : Option Owned) (o1 o2 : Owned) (answer : A) (how : Outcome) → before ≡ Some o1 → after ≡ Some o2
+    → AsksSearch none C (Some o1) answer how (Some o2) → AsksSearch none C before answer how after
+asked_search none C before after o1 o2 answer how e1 e2 is = subst (λ v. AsksSearch none C v answer how after) (sym e1) (subst (λ v. AsksSearch none C (Some o1) answer how v) (sym e2) is)
+
+-- the pattern that a handle holds, or that of its search, is asked
+pub asked_pattern : {A : Type 0} (none : A) (C : Query → A → Outcome → Type 0) (o : Owned) (q : Arc Query Global) (answer : A) (how : Outcome) → o ≡ APattern q
+    → C (arc_value q) answer how → AsksQuery none C (Some o) answer how
+asked_pattern none C o q answer how e is = subst (λ v. AsksQuery none C (Some v) answer how) (sym e) is
+
+pub asked_of_search : {A : Type 0} (none : A) (C : Query → A → Outcome → Type 0) (o : Owned) (s : Session) (answer : A) (how : Outcome) → o ≡ ASearch s
+    → C (arc_value s.query) answer how → AsksQuery none C (Some o) answer how
+asked_of_search none C o s answer how e is = subst (λ v. AsksQuery none C (Some v) answer how) (sym e) is
+
+pub query_none : {A : Type 0} (none : A) (C : Query → A → Outcome → Type 0) (before : Option Owned) → before ≡ None → AsksQuery none C before none WrongHandle
+query_none none C before e = subst (λ v. AsksQuery none C v none WrongHandle) (sym e) (refl, refl)
+
+-- a search that has other room for whole texts, and else is as it was
+pub kept_search : (o : Owned) (old new : Session) → o ≡ ASearch old → new.query ≡ old.query → new.select ≡ old.select → new.parked ≡ old.parked → new.queue ≡ old.queue
+    → KeepsAll (Some o) (Some (ASearch new))
+kept_search o old new e query select parked queue = subst (λ v. KeepsAll (Some v) (Some (ASearch new))) (sym e) (new, refl, query, select, parked, queue)
+
+pub asked_none : {A : Type 0} (none : A) (C : Session → A → Outcome → Session → Type 0) (before after : Option Owned) → before ≡ None → after ≡ None → AsksSearch none C before none WrongHandle after
+asked_none none C before after e1 e2 = subst (λ v. AsksSearch none C v none WrongHandle after) (sym e1) (refl, refl, e2)
+
 pub of_search : (C : Session → Outcome → Session → Type 0) (before after : Option Owned) (o1 o2 : Owned) (how : Outcome) → before ≡ Some o1 → after ≡ Some o2
     → OfSearch C (Some o1) how (Some o2) → OfSearch C before how after
 of_search C before after o1 o2 how e1 e2 is = subst (λ v. OfSearch C v how after) (sym e1) (subst (λ v. OfSearch C (Some o1) how v) (sym e2) is)
@@ -199,22 +241,52 @@ pub begun_seen : (q : Query) (t : Table) (text : List ℕ) (result : Result (Opt
     → IsBegunBy q text result
 begun_seen q t text result e is = subst (λ x. (p : List ℕ) → IsCompiledWith (weights.table x) q.pattern p → (result ≡ Err no_memory) ⊎ (result ≡ begins_answer (weights.table x) q.pattern p text)) e is
 
+-- what is asked with the table and the pattern that were lent
+pub equal_asked : (q : Query) (t : Table) (pattern : Compiled) (text : List ℕ) (result : Result Bool TextFault) → t ≡ arc_value q.table → pattern ≡ q.pattern
+    → ((p : List ℕ) → IsCompiledWith (weights.table t) pattern p → result ≡ equal_answer (weights.table t) pattern p text) → IsEqualTo q text result
+equal_asked q t pattern text result e same is =
+    equal_seen q t text result e (subst (λ c. (p : List ℕ) → IsCompiledWith (weights.table t) c p → (result ≡ Err no_memory) ⊎ (result ≡ equal_answer (weights.table t) c p text)) same (λ p h. inr (is p h)))
+
+pub begun_asked : (q : Query) (t : Table) (pattern : Compiled) (text : List ℕ) (result : Result (Option ℕ) TextFault) → t ≡ arc_value q.table → pattern ≡ q.pattern
+    → ((p : List ℕ) → IsCompiledWith (weights.table t) pattern p → result ≡ begins_answer (weights.table t) pattern p text) → IsBegunBy q text result
+begun_asked q t pattern text result e same is =
+    begun_seen q t text result e (subst (λ c. (p : List ℕ) → IsCompiledWith (weights.table t) c p → (result ≡ Err no_memory) ⊎ (result ≡ begins_answer (weights.table t) c p text)) same (λ p h. inr (is p h)))
+
+-- what was told going back, seen through the references
+pub last_seen : (q : Query) (t : Table) (text : List ℕ) (at : ℕ) (result : Result (Option (ℕ × ℕ)) TextFault) → t ≡ arc_value q.table
+    → ((p : List ℕ) → IsCompiledFrom (seeking (weights.table t) q.pattern All) p → length text ≤ most_bytes → is_fault_before at (fault_in text) ≡ false
+    → (result ≡ Err no_memory) ⊎ (result ≡ Ok (last_up_to at (answer_to (seeking (weights.table t) q.pattern All) p text).ranges)))
+    → ((p : List ℕ) → IsCompiledFrom (seeking (weights.table t) q.pattern All) p → (result ≡ Err no_memory) ⊎ IsToldBefore (seeking (weights.table t) q.pattern All) p text at result)
+    → ((p : List ℕ) → IsCompiledFrom (seeking (weights.table t) q.pattern All) p → length text ≤ most_bytes
+    → (result ≡ Err no_memory) ⊎ IfErr result (IsNothingBehind (seeking (weights.table t) q.pattern All) p text at))
+    → IsLastBefore (sought_with q All) text at result
+last_seen q t text at result e good told behind = subst (λ s. IsLastBefore s text at result) (seen_with q q t All refl e) (record { good = good; told = told; behind = behind })
+
+pub end_seen : (q : Query) (t : Table) (text : List ℕ) (result : Result (Option ℕ) TextFault) → t ≡ arc_value q.table
+    → ((p : List ℕ) → IsCompiledFrom (seeking (weights.table t) q.pattern All) p → fault_in text ≡ None
+    → (result ≡ Err no_memory) ⊎ (result ≡ Ok (ends (weights.table t) q.pattern.strength q.pattern.variable p text)))
+    → ((p : List ℕ) → IsCompiledFrom (seeking (weights.table t) q.pattern All) p → (result ≡ Err no_memory) ⊎ IsStartTold (seeking (weights.table t) q.pattern All) p text result)
+    → ((p : List ℕ) → IsCompiledFrom (seeking (weights.table t) q.pattern All) p → length text ≤ most_bytes
+    → (result ≡ Err no_memory) ⊎ IfErr result (IsNothingBehind (seeking (weights.table t) q.pattern All) p text (length text)))
+    → IsEndedBy (sought_with q All) text result
+end_seen q t text result e good told behind = subst (λ s. IsEndedBy s text result) (seen_with q q t All refl e) (record { good = good; told = told; behind = behind })
+
 -- a safe offset that was found under the table of a handle, and one that was asked of no table
-pub next_told : (value : Option Owned) (owned : Owned) (seen : TableMap) (bytes : List ℕ) (from : ℕ) (found told : Option ℕ) → value ≡ Some owned → seen ≡ table_under owned → told ≡ found
-    → IsNextSafe seen bytes from found → AnswersNextSafe value bytes from told Good
-next_told value owned seen bytes from found told e1 e2 e3 is =
-    subst (λ v. AnswersNextSafe v bytes from told Good) (sym e1) (refl, subst (λ t. IsNextSafe t bytes from told) e2 (subst (λ f. IsNextSafe seen bytes from f) (sym e3) is))
+pub next_told : (value : Option Owned) (owned : Owned) (seen : TableMap) (bytes : List ℕ) (from : ℕ) (found : Option ℕ) → value ≡ Some owned → seen ≡ table_under owned
+    → IsNextSafe seen bytes from found → AnswersNextSafe value bytes from found Good
+next_told value owned seen bytes from found e1 e2 is =
+    subst (λ v. AnswersNextSafe v bytes from found Good) (sym e1) (refl, subst (λ t. IsNextSafe t bytes from found) e2 is)
 
-pub next_untold : (value : Option Owned) (bytes : List ℕ) (from : ℕ) (told : Option ℕ) → value ≡ None → told ≡ None → AnswersNextSafe value bytes from told WrongHandle
-next_untold value bytes from told e1 e2 = subst (λ v. AnswersNextSafe v bytes from told WrongHandle) (sym e1) (refl, e2)
+pub next_untold : (value : Option Owned) (bytes : List ℕ) (from : ℕ) → value ≡ None → AnswersNextSafe value bytes from None WrongHandle
+next_untold value bytes from e = subst (λ v. AnswersNextSafe v bytes from None WrongHandle) (sym e) (refl, refl)
 
-pub previous_told : (value : Option Owned) (owned : Owned) (seen : TableMap) (bytes : List ℕ) (before : ℕ) (found told : Option ℕ) → value ≡ Some owned → seen ≡ table_under owned → told ≡ found
-    → IsPreviousSafe seen bytes before found → AnswersPreviousSafe value bytes before told Good
-previous_told value owned seen bytes before found told e1 e2 e3 is =
-    subst (λ v. AnswersPreviousSafe v bytes before told Good) (sym e1) (refl, subst (λ t. IsPreviousSafe t bytes before told) e2 (subst (λ f. IsPreviousSafe seen bytes before f) (sym e3) is))
+pub previous_told : (value : Option Owned) (owned : Owned) (seen : TableMap) (bytes : List ℕ) (before : ℕ) (found : Option ℕ) → value ≡ Some owned → seen ≡ table_under owned
+    → IsPreviousSafe seen bytes before found → AnswersPreviousSafe value bytes before found Good
+previous_told value owned seen bytes before found e1 e2 is =
+    subst (λ v. AnswersPreviousSafe v bytes before found Good) (sym e1) (refl, subst (λ t. IsPreviousSafe t bytes before found) e2 is)
 
-pub previous_untold : (value : Option Owned) (bytes : List ℕ) (before : ℕ) (told : Option ℕ) → value ≡ None → told ≡ None → AnswersPreviousSafe value bytes before told WrongHandle
-previous_untold value bytes before told e1 e2 = subst (λ v. AnswersPreviousSafe v bytes before told WrongHandle) (sym e1) (refl, e2)
+pub previous_untold : (value : Option Owned) (bytes : List ℕ) (before : ℕ) → value ≡ None → AnswersPreviousSafe value bytes before None WrongHandle
+previous_untold value bytes before e = subst (λ v. AnswersPreviousSafe v bytes before None WrongHandle) (sym e) (refl, refl)
 
 -- a search that could not be saved wrote nothing
 pub save_failed : (before : List ℕ) (old : Session) (how : Outcome) (words : List ℕ) (new : Session) → SavesSession old how words new → (how ≡ Good → ⊥) → SavesInto before before 0 old how new
@@ -223,9 +295,9 @@ save_failed before old (InTable f) words new is bad = absurd is.saved
 save_failed before old (InPattern f) words new is bad = absurd is.saved
 save_failed before old (Text f) words new is bad = absurd is.saved
 save_failed before old (State f) words new is bad = absurd is.saved
-save_failed before old NoMemory words new is bad = record { words = words; saved = is; written = refl }
+save_failed before old NoMemory words new is bad = record { words = words; saved = is; written = (refl, refl) }
 save_failed before old (Partly n) words new is bad = absurd is.saved
 save_failed before old WrongHandle words new is bad = absurd is.saved
-save_failed before old Ended words new is bad = record { words = words; saved = is; written = refl }
+save_failed before old Ended words new is bad = record { words = words; saved = is; written = (refl, refl) }
 save_failed before old (Short n) words new is bad = absurd is.saved
 save_failed before old BadArgument words new is bad = absurd is.saved

@@ -21,10 +21,13 @@ use Rattle.colfind_c.specs.declared.outcome.Outcome.{Outcome}
 use Rattle.colfind_c.specs.declared.outcome.Outcome.TheVariants.{Good, Table as TableFile, Pattern, Text, State, NoMemory, Partly, WrongHandle, Ended, Short, BadArgument}
 use Rattle.colfind_c.specs.Queries.{table_of, sought_with}
 use Rattle.colfind_c.specs.Queues.{pairs, waiting, HasRoom, Gets}
-use Rattle.colfind_c.specs.Parkings.{FeedsParked, FinishesParked, most_found_late}
+use Rattle.colfind_c.specs.Parkings.{FeedsParked, FinishesParked, SearchesPart, most_found_late}
+use Rattle.collation_matches.specs.Answer.{Answer}
 use Rattle.collation_matches.specs.Offsets.{answer_from}
+use Rattle.collation_parts.specs.Parts.{part_answer}
+use Rattle.collation_search.specs.Feeding.{fault_of}
 use Rattle.collation_search.specs.Indexing.{first_range}
-use Rattle.colfind_c.specs.Sessions.{sought_of, HasFed, KeepsFed, HasBegunAgain, HasMet, FeedsSession, FeedsPart, FinishesSession, StopsSession, EndsSession, FirstInSession, SavesSession, TakesRanges}
+use Rattle.colfind_c.specs.Sessions.{sought_of, HasFed, KeepsFed, HasBegunAgain, HasPart, HasMet, FeedsSession, FeedsPart, FinishesSession, StopsSession, EndsSession, FirstInSession, SavesSession, TakesRanges}
 
 abbrev value_or : Parked → Option Parked → Parked
 value_or p None = p
@@ -70,6 +73,10 @@ pub seen_with : (q x : Query) (t : Table) (select : Select) → x ≡ q → t �
 seen_with q x t select eq et = ap (λ (y : Table). let r : Sought = record { table = weights.table y; pattern = x.pattern; select = select } in r) et
     ∙ ap (λ (y : Query). let r : Sought = record { table = table_of y; pattern = y.pattern; select = select } in r) eq
 
+-- an answer of these ranges and this fault
+answer_is : (a : Answer) (ranges : List (ℕ × ℕ)) (fault : Option TextFault) → a.ranges ≡ ranges → a.fault ≡ fault → a ≡ record { ranges = ranges; fault = fault }
+answer_is a ranges fault e1 e2 = ap (λ xs. let r : Answer = record { ranges = xs; fault = a.fault } in r) e1 ∙ ap (λ f. let r : Answer = record { ranges = ranges; fault = f } in r) e2
+
 -- a session of which nothing has changed but the room of its queue
 module _ (old new : Session) (eq : new.query ≡ old.query) (es : new.select ≡ old.select) where
   pub same_sought : sought_of new ≡ sought_of old
@@ -106,6 +113,10 @@ module _ (old new : Session) (eq : new.query ≡ old.query) (es : new.select ≡
       stands = subst (λ z. HasParked z h.parked u ((given ++ pairs (take count out)) ++ waiting new.queue)) (sym same_sought)
           (subst (λ xs. HasParked (sought_of old) h.parked u xs) (ap (λ xs. given ++ xs) oldest ∙ sym (append_assoc given (pairs (take count out)) (waiting new.queue))) h.stands);
     };
+    begins = λ b. let stands = subst (λ z. HasParked z b.parked [] []) (sym same_sought) b.stands in (
+      record { parked = b.parked; held = ep ∙ b.held; kept = lost ∙ b.kept; stands = stands },
+      λ none. (record { parked = b.parked; held = ep ∙ b.held; kept = lost ∙ b.kept; stands = subst (λ xs. HasParked (sought_of new) b.parked [] xs) (sym none) stands }, none),
+    );
     same = same_sought;
   }
 
@@ -267,12 +278,12 @@ module _ (s : Session) (p : Parked) (q : Query) (t : Table) (is : s.parked ≡ S
 
   -- a search that has begun again, and whose ranges were dropped
   pub begun_session : (p2 : Parked) (new : Session) → HasParked seen p2 [] [] → new.query ≡ s.query → new.select ≡ s.select → new.parked ≡ Some p2
-      → new.queue.lost ≡ s.queue.lost → waiting new.queue ≡ [] → HasBegunAgain new
+      → new.queue.lost ≡ false → waiting new.queue ≡ [] → HasBegunAgain new
   begun_session p2 new stands eq2 es2 ep lost none = (
     record {
       parked = p2;
       held = ep;
-      kept = lost ∙ s.kept p is;
+      kept = lost;
       stands = subst (λ xs. HasParked (sought_of new) p2 [] xs) (sym none) (subst (λ z. HasParked z p2 [] []) (seen_is ∙ sym (same_sought s new eq2 es2)) stands);
     },
     none,
@@ -282,7 +293,7 @@ module _ (s : Session) (p : Parked) (q : Query) (t : Table) (is : s.parked ≡ S
   module _ (text : List ℕ) (from : ℕ) (result : Result (Option (ℕ × ℕ)) TextFault) (p2 : Parked) (new : Session)
       (first : (t : List ℕ) → IsCompiledFrom seen t → result ≡ first_range (answer_from seen t text from).ranges (answer_from seen t text from).fault)
       (stands : HasParked seen p2 [] []) (within : from ≤ length text)
-      (eq2 : new.query ≡ s.query) (es2 : new.select ≡ s.select) (ep : new.parked ≡ Some p2) (lost : new.queue.lost ≡ s.queue.lost) (none : waiting new.queue ≡ []) where
+      (eq2 : new.query ≡ s.query) (es2 : new.select ≡ s.select) (ep : new.parked ≡ Some p2) (lost : new.queue.lost ≡ false) (none : waiting new.queue ≡ []) where
     begun_again : HasBegunAgain new
     begun_again = begun_session p2 new stands eq2 es2 ep lost none
 
@@ -295,6 +306,22 @@ module _ (s : Session) (p : Parked) (q : Query) (t : Table) (is : s.parked ≡ S
 
     pub first_failed : (f : TextFault) → result ≡ Err f → FirstInSession s text from None (Text f) new
     first_failed f err = record { first = (within, begun_again, refl, λ t c. sym err ∙ answered_first t c); same = same_sought s new eq2 es2 }
+
+  -- a search that looked through a part of a text is at the beginning of another one, and the ranges of the part wait
+  module _ (text : List ℕ) (from to : ℕ) (result : Result (Unit {0}) TextFault) (queue1 queue2 : Queue) (p2 : Parked) (new : Session)
+      (found : SearchesPart seen text from to queue1 result queue2) (none : waiting queue1 ≡ []) (stands : HasParked seen p2 [] []) (good : queue2.lost ≡ false)
+      (eq2 : new.query ≡ s.query) (es2 : new.select ≡ s.select) (ep : new.parked ≡ Some p2) (e2 : new.queue ≡ queue2) where
+    part_waits : (t : List ℕ) → IsCompiledFrom seen t → waiting queue2 ≡ (part_answer seen t text from to).ranges
+    part_waits t compiled = ((found.ranges t compiled).waits [] (record { kept = λ _. none })).kept good
+
+    pub has_part : (fault : Option TextFault) → fault_of result ≡ fault → HasPart s text from to fault new
+    has_part fault is = (
+      record { parked = p2; held = ep; kept = ap (λ x. x.lost) e2 ∙ good; stands = subst (λ z. HasParked z p2 [] []) (seen_is ∙ sym (same_sought s new eq2 es2)) stands },
+      λ t compiled.
+          let here = subst (λ z. IsCompiledFrom z t) (sym seen_is) compiled in
+          subst (λ z. part_answer z t text from to ≡ record { ranges = waiting new.queue; fault = fault }) seen_is
+          (answer_is (part_answer seen t text from to) (waiting new.queue) fault (sym (part_waits t here) ∙ ap waiting (sym e2)) (sym (found.fault t here) ∙ is)),
+    )
 
   -- a search that was saved has parked what it had
   pub session_saved : (p2 : Parked) (new : Session)

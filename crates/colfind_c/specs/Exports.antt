@@ -1,5 +1,5 @@
 -- What the calls of the library do, over what a handle held before and holds after them.
-use Rattle.std.specs.Prelude.{◌≡◌, ◌⊎◌, ◌≢◌, ℕ, ◌<◌, ◌≤◌, ◌==◌, Bool, false, List, [], ◌++◌, length, drop, if◌then◌else◌, Option, None, Some, IfSome, Result, Ok, Err, MatchResult}
+use Rattle.std.specs.Prelude.{◌≡◌, ◌⊎◌, ◌≢◌, ℕ, ◌<◌, ◌≤◌, ◌==◌, Bool, false, List, [], ◌++◌, length, drop, if◌then◌else◌, Option, None, Some, IfSome, IfErr, Result, Ok, Err, MatchResult}
 use Rattle.std.specs.Str.{IsUtf8}
 use Rattle.std.specs.Arc.{arc_value}
 use Rattle.std.specs.declared.alloc.Global.{Global}
@@ -17,9 +17,12 @@ use Rattle.collation_pattern.specs.PatternFaults.{pattern_fault}
 use Rattle.collation_matches.specs.declared.faults.TextFault.{TextFault}
 use Rattle.collation_matches.specs.declared.select.Select.{Select}
 use Rattle.collation_matches.specs.declared.select.Select.TheVariants.{All, Chain}
-use Rattle.collation_matches.specs.Sought.{IsCompiledFrom, answer_to}
+use Rattle.collation_matches.specs.GoodPrefix.{fault, most_bytes}
+use Rattle.collation_matches.specs.Sought.{Sought, IsCompiledFrom, answer_to}
 use Rattle.collation_matches.specs.Offsets.{answer_from}
+use Rattle.collation_anchored.specs.Anchored.{ends}
 use Rattle.collation_anchored.specs.Answers.{equal_answer, begins_answer, no_memory}
+use Rattle.collation_backward.specs.Backward.{is_fault_before, last_up_to, IsToldBefore, IsNothingBehind, IsStartTold}
 use Rattle.collation_safe.specs.Safe.{IsSafeAloneOffset, IsSafeOffset}
 use Rattle.collation_safe.specs.Found.{IsFoundFrom, IsFoundUpTo}
 use Rattle.collation_search.specs.Indexing.{IsFirstOf}
@@ -45,6 +48,24 @@ use Rattle.colfind_c.specs.Statuses.{status_of}
 abbrev pub Says : Status → (Outcome → Type 0) → Type 0
 Says status C = (outcome : Outcome) × (status ≡ status_of outcome) × C outcome
 
+-- what C gets says that the call has ended so, and what it answers
+abbrev pub Tells : {A T : Type 0} → (Outcome → A → T) → T → (Outcome → A → Type 0) → Type 0
+Tells {A} told result C = (outcome : Outcome) × (answer : A) × (result ≡ told outcome answer) × C outcome answer
+
+-- 1 and a range, or 0 and zeros
+abbrev pub first_of : Outcome → Option (ℕ × ℕ) → First
+first_of outcome None = record { status = status_of outcome; is_found = 0; range = record { start = 0; end = 0 } }
+first_of outcome (Some range) = record { status = status_of outcome; is_found = 1; range = record { start = range.0; end = range.1 } }
+
+-- 1 for yes and 0 for no
+abbrev pub equality_of : Outcome → Bool → Equality
+equality_of outcome answer = record { status = status_of outcome; is_equal = if answer then 1 else 0 }
+
+-- 1 and an offset, or 0 and zero
+abbrev pub place_of : Outcome → Option ℕ → Place
+place_of outcome None = record { status = status_of outcome; is_found = 0; at = 0 }
+place_of outcome (Some at) = record { status = status_of outcome; is_found = 1; at = at }
+
 -- ---- which handle a call is for: another one is a wrong handle
 
 abbrev pub OfTable : (Table → Outcome → Type 0) → Option Owned → Outcome → Type 0
@@ -55,10 +76,35 @@ abbrev pub OfPattern : (Query → Outcome → Type 0) → Option Owned → Outco
 OfPattern C (Some (APattern q)) outcome = C (arc_value q) outcome
 OfPattern C other outcome = outcome ≡ WrongHandle
 
+-- the same of a call that answers something; with a wrong handle it answers `none`
+abbrev pub AsksPattern : {A : Type 0} → A → (Query → A → Outcome → Type 0) → Option Owned → A → Outcome → Type 0
+AsksPattern none C (Some (APattern q)) answer outcome = C (arc_value q) answer outcome
+AsksPattern none C other answer outcome = (outcome ≡ WrongHandle) × (answer ≡ none)
+
+-- the same of the pattern that a handle holds, or for which its search is
+abbrev pub AsksQuery : {A : Type 0} → A → (Query → A → Outcome → Type 0) → Option Owned → A → Outcome → Type 0
+AsksQuery none C (Some (APattern q)) answer outcome = C (arc_value q) answer outcome
+AsksQuery none C (Some (ASearch s)) answer outcome = C (arc_value s.query) answer outcome
+AsksQuery none C other answer outcome = (outcome ≡ WrongHandle) × (answer ≡ none)
+
+-- what a handle holds stays; a search may have other room for whole texts
+abbrev pub KeepsAll : Option Owned → Option Owned → Type 0
+KeepsAll (Some (ASearch old)) after = (new : Session) × (after ≡ Some (ASearch new))
+    × (new.query ≡ old.query) × (new.select ≡ old.select) × (new.parked ≡ old.parked) × (new.queue ≡ old.queue)
+KeepsAll before after = after ≡ before
+
 -- a search that a handle holds is another one after the call; what else it holds stays
 abbrev pub OfSearch : (Session → Outcome → Session → Type 0) → Option Owned → Outcome → Option Owned → Type 0
 OfSearch C (Some (ASearch old)) outcome after = (new : Session) × (after ≡ Some (ASearch new)) × C old outcome new
 OfSearch C other outcome after = (outcome ≡ WrongHandle) × (after ≡ other)
+
+abbrev pub AsksSearch : {A : Type 0} → A → (Session → A → Outcome → Session → Type 0) → Option Owned → A → Outcome → Option Owned → Type 0
+AsksSearch none C (Some (ASearch old)) answer outcome after = (new : Session) × (after ≡ Some (ASearch new)) × C old answer outcome new
+AsksSearch none C other answer outcome after = (outcome ≡ WrongHandle) × (answer ≡ none) × (after ≡ other)
+
+-- none was counted, and a buffer is as it was
+abbrev pub untouched : {A : Type 0} → List A → ℕ × List A
+untouched buffer = (0, buffer)
 
 -- ---- what is shared, given and compiled within a call
 
@@ -178,10 +224,6 @@ AnswersFirstFrom q text from range BadArgument = (length text < from) × (range 
 AnswersFirstFrom q text from range NoMemory = range ≡ None
 AnswersFirstFrom q text from range _ = ⊥
 
--- the range that C gets, if it gets one
-abbrev pub first_of : First → Option (ℕ × ℕ)
-first_of first = if first.is_found == 1 then Some (first.range.start, first.range.end) else None
-
 -- one number for all: 1 where there is a range, 0 where there is none, else the number of the fault
 abbrev pub number_of : Option (ℕ × ℕ) → Outcome → ℕ
 number_of (Some range) how = 1
@@ -196,7 +238,6 @@ IsEqualTo q text result = (p : List ℕ) → IsCompiledWith (table_of q) q.patte
 abbrev pub AnswersEqual : Query → List ℕ → Bool → Outcome → Type 0
 AnswersEqual q text answer Good = IsEqualTo q text (Ok answer)
 AnswersEqual q text answer (Text f) = (answer ≡ false) × IsEqualTo q text (Err f)
-AnswersEqual q text answer NoMemory = answer ≡ false
 AnswersEqual q text answer _ = ⊥
 
 -- the same of where the least match ends that begins where the text begins
@@ -211,12 +252,49 @@ up_to (Some end) = Some (0, end)
 abbrev pub AnswersBegins : Query → List ℕ → Option (ℕ × ℕ) → Outcome → Type 0
 AnswersBegins q text range Good = (end : Option ℕ) × (range ≡ up_to end) × IsBegunBy q text (Ok end)
 AnswersBegins q text range (Text f) = (range ≡ None) × IsBegunBy q text (Err f)
-AnswersBegins q text range NoMemory = range ≡ None
 AnswersBegins q text range _ = ⊥
 
--- what C gets
-abbrev pub equal_of : Equality → Bool
-equal_of equality = equality.is_equal == 1
+-- ---- of a text going back
+
+-- What is told is what going back from an offset meets first, a range or a fault (`last_before` of `collation_backward`), unless memory was
+-- refused.
+--   good: where no fault stands before the offset, it is the last range that ends there or before it
+--   told: it is what the rest of the text from a safe offset on says; that there is none is said by the whole text
+--   behind: from each safe offset behind a fault that is told, but one amid a contraction, the rest says that there is none
+pub record IsLastBefore (s : Sought) (text : List ℕ) (at : ℕ) (result : Result (Option (ℕ × ℕ)) TextFault) : Type 0 where
+  pub good : (p : List ℕ) → IsCompiledFrom s p → length text ≤ most_bytes → is_fault_before at (fault text) ≡ false
+      → (result ≡ Err no_memory) ⊎ (result ≡ Ok (last_up_to at (answer_to s p text).ranges))
+  pub told : (p : List ℕ) → IsCompiledFrom s p → (result ≡ Err no_memory) ⊎ IsToldBefore s p text at result
+  pub behind : (p : List ℕ) → IsCompiledFrom s p → length text ≤ most_bytes
+      → (result ≡ Err no_memory) ⊎ IfErr result (IsNothingBehind s p text at)
+
+abbrev pub AnswersLastBefore : Query → List ℕ → ℕ → Option (ℕ × ℕ) → Outcome → Type 0
+AnswersLastBefore q text at range Good = IsLastBefore (sought_with q All) text at (Ok range)
+AnswersLastBefore q text at range (Text f) = (range ≡ None) × IsLastBefore (sought_with q All) text at (Err f)
+AnswersLastBefore q text at range NoMemory = range ≡ None
+AnswersLastBefore q text at range _ = ⊥
+
+-- What is told is where the shortest match begins that ends where the text ends (`ends` of `collation_backward`), unless memory was refused.
+--   good: it is that of a text without a fault
+--   told, behind: with faults it is made of what going back from the end meets first; that there is none may also be said by a rest of the
+--   text that has more keys than the pattern
+pub record IsEndedBy (s : Sought) (text : List ℕ) (result : Result (Option ℕ) TextFault) : Type 0 where
+  pub good : (p : List ℕ) → IsCompiledFrom s p → fault text ≡ None
+      → (result ≡ Err no_memory) ⊎ (result ≡ Ok (ends s.table s.pattern.strength s.pattern.variable p text))
+  pub told : (p : List ℕ) → IsCompiledFrom s p → (result ≡ Err no_memory) ⊎ IsStartTold s p text result
+  pub behind : (p : List ℕ) → IsCompiledFrom s p → length text ≤ most_bytes
+      → (result ≡ Err no_memory) ⊎ IfErr result (IsNothingBehind s p text (length text))
+
+-- the range from there to an offset
+abbrev pub up_from : ℕ → Option ℕ → Option (ℕ × ℕ)
+up_from end None = None
+up_from end (Some start) = Some (start, end)
+
+abbrev pub AnswersEnds : Query → List ℕ → Option (ℕ × ℕ) → Outcome → Type 0
+AnswersEnds q text range Good = (start : Option ℕ) × (range ≡ up_from (length text) start) × IsEndedBy (sought_with q All) text (Ok start)
+AnswersEnds q text range (Text f) = (range ≡ None) × IsEndedBy (sought_with q All) text (Err f)
+AnswersEnds q text range NoMemory = range ≡ None
+AnswersEnds q text range _ = ⊥
 
 -- ---- safe offsets
 
@@ -251,10 +329,6 @@ abbrev pub AnswersPreviousSafe : Option Owned → List ℕ → ℕ → Option �
 AnswersPreviousSafe (Some owned) bytes before found outcome = (outcome ≡ Good) × IsPreviousSafe (table_under owned) bytes before found
 AnswersPreviousSafe None bytes before found outcome = (outcome ≡ WrongHandle) × (found ≡ None)
 
--- the offset that C gets, if it gets one
-abbrev pub place_of : Place → Option ℕ
-place_of place = if place.is_found == 1 then Some place.at else None
-
 -- how many ranges wait
 abbrev pub pending : Option Owned → ℕ
 pending (Some (ASearch s)) = length (waiting s.queue)
@@ -269,7 +343,7 @@ TakesOldest other room count out after = (count ≡ 0) × (after ≡ other)
 abbrev pub Writes : List ℕ → List ℕ → List ℕ → Outcome → ℕ → Type 0
 Writes before words after Good count = (after ≡ words ++ drop (length words) before) × (count ≡ length words)
 Writes before words after (Short n) count = (after ≡ before) × (n ≡ length words) × (count ≡ length words)
-Writes before words after _ count = after ≡ before
+Writes before words after _ count = (after ≡ before) × (count ≡ 0)
 
 -- what became of a search that was saved: where its words have no room it is saved all the same, and stays as it was
 abbrev pub saving : Outcome → Outcome

@@ -7,8 +7,12 @@ use Rattle.collation_table.specs.declared.lookup.Weights.{Ghosts}
 use Rattle.collation_search.specs.declared.parking.Parked.{Parked}
 use Rattle.collation_search.specs.declared.search.Search.{Search}
 use Rattle.collation_search.specs.Search.{sought, HasSearched, HasReported}
+use Rattle.collation_search.specs.Feeding.{fault_of}
 use Rattle.collation_search.specs.Indexing.{first_range}
 use Rattle.collation_search.specs.Parking.{HasParked, parked_fault}
+use Rattle.collation_parts.specs.Parts.{part_answer}
+use Rattle.colfind_c.specs.declared.queue.Queue.{Queue}
+use Rattle.colfind_c.specs.Queues.{Gets}
 
 -- how many ranges more than it has bytes a piece can make known
 abbrev pub most_found_late : ℕ
@@ -48,3 +52,8 @@ pub record FinishesParked (s : Sought) (old : Parked) (result : Result (Unit {0}
 -- the first range of what stands in a text from an offset on, or its fault
 abbrev pub IsFirstFrom : Sought → List ℕ → List ℕ → ℕ → Result (Option (ℕ × ℕ)) TextFault → Type 0
 IsFirstFrom s pattern text from result = result ≡ first_range (answer_from s pattern text from).ranges (answer_from s pattern text from).fault
+
+-- The ranges of the part of a text between two offsets were put at the end of a queue, and its fault is told.
+pub record SearchesPart (s : Sought) (text : List ℕ) (from to : ℕ) (before : Queue) (result : Result (Unit {0}) TextFault) (after : Queue) : Type 0 where
+  pub ranges : (p : List ℕ) → IsCompiledFrom s p → Gets before (part_answer s p text from to).ranges after
+  pub fault : (p : List ℕ) → IsCompiledFrom s p → fault_of result ≡ (part_answer s p text from to).fault

@@ -1,5 +1,5 @@
 -- What a search of the library has done with a text.
-use Rattle.std.specs.Prelude.{◌≡◌, ℕ, ◌<◌, ◌≤◌, List, [], ◌++◌, take, length, min, IsSome, false, Some, None, Option, Ok, Err}
+use Rattle.std.specs.Prelude.{◌≡◌, ◌⊎◌, ℕ, ◌<◌, ◌≤◌, List, [], ◌++◌, take, length, min, IsSome, false, Some, None, Option, Ok, Err}
 use Rattle.std.specs.Arc.{arc_value}
 use Rattle.collation_table.specs.declared.table.Table.{Table}
 use Rattle.collation_table.specs.contracts.table.TableWeights.TheImpl.{ghosts as weights}
@@ -12,6 +12,7 @@ use Rattle.collation_search.specs.Parking.{HasParked, parked_fault, parked_words
 use Rattle.collation_search.specs.Resuming.{AreSaved}
 use Rattle.collation_search.specs.Saving.{HasRecords, most_records}
 use Rattle.collation_matches.specs.Answer.{Answer}
+use Rattle.collation_parts.specs.Parts.{part_answer}
 use Rattle.colfind_c.specs.declared.owned.Session.{Session}
 use Rattle.colfind_c.specs.declared.outcome.Outcome.{Outcome}
 use Rattle.colfind_c.specs.declared.outcome.Outcome.TheVariants.{Good, Text, NoMemory, Partly, Ended, Short, State, BadArgument}
@@ -151,16 +152,25 @@ pub record ResumesSession (s : Sought) (words : List ℕ) (new : Session) : Type
   pub stands : (saved : Search Table weights) (u : List ℕ) (handed : List (ℕ × ℕ)) → AreSaved saved s words u handed → HasFed new u handed
   pub same : sought_of new ≡ s
 
--- The oldest ranges that wait were taken, as many as there is room for. They are given from now on, and the others wait.
-pub record TakesRanges (old : Session) (room : ℕ) (count : ℕ) (out : List Range) (new : Session) : Type 0 where
-  pub most : count ≡ min room (length (waiting old.queue))
-  pub oldest : waiting old.queue ≡ pairs (take count out) ++ waiting new.queue
-  pub given : (u : List ℕ) (given : List (ℕ × ℕ)) → HasFed old u given → HasFed new u (given ++ pairs (take count out))
-  pub same : sought_of new ≡ sought_of old
+-- The search is at the beginning of a text; ranges that wait are not of this text.
+pub record IsAtBeginning (s : Session) : Type 0 where
+  pub parked : Parked
+  pub held : s.parked ≡ Some parked
+  pub kept : s.queue.lost ≡ false
+  pub stands : HasParked (sought_of s) parked [] []
 
 -- the search is at the beginning of a text, and no range waits
 abbrev pub HasBegunAgain : Session → Type 0
 HasBegunAgain new = HasFed new [] [] × (waiting new.queue ≡ [])
+
+-- The oldest ranges that wait were taken, as many as there is room for. They are given from now on, and the others wait. A search at the
+-- beginning of a text stays there, and has begun again once no range waits.
+pub record TakesRanges (old : Session) (room : ℕ) (count : ℕ) (out : List Range) (new : Session) : Type 0 where
+  pub most : count ≡ min room (length (waiting old.queue))
+  pub oldest : waiting old.queue ≡ pairs (take count out) ++ waiting new.queue
+  pub given : (u : List ℕ) (given : List (ℕ × ℕ)) → HasFed old u given → HasFed new u (given ++ pairs (take count out))
+  pub begins : IsAtBeginning old → IsAtBeginning new × (waiting new.queue ≡ [] → HasBegunAgain new)
+  pub same : sought_of new ≡ sought_of old
 
 -- The first range of what stands in a text from an offset on, or the fault before it; an offset behind the text is none.
 abbrev pub IsFirstIn : Session → List ℕ → ℕ → Option (ℕ × ℕ) → Outcome → Session → Type 0
@@ -174,6 +184,30 @@ IsFirstIn old text from range _ new = ⊥
 
 pub record FirstInSession (old : Session) (text : List ℕ) (from : ℕ) (range : Option (ℕ × ℕ)) (outcome : Outcome) (new : Session) : Type 0 where
   pub first : IsFirstIn old text from range outcome new
+  pub same : sought_of new ≡ sought_of old
+
+-- ---- a part of a text
+
+-- the ranges that wait, with this fault, are what the part of a text between two offsets has; the search is at the beginning of another text
+abbrev pub HasPart : Session → List ℕ → ℕ → ℕ → Option TextFault → Session → Type 0
+HasPart old text from to fault new = IsAtBeginning new × ((p : List ℕ) → IsCompiledFrom (sought_of old) p
+    → part_answer (sought_of old) p text from to ≡ record { ranges = waiting new.queue; fault = fault })
+
+-- a part begins within the text, or at its end, and does not end before it begins
+abbrev pub IsPartOf : ℕ → ℕ → List ℕ → Type 0
+IsPartOf from to text = (from ≤ to) × (from ≤ length text)
+
+-- What the part has, or that there is no such part.
+abbrev pub IsPartIn : Session → List ℕ → ℕ → ℕ → Outcome → Session → Type 0
+IsPartIn old text from to Good new = IsPartOf from to text × HasPart old text from to None new
+IsPartIn old text from to (Text f) new = IsPartOf from to text × HasPart old text from to (Some f) new
+IsPartIn old text from to NoMemory new = IsPartOf from to text × HasBegunAgain new
+IsPartIn old text from to Ended new = HadEnded old new
+IsPartIn old text from to BadArgument new = ((to < from) ⊎ (length text < from)) × (new ≡ old)
+IsPartIn old text from to _ new = ⊥
+
+pub record PartInSession (old : Session) (text : List ℕ) (from to : ℕ) (outcome : Outcome) (new : Session) : Type 0 where
+  pub part : IsPartIn old text from to outcome new
   pub same : sought_of new ≡ sought_of old
 
 -- ---- all ranges of a text

@@ -1,15 +1,21 @@
 //! What C asks of a text from its beginning: whether all of it is equal to a pattern, and where a match ends that begins with it.
 
-ghost use Rattle.std.specs.Prelude.{◌≡◌, ℕ, Option};
-ghost use Rattle.colfind_c.specs.Exports.{Says, OfPattern, AnswersEqual, AnswersBegins, equal_of, first_of, up_to};
-ghost use Rattle.colfind_c.specs.Statuses.{status_of};
+ghost use Rattle.std.specs.Prelude.{◌≡◌, ℕ, Option, Some, false, None, IfOk};
+ghost use Rattle.std.specs.Arc.{arc_value};
+ghost use Rattle.std.specs.Option.{ForSome};
+ghost use Rattle.collation_anchored.specs.Answers.{no_memory};
+ghost use Rattle.collation_anchored.specs.Parking.{IsFor};
+ghost use Rattle.colfind_c.specs.Exports.{Tells, AsksQuery, AnswersEqual, AnswersBegins, KeepsAll, equality_of, first_of, up_to};
+ghost use Rattle.colfind_c.specs.Queries.{table_of};
 
-use crate::exports::{First, first_with, query_of};
-use crate::handle::Handle;
+use crate::exports::{First, first_with};
+use crate::handle::{Handle, put, take};
 use crate::outcome::{Outcome, Status};
-use crate::owned::Query;
-use collation_anchored::{begins, equal};
-use std::alloc::Global;
+use crate::owned::{Owned, Query};
+use collation_anchored::{Anchored, Parked, TextFault};
+use collation_table::Table;
+use std::alloc::{AllocError, Global};
+use std::mem::replace;
 
 /// Whether a whole text is equal to a pattern.
 #[repr(C)]
@@ -20,20 +26,78 @@ pub struct Equality {
     pub is_equal: u32,
 }
 
-/// Whether a text is equal to a pattern.
-fn equal_to(alloc: Global, query: &Query, text: &[u8]) -> (Outcome, bool)
-    ensures { AnswersEqual query.now text.now result.1 result.0 }
+/// What asks texts: what was put away after the text before, or a new one.
+fn asking<'a>(
+    alloc: Global,
+    query: &'a Query,
+    room: Option<Parked>,
+) -> Result<Anchored<'a, Table>, AllocError>
+    requires fits { ForSome room (λ r. IsFor (table_of query.now) r) }
+    ensures table { IfOk result (λ asks. asks.table.now ≡ arc_value query.now.table) }
+    ensures pattern { IfOk result (λ asks. asks.pattern.now ≡ query.now.pattern) }
 {
-    match equal(alloc, &*query.table, &query.pattern, text) {
-        Ok(answer) => (Outcome::Good, answer),
-        Err(fault) => (Outcome::Text(fault), false),
+    match room {
+        Some(room) => Ok(room.unpark(&*query.table, &query.pattern)),
+        None => Anchored::new(alloc, &*query.table, &query.pattern),
+    }
+}
+
+/// That memory was refused.
+fn refused() -> TextFault
+    ensures { result ≡ no_memory }
+{
+    TextFault {
+        kind: TextFault::NO_MEMORY,
+        offset: 0,
+    }
+}
+
+/// Whether a text is equal to a pattern, and what was put away for the next text.
+fn equal_to(
+    alloc: Global,
+    query: &Query,
+    text: &[u8],
+    room: Option<Parked>,
+) -> (Outcome, bool, Option<Parked>)
+    requires fits { ForSome room (λ r. IsFor (table_of query.now) r) }
+    ensures answer { AnswersEqual query.now text.now result.1 result.0 }
+    ensures fits { ForSome result.2 (λ r. IsFor (table_of query.now) r) }
+{
+    let Ok(mut asks) = asking(alloc, query, room) else {
+        return (Outcome::Text(refused()), false, None);
+    };
+    let said = asks.equals(text);
+    let room = Some(asks.park());
+    match said {
+        Ok(answer) => (Outcome::Good, answer, room),
+        Err(fault) => (Outcome::Text(fault), false, room),
+    }
+}
+
+/// Whether a text is equal to the pattern that a handle holds, or for which its search is.
+fn equal_owned(alloc: Global, owned: &mut Owned, text: &[u8]) -> (Outcome, bool)
+    ensures answer { AsksQuery false (λ q is_equal how. AnswersEqual q text.now is_equal how)
+        (Some owned.old) result.1 result.0 }
+    ensures kept { KeepsAll (Some owned.old) (Some owned.new) }
+{
+    match owned {
+        Owned::Pattern(query) => {
+            let (outcome, answer, _) = equal_to(alloc, &**query, text, None);
+            (outcome, answer)
+        }
+        Owned::Search(session) => {
+            let room = replace(&mut session.asking, None);
+            let (outcome, answer, room) = equal_to(alloc, &*session.query, text, room);
+            session.asking = room;
+            (outcome, answer)
+        }
+        _ => (Outcome::WrongHandle, false),
     }
 }
 
 /// What C gets of it.
 fn equality_with(outcome: Outcome, answer: bool) -> Equality
-    ensures status { result.status ≡ status_of outcome }
-    ensures answer { equal_of result ≡ answer }
+    ensures { result ≡ equality_of outcome answer }
 {
     let is_equal = if answer { 1 } else { 0 };
     Equality {
@@ -42,20 +106,22 @@ fn equality_with(outcome: Outcome, answer: bool) -> Equality
     }
 }
 
-/// Whether a text in memory is equal to a pattern, by their sort keys.
+/// Whether a text in memory is equal to a pattern, by their sort keys. A search keeps what is asked for the next text.
 #[unsafe(no_mangle)]
-pub extern "C" fn colfind_equal(alloc: Global, pattern: &mut Handle, text: &[u8]) -> Equality
-    ensures answer { Says result.status
-        (λ outcome. OfPattern
-        (λ q how. AnswersEqual q text.now (equal_of result) how) pattern.old.value outcome) }
-    ensures same { pattern.new.value ≡ pattern.old.value }
+pub extern "C" fn colfind_equal(alloc: Global, handle: &mut Handle, text: &[u8]) -> Equality
+    ensures answer { Tells equality_of result
+        (λ outcome answer. AsksQuery false
+        (λ q is_equal how. AnswersEqual q text.now is_equal how)
+        handle.old.value answer outcome) }
+    ensures kept { KeepsAll handle.old.value handle.new.value }
 {
-    match query_of(alloc, pattern) {
-        Ok(query) => {
-            let (outcome, answer) = equal_to(alloc, &*query, text);
+    match take(alloc, handle) {
+        Some(mut owned) => {
+            let (outcome, answer) = equal_owned(alloc, &mut *owned, text);
+            put(alloc, handle, owned);
             equality_with(outcome, answer)
         }
-        Err(outcome) => equality_with(outcome, false),
+        None => equality_with(Outcome::WrongHandle, false),
     }
 }
 
@@ -69,29 +135,64 @@ fn range_to(end: Option<u64>) -> Option<(u64, u64)>
     }
 }
 
-/// The least match that begins where a text begins.
-fn begun_by(alloc: Global, query: &Query, text: &[u8]) -> (Outcome, Option<(u64, u64)>)
-    ensures { AnswersBegins query.now text.now result.1 result.0 }
+/// The least match that begins where a text begins, and what was put away for the next text.
+fn begun_by(
+    alloc: Global,
+    query: &Query,
+    text: &[u8],
+    room: Option<Parked>,
+) -> (Outcome, Option<(u64, u64)>, Option<Parked>)
+    requires fits { ForSome room (λ r. IsFor (table_of query.now) r) }
+    ensures answer { AnswersBegins query.now text.now result.1 result.0 }
+    ensures fits { ForSome result.2 (λ r. IsFor (table_of query.now) r) }
 {
-    match begins(alloc, &*query.table, &query.pattern, text) {
-        Ok(end) => (Outcome::Good, range_to(end)),
-        Err(fault) => (Outcome::Text(fault), None),
+    let Ok(mut asks) = asking(alloc, query, room) else {
+        return (Outcome::Text(refused()), None, None);
+    };
+    let said = asks.begins(text);
+    let room = Some(asks.park());
+    match said {
+        Ok(end) => (Outcome::Good, range_to(end), room),
+        Err(fault) => (Outcome::Text(fault), None, room),
     }
 }
 
-/// The least match that begins where a text in memory begins.
-#[unsafe(no_mangle)]
-pub extern "C" fn colfind_begins(alloc: Global, pattern: &mut Handle, text: &[u8]) -> First
-    ensures answer { Says result.status
-        (λ outcome. OfPattern
-        (λ q how. AnswersBegins q text.now (first_of result) how) pattern.old.value outcome) }
-    ensures same { pattern.new.value ≡ pattern.old.value }
+/// The least match that begins where a text begins, of the pattern that a handle holds, or for which its search is.
+fn begun_owned(alloc: Global, owned: &mut Owned, text: &[u8]) -> (Outcome, Option<(u64, u64)>)
+    ensures answer { AsksQuery None (λ q first how. AnswersBegins q text.now first how)
+        (Some owned.old) result.1 result.0 }
+    ensures kept { KeepsAll (Some owned.old) (Some owned.new) }
 {
-    match query_of(alloc, pattern) {
-        Ok(query) => {
-            let (outcome, range) = begun_by(alloc, &*query, text);
+    match owned {
+        Owned::Pattern(query) => {
+            let (outcome, range, _) = begun_by(alloc, &**query, text, None);
+            (outcome, range)
+        }
+        Owned::Search(session) => {
+            let room = replace(&mut session.asking, None);
+            let (outcome, range, room) = begun_by(alloc, &*session.query, text, room);
+            session.asking = room;
+            (outcome, range)
+        }
+        _ => (Outcome::WrongHandle, None),
+    }
+}
+
+/// The least match that begins where a text in memory begins. A search keeps what is asked for the next text.
+#[unsafe(no_mangle)]
+pub extern "C" fn colfind_begins(alloc: Global, handle: &mut Handle, text: &[u8]) -> First
+    ensures answer { Tells first_of result
+        (λ outcome range. AsksQuery None
+        (λ q first how. AnswersBegins q text.now first how)
+        handle.old.value range outcome) }
+    ensures kept { KeepsAll handle.old.value handle.new.value }
+{
+    match take(alloc, handle) {
+        Some(mut owned) => {
+            let (outcome, range) = begun_owned(alloc, &mut *owned, text);
+            put(alloc, handle, owned);
             first_with(outcome, range)
         }
-        Err(outcome) => first_with(outcome, None),
+        None => first_with(Outcome::WrongHandle, None),
     }
 }

@@ -3,10 +3,9 @@
 ghost use Rattle.std.specs.Prelude.{◌≡◌, ℕ, Option, length, None, Some, IfSome, IfNone};
 ghost use Rattle.std.specs.Arc.{arc_value};
 ghost use Rattle.std.specs.Str.{IsUtf8};
-ghost use Rattle.colfind_c.specs.Exports.{Says, OfTable, OfPattern, OfSearch, MakesTable, MakesPattern, StartsSearch, GoesOnFrom, AnswersFirst, AnswersFirstFrom, TakesOldest, SavesInto, SharesTable, SharesQuery, SharesOwned, SharesInto, IsGiven, GivesTable, GivesPattern, IsCompiled, strength_for, variable_for, select_for, pending, first_of, number_of};
+ghost use Rattle.colfind_c.specs.Exports.{Says, Tells, OfTable, OfPattern, OfSearch, AsksPattern, AsksSearch, untouched, MakesTable, MakesPattern, StartsSearch, GoesOnFrom, AnswersFirst, AnswersFirstFrom, TakesOldest, SavesInto, SharesTable, SharesQuery, SharesOwned, SharesInto, IsGiven, GivesTable, GivesPattern, IsCompiled, strength_for, variable_for, select_for, pending, first_of, number_of};
 ghost use Rattle.colfind_c.specs.Messages.{as_text, message};
 ghost use Rattle.colfind_c.specs.Sessions.{FeedsSession, FinishesSession, StopsSession, FirstInSession, AllInSession};
-ghost use Rattle.colfind_c.specs.Statuses.{status_of};
 
 use crate::handle::{Handle, put, take};
 use crate::message::write_text;
@@ -494,8 +493,9 @@ pub extern "C" fn colfind_pending(alloc: Global, search: &mut Handle) -> usize
 
 /// Writes the words of what a handle holds into a buffer, if they have room: how the call has ended, and how many there are.
 fn save_owned(alloc: Global, owned: &mut Owned, out: &mut [u64]) -> (Outcome, usize)
-    ensures saved { OfSearch (λ old how new. SavesInto out.old out.new result.1 old how new)
-        (Some owned.old) result.0 (Some owned.new) }
+    ensures saved { AsksSearch (untouched out.old)
+        (λ old given how new. SavesInto out.old given.1 given.0 old how new)
+        (Some owned.old) (result.1, out.new) result.0 (Some owned.new) }
     ensures len { length out.new ≡ length out.old }
 {
     match owned {
@@ -535,9 +535,9 @@ pub struct Saved {
 #[unsafe(no_mangle)]
 pub extern "C" fn colfind_save(alloc: Global, search: &mut Handle, out: &mut [u64]) -> Saved
     ensures saved { Says result.status
-        (λ outcome. OfSearch
-        (λ old how new. SavesInto out.old out.new result.words old how new)
-        search.old.value outcome search.new.value) }
+        (λ outcome. AsksSearch (untouched out.old)
+        (λ old given how new. SavesInto out.old given.1 given.0 old how new)
+        search.old.value (result.words, out.new) outcome search.new.value) }
 {
     match take(alloc, search) {
         Some(mut owned) => {
@@ -577,8 +577,7 @@ fn first_in(alloc: Global, query: &Query, text: &[u8]) -> (Outcome, Option<(u64,
 
 /// What C gets of the first range of a text.
 pub(crate) fn first_with(outcome: Outcome, found: Option<(u64, u64)>) -> First
-    ensures status { result.status ≡ status_of outcome }
-    ensures range { first_of result ≡ found }
+    ensures { result ≡ first_of outcome found }
 {
     let status = outcome.status();
     match found {
@@ -598,9 +597,10 @@ pub(crate) fn first_with(outcome: Outcome, found: Option<(u64, u64)>) -> First
 /// The first range of a text in memory.
 #[unsafe(no_mangle)]
 pub extern "C" fn colfind_index(alloc: Global, pattern: &mut Handle, text: &[u8]) -> First
-    ensures first { Says result.status
-        (λ outcome. OfPattern
-        (λ q how. AnswersFirst q text.now (first_of result) how) pattern.old.value outcome) }
+    ensures first { Tells first_of result
+        (λ outcome range. AsksPattern None
+        (λ q first how. AnswersFirst q text.now first how)
+        pattern.old.value range outcome) }
     ensures same { pattern.new.value ≡ pattern.old.value }
 {
     match query_of(alloc, pattern) {
@@ -639,9 +639,10 @@ pub extern "C" fn colfind_index_from(
     text: &[u8],
     from: usize,
 ) -> First
-    ensures first { Says result.status (λ outcome. OfPattern
-        (λ q how. AnswersFirstFrom q text.now from
-        (first_of result) how) pattern.old.value outcome) }
+    ensures first { Tells first_of result
+        (λ outcome range. AsksPattern None
+        (λ q first how. AnswersFirstFrom q text.now from first how)
+        pattern.old.value range outcome) }
     ensures same { pattern.new.value ≡ pattern.old.value }
 {
     match query_of(alloc, pattern) {
@@ -655,8 +656,9 @@ pub extern "C" fn colfind_index_from(
 
 /// The first range for what a handle holds of what stands in a text from an offset on.
 fn first_owned(owned: &mut Owned, text: &[u8], from: usize) -> (Outcome, Option<(u64, u64)>)
-    ensures first { OfSearch (λ old how new. FirstInSession old text.now from result.1 how new)
-        (Some owned.old) result.0 (Some owned.new) }
+    ensures first { AsksSearch None
+        (λ old first how new. FirstInSession old text.now from first how new)
+        (Some owned.old) result.1 result.0 (Some owned.new) }
 {
     match owned {
         Owned::Search(session) => session.first_in(text, from),
@@ -672,9 +674,10 @@ pub extern "C" fn colfind_first_in(
     text: &[u8],
     from: usize,
 ) -> First
-    ensures first { Says result.status (λ outcome. OfSearch
-        (λ old how new. FirstInSession old text.now from (first_of result) how new)
-        search.old.value outcome search.new.value) }
+    ensures first { Tells first_of result
+        (λ outcome range. AsksSearch None
+        (λ old first how new. FirstInSession old text.now from first how new)
+        search.old.value range outcome search.new.value) }
 {
     match take(alloc, search) {
         Some(mut owned) => {
@@ -701,8 +704,9 @@ fn number_for(outcome: Outcome, found: Option<(u64, u64)>) -> u32
 pub extern "C" fn colfind_has(alloc: Global, search: &mut Handle, text: &[u8]) -> u32
     ensures has { (range : Option (ℕ × ℕ)) × (outcome : Outcome)
         × (result ≡ number_of range outcome)
-        × OfSearch (λ old how new. FirstInSession old text.now 0 range how new)
-        search.old.value outcome search.new.value }
+        × AsksSearch None
+        (λ old first how new. FirstInSession old text.now 0 first how new)
+        search.old.value range outcome search.new.value }
 {
     match take(alloc, search) {
         Some(mut owned) => {
@@ -725,8 +729,9 @@ pub struct AllIn {
 
 /// All ranges of a text for what a handle holds.
 fn all_owned(owned: &mut Owned, text: &[u8], out: &mut [Range]) -> (Outcome, usize)
-    ensures all { OfSearch (λ old how new. AllInSession old text.now out.new result.1 how new)
-        (Some owned.old) result.0 (Some owned.new) }
+    ensures all { AsksSearch (untouched out.old)
+        (λ old given how new. AllInSession old text.now given.1 given.0 how new)
+        (Some owned.old) (result.1, out.new) result.0 (Some owned.new) }
     ensures len { length out.new ≡ length out.old }
 {
     match owned {
@@ -743,9 +748,10 @@ pub extern "C" fn colfind_all_in(
     text: &[u8],
     out: &mut [Range],
 ) -> AllIn
-    ensures all { Says result.status (λ outcome. OfSearch
-        (λ old how new. AllInSession old text.now out.new result.count how new)
-        search.old.value outcome search.new.value) }
+    ensures all { Says result.status
+        (λ outcome. AsksSearch (untouched out.old)
+        (λ old given how new. AllInSession old text.now given.1 given.0 how new)
+        search.old.value (result.count, out.new) outcome search.new.value) }
 {
     match take(alloc, search) {
         Some(mut owned) => {

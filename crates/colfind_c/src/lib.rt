@@ -2,6 +2,7 @@
 #![tactic(auto)]
 
 mod anchored;
+mod backward;
 mod exports;
 mod handle;
 mod loose;
@@ -9,6 +10,7 @@ mod message;
 mod outcome;
 mod owned;
 mod parked;
+mod parts;
 mod queue;
 mod safe;
 mod session;

@@ -1,16 +1,18 @@
 //! Calls of a search that is put away before and after them.
 
-ghost use Rattle.std.specs.Prelude.{◌≡◌, ℕ, ◌+◌, ◌≤◌, List, [], ◌++◌, length, None, Some, OnOk};
+ghost use Rattle.std.specs.Prelude.{◌≡◌, ℕ, ◌+◌, ◌≤◌, List, [], ◌∷◌, ◌++◌, length, None, Some, OnOk};
 ghost use Rattle.collation_matches.specs.Sought.{IsCompiledFrom, answer_to, seeking, settled_in};
 ghost use Rattle.collation_matches.specs.GoodPrefix.{whole};
 ghost use Rattle.collation_walk.specs.declared.matching.TheConstants.{MOST_FOUND};
 ghost use Rattle.collation_search.specs.Feeding.{Feeds};
 ghost use Rattle.collation_search.specs.Saving.{HasRecords, most_records};
 ghost use Rattle.collation_search.specs.Parking.{IsFor, HasParked, parked_select, parked_words};
-ghost use Rattle.colfind_c.specs.Parkings.{FeedsParked, FinishesParked, IsFirstFrom, GoesOn};
+ghost use Rattle.collation_search.specs.Search.{HasSearched, sought};
+ghost use Rattle.colfind_c.specs.Parkings.{FeedsParked, FinishesParked, IsFirstFrom, GoesOn, SearchesPart};
 ghost use Rattle.colfind_c.specs.Queues.{Gets};
 
 use crate::queue::Queue;
+use collation_parts::search_part;
 use collation_pattern::Pattern;
 use collation_search::{Found, Parked, Search, TextFault};
 use collation_table::Weights;
@@ -161,6 +163,54 @@ pub(crate) fn end_parked<W: Weights>(
     let mut search = parked.unpark(table, pattern);
     let ended = search.finish_text(found);
     queue.put_all(found.as_slice());
+    (ended, search.park())
+}
+
+/// Searches the part of a text between two offsets, and puts its ranges into the queue.
+fn search_part_into<'a, W: Weights>(
+    search: &mut Search<'a, W>,
+    text: &[u8],
+    from: usize,
+    to: usize,
+    queue: &mut Queue,
+) -> Result<(), TextFault>
+    ensures part { SearchesPart (sought search.old) text.now from to queue.old result queue.new }
+    ensures stands { HasSearched search.new [] [] }
+    ensures sought { sought search.new ≡ sought search.old }
+{
+    search_part(
+        search,
+        text,
+        from,
+        to,
+        &mut |start, end|
+            ensures got { Gets queue.entry.now ((start, end) ∷ []) queue.exit.now }
+        { queue.put(start, end) },
+    )
+}
+
+/// Searches the part of a text between two offsets with a search that was put away, which is then at the beginning of another text, and
+/// puts the ranges into the queue.
+pub(crate) fn part_parked<W: Weights>(
+    table: &W,
+    pattern: &Pattern,
+    parked: Parked,
+    text: &[u8],
+    from: usize,
+    to: usize,
+    queue: &mut Queue,
+) -> (Result<(), TextFault>, Parked)
+    requires fits { IsFor (W.table table.now) pattern.now parked }
+    ensures fits { IsFor (W.table table.now) pattern.now result.1 }
+    ensures select { parked_select result.1 ≡ parked_select parked }
+    ensures part { SearchesPart
+        (seeking (W.table table.now) pattern.now (parked_select parked))
+        text.now from to queue.old result.0 queue.new }
+    ensures stands { HasParked
+        (seeking (W.table table.now) pattern.now (parked_select parked)) result.1 [] [] }
+{
+    let mut search = parked.unpark(table, pattern);
+    let ended = search_part_into(&mut search, text, from, to, queue);
     (ended, search.park())
 }
 

@@ -68,13 +68,14 @@ impl Queue {
         self.ranges.reserve(count)
     }
 
-    /// Drops the ranges that wait.
+    /// Drops the ranges that wait, and forgets that one was lost.
     pub(crate) fn clear(&mut self)
         ensures empty { waiting self.new ≡ [] }
-        ensures lost { self.new.lost ≡ self.old.lost }
+        ensures kept { self.new.lost ≡ false }
     {
         self.taken = 0;
         self.ranges.clear();
+        self.lost = false;
     }
 
     /// How many ranges wait.

@@ -1,9 +1,8 @@
 //! Where in a text a search may begin, whatever stands before, as C asks for it.
 
-ghost use Rattle.std.specs.Prelude.{◌≡◌, ℕ, Option};
+ghost use Rattle.std.specs.Prelude.{◌≡◌};
 ghost use Rattle.collation_table.specs.contracts.table.TableWeights.TheImpl.{ghosts as weights};
-ghost use Rattle.colfind_c.specs.Exports.{Says, AnswersNextSafe, AnswersPreviousSafe, table_under as table_of_owned, place_of};
-ghost use Rattle.colfind_c.specs.Statuses.{status_of};
+ghost use Rattle.colfind_c.specs.Exports.{Tells, AnswersNextSafe, AnswersPreviousSafe, table_under as table_of_owned, place_of};
 
 use crate::handle::{Handle, put, take};
 use crate::outcome::{Outcome, Status};
@@ -25,8 +24,7 @@ pub struct Place {
 
 /// What C gets of an offset.
 fn place_with(outcome: Outcome, found: Option<usize>) -> Place
-    ensures status { result.status ≡ status_of outcome }
-    ensures place { place_of result ≡ found }
+    ensures { result ≡ place_of outcome found }
 {
     let status = outcome.status();
     match found {
@@ -62,8 +60,8 @@ pub extern "C" fn colfind_next_safe(
     bytes: &[u8],
     from: usize,
 ) -> Place
-    ensures next { Says result.status
-        (λ outcome. AnswersNextSafe handle.old.value bytes.now from (place_of result) outcome) }
+    ensures next { Tells place_of result
+        (λ outcome place. AnswersNextSafe handle.old.value bytes.now from place outcome) }
     ensures same { handle.new.value ≡ handle.old.value }
 {
     match take(alloc, handle) {
@@ -84,8 +82,8 @@ pub extern "C" fn colfind_previous_safe(
     bytes: &[u8],
     before: usize,
 ) -> Place
-    ensures previous { Says result.status
-        (λ outcome. AnswersPreviousSafe handle.old.value bytes.now before (place_of result) outcome) }
+    ensures previous { Tells place_of result
+        (λ outcome place. AnswersPreviousSafe handle.old.value bytes.now before place outcome) }
     ensures same { handle.new.value ≡ handle.old.value }
 {
     match take(alloc, handle) {

@@ -3,7 +3,8 @@
 use crate::outcome::Outcome;
 use crate::owned::{Query, Session};
 use crate::parked::{
-    begin_parked, end_parked, feed_parked, finish_parked, first_parked, save_parked, stop_parked,
+    begin_parked, end_parked, feed_parked, finish_parked, first_parked, part_parked, save_parked,
+    stop_parked,
 };
 use crate::queue::{Queue, Range};
 use collation_search::{Found, MOST_FOUND, Search, Select, StateFault};
@@ -32,7 +33,7 @@ impl Session {
     ghost use Rattle.colfind_c.specs.declared.outcome.Outcome.TheVariants.{Short};
     ghost use Rattle.colfind_c.specs.Queries.{sought_with};
     ghost use Rattle.colfind_c.specs.Queues.{pairs, waiting};
-    ghost use Rattle.colfind_c.specs.Sessions.{sought_of, HasBegunAgain, HasFed, FeedsSession, FeedsPart, FinishesSession, StopsSession, EndsSession, SearchesText, AllInSession, FirstInSession, ResumesSession, SavesSession, TakesRanges};
+    ghost use Rattle.colfind_c.specs.Sessions.{sought_of, HasBegunAgain, HasFed, FeedsSession, FeedsPart, FinishesSession, StopsSession, EndsSession, SearchesText, AllInSession, FirstInSession, PartInSession, IsPartOf, ResumesSession, SavesSession, TakesRanges};
 
     /// A search at the beginning of a text.
     ///
@@ -56,6 +57,7 @@ impl Session {
             parked: Some(parked),
             queue: Queue::new(alloc),
             found: empty_room(alloc)?,
+            asking: None,
         })
     }
 
@@ -171,6 +173,55 @@ impl Session {
         match first {
             Ok(found) => (Outcome::Good, found),
             Err(fault) => (Outcome::Text(fault), None),
+        }
+    }
+
+    /// Searches the part of a text between two offsets, whose ranges wait. What was fed before is given up, with the ranges that waited, and
+    /// the search is at the beginning of a text. So it is where memory for a range was refused, and then none waits.
+    pub(crate) fn search_part(&mut self, text: &[u8], from: usize, to: usize) -> Outcome
+        ensures part { PartInSession self.old text.now from to result self.new }
+    {
+        if to < from {
+            return Outcome::BadArgument;
+        }
+        if from > text.len() {
+            return Outcome::BadArgument;
+        }
+        if self.parked.is_none() {
+            return Outcome::Ended;
+        }
+        self.search_part_of(text, from, to)
+    }
+
+    /// Searches a part that a text has, with a search that has not ended.
+    fn search_part_of(&mut self, text: &[u8], from: usize, to: usize) -> Outcome
+        requires open { IsSome self.old.parked }
+        requires part { IsPartOf from to text.now }
+        ensures part { PartInSession self.old text.now from to result self.new }
+    {
+        let Some(parked) = replace(&mut self.parked, None) else {
+            unreachable!()
+        };
+        self.queue.clear();
+        let query = &*self.query;
+        let (ended, parked) = part_parked(
+            &*query.table,
+            &query.pattern,
+            parked,
+            text,
+            from,
+            to,
+            &mut self.queue,
+        );
+        if self.queue.lost {
+            self.queue.clear();
+            self.parked = Some(parked);
+            return Outcome::NoMemory;
+        }
+        self.parked = Some(parked);
+        match ended {
+            Ok(()) => Outcome::Good,
+            Err(fault) => Outcome::Text(fault),
         }
     }
 
@@ -310,6 +361,7 @@ impl Session {
             parked: Some(parked),
             queue: Queue::new(alloc),
             found: empty_room(alloc)?,
+            asking: None,
         })
     }
 

@@ -3,4 +3,5 @@ pub mod Answers
 pub mod Laws
 pub mod Comparing
 pub mod Compared
+pub mod Parking
 pub mod WorkedRows

@@ -69,10 +69,10 @@ pub fn begins<W: Weights>(
 /// Asks texts in memory for matches that are anchored, one text after the other.
 #[derive(Drop)]
 pub struct Anchored<'a, W: Weights> {
-    table: &'a W,
-    pattern: &'a Pattern,
-    alloc: Global,
-    comparison: Comparison,
+    pub(crate) table: &'a W,
+    pub(crate) pattern: &'a Pattern,
+    pub(crate) alloc: Global,
+    pub(crate) comparison: Comparison,
     ghost longest: { comparison.longest_key ≡ longest_mapped (W.table table.now) },
 }
 

@@ -9,7 +9,9 @@ mod comparison;
 mod cutting;
 mod keys;
 pub mod laws;
+mod parking;
 pub mod worked;
 
 pub use crate::anchored::{Anchored, begins, equal};
+pub use crate::parking::Parked;
 pub use collation_matches::TextFault;

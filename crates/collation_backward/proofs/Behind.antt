@@ -3,7 +3,7 @@ use Rattle.std.proofs.Common.{◌≡◌, ◌∙◌, ℕ, ◌+◌, ◌-◌, ◌<�
 use Rattle.std.specs.Char.{len_utf8}
 use Rattle.std.proofs.lemmas.List.{drop-drop, length-drop}
 use Rattle.utf8_cut.specs.Sequences.{SpellsCharacter}
-use Rattle.collation_table.specs.Table.{TableMap, longest_mapped}
+use Rattle.collation_table.specs.Table.{TableMap}
 use Rattle.collation_matches.specs.declared.faults.TextFault.{TextFault}
 use Rattle.collation_matches.specs.declared.select.Select.TheVariants.{All}
 use Rattle.collation_matches.specs.GoodPrefix.{most_bytes, fault}
@@ -13,7 +13,8 @@ use Rattle.collation_matches.specs.Sought.{Sought, answer_to}
 use Rattle.collation_matches.proofs.SearchLemmas.{TextLaw, WithinLaw}
 use Rattle.collation_safe.specs.Laws.{AnswersFromSafeOffsets}
 use Rattle.collation_safe.specs.Found.{IsFoundUpTo}
-use Rattle.collation_safe.specs.Safe.{IsSafeOffset}
+use Rattle.collation_safe.specs.Safe.{IsSafeAloneOffset, IsSafeOffset}
+use Rattle.collation_safe.proofs.Strings.{offset-safe}
 use Rattle.collation_anchored.specs.Answers.{unless_fault}
 use Rattle.collation_search.specs.Indexing.{first_moved}
 use Rattle.collation_backward.specs.Backward.{last_up_to, is_fault_before, said_up_to, IsNothingBehind}
@@ -32,7 +33,7 @@ moved-nothing by (Ok None) h = refl
 moved-nothing by (Ok (Some range)) h = cc
 moved-nothing by (Err f) h = cc
 
-ok-none : (found : Option (ℕ × ℕ)) → (let r : Said = Ok found in r) ≡ nothing → found ≡ None
+pub ok-none : (found : Option (ℕ × ℕ)) → (let r : Said = Ok found in r) ≡ nothing → found ≡ None
 ok-none None h = refl
 ok-none (Some range) h = cc
 
@@ -88,16 +89,17 @@ nothing-behind answers text_law within_law s p text at next place all few none l
 
 -- the place that was found behind a fault is the nearest one
 abbrev pub IsNearestBehind : TableMap → List ℕ → ℕ → TextFault → Option ℕ → Type 0
-IsNearestBehind table text at f found = longest_mapped table ≤ 1 → (place : ℕ) → IsSafeOffset table text place → f.offset < place → place < at → IsFoundUpTo place found
+IsNearestBehind table text at f found = (place : ℕ) → IsSafeAloneOffset table text place → f.offset < place → place < at → IsFoundUpTo place found
 
-pub none-behind : (s : Sought) (table : TableMap) (p text : List ℕ) (at : ℕ) (f : TextFault) (found : Option ℕ) → s.table ≡ table → longest_mapped s.table ≤ 1 →
-    IsNearestBehind table text at f found → found ≡ None → IsNothingBehind s p text at f
-none-behind s table p text at f found same short nearest none = λ place safe behind less.
-    absurd (subst (IsFoundUpTo place) none (nearest (subst (λ (t : TableMap). longest_mapped t ≤ 1) same short) place (subst (λ (t : TableMap). IsSafeOffset t text place) same safe) behind less))
+module _ (s : Sought) (table : TableMap) (text : List ℕ) (at : ℕ) (f : TextFault) (found : Option ℕ) (same : s.table ≡ table) (nearest : IsNearestBehind table text at f found) where
+  found-up-to : (place : ℕ) → IsSafeAloneOffset s.table text place → f.offset < place → place < at → IsFoundUpTo place found
+  found-up-to place safe behind less = nearest place (subst (λ (t : TableMap). IsSafeAloneOffset t text place) same safe) behind less
 
-pub nothing-from : AnswersFromSafeOffsets → TextLaw → WithinLaw → (s : Sought) (table : TableMap) (p text : List ℕ) (at : ℕ) (f : TextFault) (found : Option ℕ) (next : ℕ) →
-    s.table ≡ table → s.select ≡ All → length text ≤ most_bytes → longest_mapped s.table ≤ 1 → IsNearestBehind table text at f found → found ≡ Some next →
-    said_up_to at (answer_from s p text next) ≡ nothing → IsNothingBehind s p text at f
-nothing-from answers text_law within_law s table p text at f found next same all few short nearest some none = λ place safe behind less.
-    let le = subst (IsFoundUpTo place) some (nearest (subst (λ (t : TableMap). longest_mapped t ≤ 1) same short) place (subst (λ (t : TableMap). IsSafeOffset t text place) same safe) behind less) in
-    nothing-behind answers text_law within_law s p text at next place all few none le less safe
+  pub none-behind : (p : List ℕ) → found ≡ None → IsNothingBehind s p text at f
+  none-behind p none = λ place safe behind less. absurd (subst (IsFoundUpTo place) none (found-up-to place safe behind less))
+
+  pub nothing-from : AnswersFromSafeOffsets → TextLaw → WithinLaw → (p : List ℕ) (next : ℕ) → s.select ≡ All → length text ≤ most_bytes → found ≡ Some next →
+      said_up_to at (answer_from s p text next) ≡ nothing → IsNothingBehind s p text at f
+  nothing-from answers text_law within_law p next all few some none = λ place safe behind less.
+      let le = subst (IsFoundUpTo place) some (found-up-to place safe behind less) in
+      nothing-behind answers text_law within_law s p text at next place all few none le less (offset-safe s.table text place safe)

@@ -3,4 +3,6 @@ pub mod BackwardCalls
 pub mod Told
 pub mod SaidInPieces
 pub mod Behind
+pub mod StartTold
+pub mod MoreKeys
 mod WorkedRowLemmas

@@ -16,7 +16,7 @@ use Rattle.collation_backward.specs.Backward.{last_up_to}
 
 -- ---- the last of two lists in a row
 
-last-some : (r : ℕ × ℕ) (rs : List (ℕ × ℕ)) → (last : ℕ × ℕ) × (last_of (r ∷ rs) ≡ Some last)
+pub last-some : (r : ℕ × ℕ) (rs : List (ℕ × ℕ)) → (last : ℕ × ℕ) × (last_of (r ∷ rs) ≡ Some last)
 last-some r [] = (r, refl)
 last-some r (s ∷ rs) = last-some s rs
 
@@ -36,7 +36,7 @@ last-in [] range h = cc
 last-in (r ∷ []) range h = let same : r ≡ range = cc in inl same
 last-in (r ∷ s ∷ rs) range h = inr (last-in (s ∷ rs) range h)
 
-abbrev up_to : ℕ → ℕ × ℕ → Bool
+abbrev pub up_to : ℕ → ℕ × ℕ → Bool
 up_to at range = nat_le range.1 at
 
 pub up-to-append : (at : ℕ) (xs ys : List (ℕ × ℕ)) → last_up_to at (xs ++ ys) ≡ option_or (last_up_to at ys) (last_up_to at xs)

@@ -1,13 +1,15 @@
 -- What a text says up to an offset, and what is told going back from there: the range or the fault that is met first.
-use Rattle.std.specs.Prelude.{◌≡◌, ◌⊎◌, ℕ, ◌<◌, Bool, false, nat_le, nat_lt, List, filter, Option, None, Some, Result, Ok}
+use Rattle.std.specs.Prelude.{◌≡◌, ◌⊎◌, ℕ, ◌<◌, Bool, false, nat_le, nat_lt, List, length, drop, filter, Option, None, Some, Result, Ok, Err}
 use Rattle.collation_table.specs.Table.{TableMap}
+use Rattle.collation_pattern.specs.Levels.{text_keys}
 use Rattle.collation_matches.specs.declared.faults.TextFault.{TextFault}
 use Rattle.collation_matches.specs.Answer.{Answer}
 use Rattle.collation_matches.specs.Offsets.{answer_from}
 use Rattle.collation_matches.specs.Sought.{Sought}
-use Rattle.collation_safe.specs.Safe.{IsSafeOffset}
+use Rattle.collation_safe.specs.Safe.{IsSafeAloneOffset, IsSafeOffset}
 use Rattle.collation_anchored.specs.Anchored.{last_of}
 use Rattle.collation_anchored.specs.Answers.{unless_fault}
+use Rattle.collation_anchored.specs.Laws.{start_of_equal}
 
 -- of some ranges, the last one that ends at an offset or before it
 abbrev pub last_up_to : ℕ → List (ℕ × ℕ) → Option (ℕ × ℕ)
@@ -37,7 +39,33 @@ pub record IsToldFrom (s : Sought) (p text : List ℕ) (first at : ℕ) (result 
 abbrev pub IsToldBefore : Sought → List ℕ → List ℕ → ℕ → Result (Option (ℕ × ℕ)) TextFault → Type 0
 IsToldBefore s p text at result = IsToldFrom s p text 0 at result
 
--- from each safe offset behind a fault the rest says that there is nothing up to the offset
+-- from each safe offset behind a fault whose character stands in no contraction the rest says that there is nothing up to the offset
 abbrev pub IsNothingBehind : Sought → List ℕ → List ℕ → ℕ → TextFault → Type 0
 IsNothingBehind s p text at fault =
-    (place : ℕ) → IsSafeOffset s.table text place → fault.offset < place → place < at → said_up_to at (answer_from s p text place) ≡ Ok None
+    (place : ℕ) → IsSafeAloneOffset s.table text place → fault.offset < place → place < at → said_up_to at (answer_from s p text place) ≡ Ok None
+
+-- ---- the match that ends where a text ends
+
+-- what is told of it, by what is said up to the end of the text: the start of the last range, if the text from there on is equal, or the
+-- fault
+abbrev pub start_told : Sought → List ℕ → List ℕ → Result (Option (ℕ × ℕ)) TextFault → Result (Option ℕ) TextFault
+start_told s p text (Ok found) = Ok (start_of_equal s.table s.pattern.strength s.pattern.variable p text found)
+start_told s p text (Err fault) = Err fault
+
+-- a text has more keys than the pattern
+abbrev pub HasMoreKeys : Sought → List ℕ → Type 0
+HasMoreKeys s text = length s.pattern.keys < length (text_keys s.table s.pattern.strength s.pattern.variable text)
+
+-- What is told going back from the end is what the rest of the text from such a place on says up to the end; that there is none is said from
+-- the beginning, or by a rest that has more keys than the pattern.
+pub record IsToldOfEnd (s : Sought) (p text : List ℕ) (result : Result (Option (ℕ × ℕ)) TextFault) : Type 0 where
+  pub place : ℕ
+  pub begins : IsPlaceBefore s.table text (length text) place
+  pub says : result ≡ said_up_to (length text) (answer_from s p text place)
+  pub none : result ≡ Ok None → (place ≡ 0) ⊎ HasMoreKeys s (drop place text)
+
+-- the start is told so of it
+pub record IsStartTold (s : Sought) (p text : List ℕ) (result : Result (Option ℕ) TextFault) : Type 0 where
+  pub said : Result (Option (ℕ × ℕ)) TextFault
+  pub told : IsToldOfEnd s p text said
+  pub is : result ≡ start_told s p text said

@@ -1,9 +1,18 @@
 -- Small rows over the worked table: what is told going back.
-use Rattle.std.specs.Prelude.{◌≡◌, ℕ, List, [], ◌∷◌, ◌++◌, codes, None, Some, Ok, Err}
+use Rattle.std.specs.Prelude.{◌≡◌, ℕ, List, [], ◌∷◌, ◌++◌, length, codes, Option, None, Some, Result, Ok, Err}
+use Rattle.collation_elements.specs.declared.settings.Strength.{Strength}
+use Rattle.collation_elements.specs.declared.settings.Strength.TheVariants.{One, Two, Three}
+use Rattle.collation_elements.specs.declared.settings.Variable.{Variable}
+use Rattle.collation_elements.specs.declared.settings.Variable.TheVariants.{NonIgnorable, Shifted}
+use Rattle.collation_elements.specs.WorkedTable.{worked_table}
+use Rattle.collation_matches.specs.declared.faults.TextFault.{TextFault}
+use Rattle.collation_matches.specs.declared.select.Select.TheVariants.{All}
 use Rattle.collation_matches.specs.Answer.{Answer}
-use Rattle.collation_matches.specs.Sought.{answer_to}
-use Rattle.collation_matches.specs.WorkedRows.{worked_sought}
-use Rattle.collation_backward.specs.Backward.{said_up_to}
+use Rattle.collation_matches.specs.Sought.{answer_to, seeking}
+use Rattle.collation_matches.specs.WorkedRows.{acute, worked_sought}
+use Rattle.collation_anchored.specs.Anchored.{ends}
+use Rattle.collation_anchored.specs.WorkedRows.{worked_pattern}
+use Rattle.collation_backward.specs.Backward.{said_up_to, start_told}
 use Rattle.collation_backward.specs.Laws.{found_backward}
 
 -- the answer to a text, of a pattern at strength three, non-ignorable
@@ -24,3 +33,39 @@ pub record RangesBeforeAFault : Type 0 where
 -- the ranges of `aa` in `aaaa` call by call, the last one first
 abbrev pub RangesBackward : Type 0
 RangesBackward = found_backward 4 (worked_answer (codes "aa") (codes "aaaa")).ranges 4 ≡ (2, 4) ∷ (1, 3) ∷ (0, 2) ∷ []
+
+-- ---- the match that ends where a text ends
+
+-- what is told of it, and what it is
+abbrev pub worked_ends : Strength → Variable → List ℕ → List ℕ → Result (Option ℕ) TextFault × Option ℕ
+worked_ends strength variable pattern text =
+    let s = seeking worked_table (worked_pattern strength variable pattern) All in
+    (start_told s pattern text (said_up_to (length text) (answer_to s pattern text)), ends worked_table strength variable pattern text)
+
+-- `aa` in `aaa`, and `ab` in `aba`; `a` in the empty text
+pub record EndsOfLetters : Type 0 where
+  pub overlapping : worked_ends Three NonIgnorable (codes "aa") (codes "aaa") ≡ (Ok (Some 1), Some 1)
+  pub earlier : worked_ends Three NonIgnorable (codes "ab") (codes "aba") ≡ (Ok None, None)
+  pub empty : worked_ends Three NonIgnorable (codes "a") [] ≡ (Ok None, None)
+
+-- `a` in `baa` and U+0301: the accent belongs to the match at strength one, and at the other ones no match ends there
+pub record AccentBehind : Type 0 where
+  pub one : worked_ends One NonIgnorable (codes "a") (codes "baa" ++ acute) ≡ (Ok (Some 2), Some 2)
+  pub two : worked_ends Two NonIgnorable (codes "a") (codes "baa" ++ acute) ≡ (Ok None, None)
+
+-- `ab` in `cab-`: shifted, the hyphen behind the last minimal match belongs to the match; a soft hyphen always does
+pub record HyphensBehind : Type 0 where
+  pub shifted : worked_ends Three Shifted (codes "ab") (codes "cab-") ≡ (Ok (Some 1), Some 1)
+  pub kept : worked_ends Three NonIgnorable (codes "ab") (codes "cab-") ≡ (Ok None, None)
+  pub soft : worked_ends Three NonIgnorable (codes "ab") (codes "cab" ++ 0xC2 ∷ 0xAD ∷ []) ≡ (Ok (Some 1), Some 1)
+
+-- `c`, `h` and `ch` in `ach`
+pub record ContractionBehind : Type 0 where
+  pub first : worked_ends Three NonIgnorable (codes "c") (codes "ach") ≡ (Ok None, None)
+  pub second : worked_ends Three NonIgnorable (codes "h") (codes "ach") ≡ (Ok None, None)
+  pub both : worked_ends Three NonIgnorable (codes "ch") (codes "ach") ≡ (Ok (Some 1), Some 1)
+
+-- `a` in `a` and the byte ff, and in `a` and two bytes of three
+pub record FaultBehind : Type 0 where
+  pub bad : (worked_ends Three NonIgnorable (codes "a") (codes "a" ++ 0xFF ∷ [])).0 ≡ Err (record { kind = 31; offset = 1 })
+  pub cut : (worked_ends Three NonIgnorable (codes "a") (codes "a" ++ 0xE4 ∷ 0xB8 ∷ [])).0 ≡ Err (record { kind = 31; offset = 1 })

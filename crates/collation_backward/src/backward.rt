@@ -1,18 +1,26 @@
-//! The last range of a text before an offset.
-ghost use Rattle.std.specs.Prelude.{◌≡◌, ◌⊎◌, ◌≤◌, ℕ, List, length, true, false, None, Ok, Err};
+//! The last range of a text before an offset, and the match that ends where a text ends.
+ghost use Rattle.std.specs.Prelude.{◌≡◌, ◌⊎◌, ◌≤◌, ℕ, List, length, true, false, None, Ok, Err, IfErr};
 ghost use Rattle.collation_matches.specs.declared.select.Select.TheVariants.{All};
 ghost use Rattle.collation_matches.specs.GoodPrefix.{fault as fault_of, most_bytes};
 ghost use Rattle.collation_matches.specs.Sought.{IsCompiledFrom, answer_to, seeking};
 ghost use Rattle.collation_search.specs.Search.{sought};
+ghost use Rattle.collation_anchored.specs.Anchored.{ends as ends_of};
 ghost use Rattle.collation_anchored.specs.Answers.{no_memory};
-ghost use Rattle.collation_backward.specs.Backward.{is_fault_before, last_up_to, IsToldBefore};
+ghost use Rattle.collation_backward.specs.Backward.{is_fault_before, last_up_to, IsNothingBehind, IsStartTold, IsToldBefore};
 
+use crate::counting::has_more_keys;
 use crate::places::{place_before, place_behind};
 use crate::reading::said_from;
+use collation_anchored::Anchored;
+use collation_anchored::laws::ends_by_last_range;
+use collation_elements::parts_join;
+use collation_matches::matches_from_a_boundary;
 use collation_pattern::Pattern;
-use collation_safe::answers_from_safe_offsets;
+use collation_pattern::laws::key_law;
+use collation_safe::{answers_from_safe_offsets, safe_offsets_are_boundaries};
 use collation_search::{Search, TextFault};
 use collation_table::Strings;
+use nfd_points::laws::laws_of_faults;
 use std::alloc::{AllocError, Global};
 use utf8_cut::whole_characters_are_the_longest_text;
 
@@ -44,6 +52,11 @@ pub fn last_before<W: Strings>(
         → IsCompiledFrom (seeking (W.table table.now) pattern.now All) p
         → (result ≡ Err no_memory)
         ⊎ IsToldBefore (seeking (W.table table.now) pattern.now All) p text.now at result }
+    ensures behind { (p : List ℕ)
+        → IsCompiledFrom (seeking (W.table table.now) pattern.now All) p
+        → length text.now ≤ most_bytes
+        → (result ≡ Err no_memory)
+        ⊎ IfErr result (IsNothingBehind (seeking (W.table table.now) pattern.now All) p text.now at) }
 {
     let Ok(mut backward) = Backward::new(alloc, table, pattern) else {
         return Err(TextFault {
@@ -54,21 +67,66 @@ pub fn last_before<W: Strings>(
     backward.last_before(text, at)
 }
 
+/// The greatest start of a match that ends where the text ends, as [`Backward::ends`] finds it. The pattern was compiled with this table.
+///
+/// # Errors
+///
+/// Those of [`Backward::ends`], or 36 at 0 where [`Backward::new`] was refused memory. That this is for no other reason no clause says,
+/// for none can name the request: it is read off the body, and tested.
+pub fn ends<W: Strings>(
+    alloc: Global,
+    table: &W,
+    pattern: &Pattern,
+    text: &[u8],
+) -> Result<Option<u64>, TextFault>
+    ensures good { (p : List ℕ)
+        → IsCompiledFrom (seeking (W.table table.now) pattern.now All) p
+        → fault_of text.now ≡ None
+        → (result ≡ Err no_memory)
+        ⊎ (result
+        ≡ Ok (ends_of (W.table table.now) pattern.now.strength pattern.now.variable p text.now)) }
+    ensures told { (p : List ℕ)
+        → IsCompiledFrom (seeking (W.table table.now) pattern.now All) p
+        → (result ≡ Err no_memory)
+        ⊎ IsStartTold (seeking (W.table table.now) pattern.now All) p text.now result }
+    ensures behind { (p : List ℕ)
+        → IsCompiledFrom (seeking (W.table table.now) pattern.now All) p
+        → length text.now ≤ most_bytes
+        → (result ≡ Err no_memory)
+        ⊎ IfErr result
+        (IsNothingBehind (seeking (W.table table.now) pattern.now All) p text.now
+        (length text.now)) }
+{
+    let Ok(mut backward) = Backward::new(alloc, table, pattern) else {
+        return Err(TextFault {
+            kind: TextFault::NO_MEMORY,
+            offset: 0,
+        });
+    };
+    backward.ends(text)
+}
+
 /// Goes back through texts in memory, one text after the other.
 #[derive(Drop)]
 pub struct Backward<'a, W: Strings> {
+    alloc: Global,
     table: &'a W,
+    pattern: &'a Pattern,
     search: Search<'a, W>,
+    anchored: Anchored<'a, W>,
     ghost table_same: { (sought search).table ≡ W.table table.now },
+    ghost pattern_same: { (sought search).pattern ≡ pattern.now },
     ghost all: { (sought search).select ≡ All },
+    ghost anchored_table: { W.table anchored.table.now ≡ (sought search).table },
+    ghost anchored_pattern: { anchored.pattern.now ≡ (sought search).pattern },
 }
 
 impl<'a, W: Strings> Backward<'a, W> {
-    ghost use Rattle.std.specs.Prelude.{◌≡◌, ℕ, ◌≤◌, List, length, false, Ok, IfOk, IfErr};
-    ghost use Rattle.collation_table.specs.Table.{longest_mapped};
+    ghost use Rattle.std.specs.Prelude.{◌≡◌, ℕ, ◌≤◌, List, length, drop, false, true, None, Some, Ok, IfOk, IfErr};
     ghost use Rattle.collation_matches.specs.GoodPrefix.{fault as fault_of, most_bytes};
     ghost use Rattle.collation_matches.specs.Sought.{IsCompiledFrom, answer_to, seeking};
-    ghost use Rattle.collation_backward.specs.Backward.{is_fault_before, last_up_to, IsNothingBehind, IsPlaceBefore, IsToldBefore, IsToldFrom};
+    ghost use Rattle.collation_anchored.specs.Anchored.{ends as ends_of};
+    ghost use Rattle.collation_backward.specs.Backward.{is_fault_before, last_up_to, HasMoreKeys, IsNothingBehind, IsPlaceBefore, IsStartTold, IsToldBefore, IsToldFrom, IsToldOfEnd, start_told};
     ghost use Rattle.collation_backward.specs.Going.{sought_by};
 
     /// Lends a table and a pattern that was compiled with it.
@@ -81,8 +139,11 @@ impl<'a, W: Strings> Backward<'a, W> {
             (λ made. sought_by made ≡ seeking (W.table table.now) pattern.now All) }
     {
         Ok(Backward {
+            alloc,
             table,
+            pattern,
             search: Search::new(alloc, table, pattern)?,
+            anchored: Anchored::new(alloc, table, pattern)?,
         })
     }
 
@@ -103,7 +164,7 @@ impl<'a, W: Strings> Backward<'a, W> {
         ensures told { (p : List ℕ) → IsCompiledFrom (sought_by self.old) p
             → IsToldBefore (sought_by self.old) p text.now at result }
         ensures behind { (p : List ℕ) → IsCompiledFrom (sought_by self.old) p
-            → length text.now ≤ most_bytes → longest_mapped (sought_by self.old).table ≤ 1
+            → length text.now ≤ most_bytes
             → IfErr result (IsNothingBehind (sought_by self.old) p text.now at) }
         ensures sought { sought_by self.new ≡ sought_by self.old }
     {
@@ -120,6 +181,92 @@ impl<'a, W: Strings> Backward<'a, W> {
         said
     }
 
+    /// The greatest start of a match that ends where the text ends, in bytes from the beginning of the text; `None` where none ends there.
+    /// It is a match in the sense of [`Anchored::equals`], and need not be minimal: ignorable characters at the end of the text belong to
+    /// it.
+    ///
+    /// It goes back from the end as [`Backward::last_before`] does, and compares the text from the last range on with the pattern. Where
+    /// the rest of the text has no range and more keys than the pattern, no match ends at the end, and it goes no further back. So it
+    /// reads what stands at the end, where safe offsets are found, and goes far back only where what stands there has few keys.
+    ///
+    /// Memory is asked for as by [`Search::feed`], and to count the keys of a rest: room for one item for each byte of it. Where that is
+    /// refused it goes on as if there were no more keys than the pattern's. So of a text without a fault the answer is the same.
+    ///
+    /// # Errors
+    ///
+    /// Those of [`Backward::last_before`] from the end of the text: where a fault stands there, and no range behind it. A fault in front of
+    /// a rest that has no range and more keys than the pattern may not be met.
+    pub fn ends(&mut self, text: &[u8]) -> Result<Option<u64>, TextFault>
+        ensures good { (p : List ℕ) → IsCompiledFrom (sought_by self.old) p
+            → fault_of text.now ≡ None
+            → result
+            ≡ Ok (ends_of (sought_by self.old).table (sought_by self.old).pattern.strength (sought_by self.old).pattern.variable p text.now) }
+        ensures told { (p : List ℕ) → IsCompiledFrom (sought_by self.old) p
+            → IsStartTold (sought_by self.old) p text.now result }
+        ensures behind { (p : List ℕ) → IsCompiledFrom (sought_by self.old) p
+            → length text.now ≤ most_bytes
+            → IfErr result (IsNothingBehind (sought_by self.old) p text.now (length text.now)) }
+        ensures sought { sought_by self.new ≡ sought_by self.old }
+    {
+        matches_from_a_boundary();
+        safe_offsets_are_boundaries();
+        answers_from_safe_offsets();
+        parts_join();
+        key_law(self.table);
+        ends_by_last_range(self.table);
+        laws_of_faults();
+        whole_characters_are_the_longest_text();
+        match self.said_of_end(text) {
+            Ok(Some((start, _))) => self.start_of_equal(text, start),
+            Ok(None) => Ok(None),
+            Err(fault) => Err(fault),
+        }
+    }
+
+    /// What is said going back from the end of a text, up to the last range, the beginning, or a place from which on the text has more
+    /// keys than the pattern.
+    fn said_of_end(&mut self, text: &[u8]) -> Result<Option<(u64, u64)>, TextFault>
+        ensures told { (p : List ℕ) → IsCompiledFrom (sought_by self.old) p
+            → IsToldOfEnd (sought_by self.old) p text.now result }
+        ensures behind { (p : List ℕ) → IsCompiledFrom (sought_by self.old) p
+            → length text.now ≤ most_bytes
+            → IfErr result (IsNothingBehind (sought_by self.old) p text.now (length text.now)) }
+        ensures sought { sought_by self.new ≡ sought_by self.old }
+    {
+        let end = text.len();
+        let mut place = place_before(self.table, text, end, FIRST_BLOCK);
+        let mut said = self.said_behind(text, place, end);
+        while place > 0 && is_none(&said) && !self.has_more_keys(text, place) {
+            let len = end.saturating_sub(place).saturating_mul(2);
+            place = place_before(self.table, text, end, len);
+            said = self.said_behind(text, place, end);
+        }
+        said
+    }
+
+    /// Whether the rest of a text from a place on has more keys than the pattern. `false` tells nothing.
+    fn has_more_keys(&self, text: &[u8], place: usize) -> bool
+        ensures more { result ≡ true → HasMoreKeys (sought_by self.now) (drop place text.now) }
+    {
+        let (_, rest) = text.split_at(place.min(text.len()));
+        has_more_keys(self.alloc, self.table, self.pattern, rest)
+    }
+
+    /// Where a range starts, if the text from there on is equal.
+    fn start_of_equal(&mut self, text: &[u8], start: u64) -> Result<Option<u64>, TextFault>
+        ensures start { (p : List ℕ) (end : ℕ) → IsCompiledFrom (sought_by self.old) p
+            → fault_of (drop start text.now) ≡ None
+            → result ≡ start_told (sought_by self.old) p text.now (Ok (Some (start, end))) }
+        ensures sought { sought_by self.new ≡ sought_by self.old }
+    {
+        let (_, rest) = text.split_at((start as usize).min(text.len()));
+        match self.anchored.equals(rest) {
+            Ok(true) => Ok(Some(start)),
+            Ok(false) => Ok(None),
+            Err(fault) => Err(fault),
+        }
+    }
+
     /// What the rest of a text from a place on says up to an offset, or, where a fault stands before the offset, what the rest from the
     /// next safe offset behind the fault says, and so on; the last fault where the rest behind it says that there is nothing.
     fn said_behind(
@@ -132,7 +279,7 @@ impl<'a, W: Strings> Backward<'a, W> {
         ensures told { (p : List ℕ) → IsCompiledFrom (sought_by self.old) p
             → IsToldFrom (sought_by self.old) p text.now from at result }
         ensures behind { (p : List ℕ) → IsCompiledFrom (sought_by self.old) p
-            → length text.now ≤ most_bytes → longest_mapped (sought_by self.old).table ≤ 1
+            → length text.now ≤ most_bytes
             → IfErr result (IsNothingBehind (sought_by self.old) p text.now at) }
         ensures sought { sought_by self.new ≡ sought_by self.old }
     {

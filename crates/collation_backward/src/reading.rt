@@ -12,9 +12,12 @@ ghost use Rattle.collation_backward.specs.Backward.{is_fault_before, last_up_to,
 use collation_search::{Found, Search, TextFault};
 use collation_table::Weights;
 
-/// How many bytes are taken behind the offset at a time, until no range that ends before it can come: one character after another would be
-/// slower, and most letters end what stands before them.
+/// How many bytes are taken behind the offset at first, until no range that ends before it can come: one character after another would be
+/// slower, and most letters end what stands before them. Then it is twice as many each time, up to [`MOST_FOLLOWING`].
 const FOLLOWING: usize = 16;
+
+/// How many bytes are taken there at a time, at most.
+const MOST_FOLLOWING: usize = 4_096;
 
 /// What the rest of a text from a place on says up to an offset, which does not stand before the place; both are in bytes from the
 /// beginning of the text, and so is what is told.
@@ -51,6 +54,7 @@ fn said_by<'a, W: Weights>(
     let mut last = None;
     let mut rest = text;
     let mut len = to.max(1);
+    let mut following = FOLLOWING;
     while !rest.is_empty() {
         let (piece, later) = rest.split_at(len.min(rest.len()));
         let (newer, fed) = last_of_piece(search, piece, to, &mut room);
@@ -63,7 +67,8 @@ fn said_by<'a, W: Weights>(
             return Ok(last);
         }
         rest = later;
-        len = FOLLOWING;
+        len = following;
+        following = (2 * following).min(MOST_FOLLOWING);
     }
     let ended = search.finish_text(&mut room);
     told(last_of_found(room.as_slice(), to).or(last), ended, to)

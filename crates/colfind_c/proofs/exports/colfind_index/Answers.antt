@@ -1,16 +1,21 @@
-use Rattle.std.proofs.Common.{sym, subst}
-use Rattle.std.specs.Arc.{arc_value}
-use Rattle.colfind_c.specs.Exports.{AnswersFirst, first_of}
-use Rattle.colfind_c.proofs.ExportLemmas.{of_pattern_ok, of_pattern_err}
+use Rattle.std.proofs.Common.{refl, subst, None}
+use Rattle.colfind_c.specs.Exports.{AnswersFirst}
+use Rattle.colfind_c.proofs.ExportLemmas.{asked_ok, asked_err}
 use Rattle.colfind_c.proofs.exports.colfind_index.Goals as goal
 
 pub returns-in-Ok-clause-first : goal.returns-in-Ok-clause-first
 returns-in-Ok-clause-first c = (
   c.first_in-outcome.result.0,
-  c.first_with.ensures.status,
-  of_pattern_ok (λ q how. AnswersFirst q c.args.text.now (first_of c.first_with.result) how) _ _ c.first_in-outcome.result.0 c.in-Ok.ensures.shared
-      (subst (λ r. AnswersFirst (arc_value c.in-Ok.query) c.args.text.now r c.first_in-outcome.result.0) (sym c.first_with.ensures.range) (subst (λ q. AnswersFirst q c.args.text.now c.first_in-outcome.result.1 c.first_in-outcome.result.0) c.deref.ensures c.first_in-outcome.ensures)),
+  c.first_in-outcome.result.1,
+  c.first_with.ensures,
+  asked_ok None (λ q range how. AnswersFirst q c.args.text.now range how) _ _ c.first_in-outcome.result.1 c.first_in-outcome.result.0 c.in-Ok.ensures.shared
+      (subst (λ q. AnswersFirst q c.args.text.now c.first_in-outcome.result.1 c.first_in-outcome.result.0) c.deref.ensures c.first_in-outcome.ensures),
 )
 
 pub returns-in-Err-clause-first : goal.returns-in-Err-clause-first
-returns-in-Err-clause-first c = (c.in-Err.outcome, c.first_with-in-Err.ensures.status, of_pattern_err (λ q how. AnswersFirst q c.args.text.now (first_of c.first_with-in-Err.result) how) _ _ c.in-Err.ensures.shared (λ x. c.first_with-in-Err.ensures.range))
+returns-in-Err-clause-first c = (
+  c.in-Err.outcome,
+  None,
+  c.first_with-in-Err.ensures,
+  asked_err None (λ q range how. AnswersFirst q c.args.text.now range how) _ _ c.in-Err.ensures.shared (λ x. refl),
+)

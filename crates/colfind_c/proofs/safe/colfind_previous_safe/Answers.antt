@@ -1,4 +1,4 @@
-use Rattle.std.proofs.Common.{◌∙◌, ap}
+use Rattle.std.proofs.Common.{◌∙◌, ap, None}
 use Rattle.colfind_c.specs.declared.outcome.Outcome.TheVariants.{Good, WrongHandle}
 use Rattle.colfind_c.specs.Exports.{table_under}
 use Rattle.colfind_c.proofs.ExportLemmas.{previous_told, previous_untold}
@@ -7,10 +7,11 @@ use Rattle.colfind_c.proofs.safe.colfind_previous_safe.Goals as goal
 pub returns-in-Some-clause-previous : goal.returns-in-Some-clause-previous
 returns-in-Some-clause-previous c = (
   Good,
-  c.place_with.ensures.status,
-  previous_told _ _ _ c.args.bytes.now c.args.before _ _ c.in-Some.ensures.taken (c.table_under.ensures ∙ ap table_under c.deref.ensures) c.place_with.ensures.place
+  c.previous_safe-found.result,
+  c.place_with.ensures,
+  previous_told _ _ _ c.args.bytes.now c.args.before _ c.in-Some.ensures.taken (c.table_under.ensures ∙ ap table_under c.deref.ensures)
       (record { safe = c.previous_safe-found.ensures.safe; told = c.previous_safe-found.ensures.found; earlier = c.previous_safe-found.ensures.before; alone = c.previous_safe-found.ensures.alone; nearest = c.previous_safe-found.ensures.nearest }),
 )
 
 pub returns-in-None-clause-previous : goal.returns-in-None-clause-previous
-returns-in-None-clause-previous c = (WrongHandle, c.place_with-in-None.ensures.status, previous_untold _ c.args.bytes.now c.args.before _ c.in-None.ensures.taken c.place_with-in-None.ensures.place)
+returns-in-None-clause-previous c = (WrongHandle, None, c.place_with-in-None.ensures, previous_untold _ c.args.bytes.now c.args.before c.in-None.ensures.taken)

@@ -14,6 +14,8 @@ use Rattle.collation_backward.proofs.reading.said_by.Goals as goal
 pub loop-rest-init : goal.loop-rest-init
 loop-rest-init g c = record {
   some = omega (arith, c.max-len.ensures);
+  next = omega arith;
+  few = omega arith;
   same = c.begin_again.ensures.sought;
   taken = ([], [], refl, c.begin_again.ensures.stands, refl);
 }
@@ -69,7 +71,9 @@ loop-rest-preserved g c =
     let piece = c.split_at.result.0.now in
     let later = c.split_at.result.1.now in
     record {
-      some = omega arith;
+      some = i.next;
+      next = let next = i.next in omega (arith, next, c.min-following.ensures);
+      few = omega (arith, c.min-following.ensures);
       same = fed.1.same_sought ∙ i.same;
       taken = (
         u ++ piece,

@@ -10,7 +10,7 @@ pub feed_parked-fed-requires : goal.feed_parked-fed-requires
 feed_parked-fed-requires c = record { fits = fits_at c.args.self.now c.in-Some.parked c.deref-query.result.now c.deref.result.now (search rules) c.deref-query.ensures c.deref.ensures }
 
 pub invariant_of-self-2 : goal.invariant_of-self-2
-invariant_of-self-2 c = record { fits = fits_again c.args.self.now c.in-Some.parked c.deref-query.result.now c.deref.result.now (search rules) c.deref-query.ensures c.deref.ensures c.feed_parked-fed.result.1 c.feed_parked-fed.ensures.fits c.feed_parked-fed.ensures.select; kept = λ x e. search rules }
+invariant_of-self-2 c = record { asks = c.args.self.now.asks; fits = fits_again c.args.self.now c.in-Some.parked c.deref-query.result.now c.deref.result.now (search rules) c.deref-query.ensures c.deref.ensures c.feed_parked-fed.result.1 c.feed_parked-fed.ensures.fits c.feed_parked-fed.ensures.select; kept = λ x e. search rules }
 
 pub returns-then-self : goal.returns-then-self
 returns-then-self c = record {

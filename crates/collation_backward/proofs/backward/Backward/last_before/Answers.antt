@@ -1,6 +1,5 @@
-use Rattle.std.proofs.Common.{◌∙◌, ◌≤◌, sym, subst, arith, inl, inr}
+use Rattle.std.proofs.Common.{◌∙◌, sym, subst, arith, inl, inr}
 use Rattle.std.specs.Prelude.{IfErr}
-use Rattle.collation_table.specs.Table.{longest_mapped}
 use Rattle.collation_matches.specs.Sought.{Sought, IsCompiledFrom}
 use Rattle.collation_backward.specs.Backward.{IsNothingBehind, IsToldFrom}
 use Rattle.collation_backward.specs.Going.{sought_by}
@@ -20,8 +19,8 @@ loop-place-preserved g c =
       ];
       told = λ p compiled. subst (λ (s : Sought). IsToldFrom s p text c.place_before-place-in-loop-place.result at next.result) same
           (next.ensures.told p (subst (λ (s : Sought). IsCompiledFrom s p) (sym same) compiled));
-      later = λ p compiled few short. subst (λ (s : Sought). IfErr next.result (IsNothingBehind s p text at)) same
-          (next.ensures.behind p (subst (λ (s : Sought). IsCompiledFrom s p) (sym same) compiled) few (subst (λ (s : Sought). longest_mapped s.table ≤ 1) (sym same) short));
+      later = λ p compiled few. subst (λ (s : Sought). IfErr next.result (IsNothingBehind s p text at)) same
+          (next.ensures.behind p (subst (λ (s : Sought). IsCompiledFrom s p) (sym same) compiled) few);
       same = next.ensures.sought ∙ same;
     }
 

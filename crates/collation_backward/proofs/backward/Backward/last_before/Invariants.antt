@@ -1,6 +1,5 @@
 use Rattle.std.proofs.Common.{◌≡◌, ◌<◌, ◌≤◌, ℕ, List, length}
 use Rattle.std.specs.Prelude.{IfErr}
-use Rattle.collation_table.specs.Table.{longest_mapped}
 use Rattle.collation_matches.specs.GoodPrefix.{most_bytes}
 use Rattle.collation_matches.specs.Sought.{IsCompiledFrom}
 use Rattle.collation_backward.specs.Backward.{IsNothingBehind, IsToldFrom}
@@ -12,7 +11,7 @@ abbrev pub invariant-loop-place : goal.invariant-loop-place
 invariant-loop-place g l = record {
   behind : 0 < l.place → l.place < l.end;
   told : (p : List ℕ) → IsCompiledFrom (sought_by l.fn.self) p → IsToldFrom (sought_by l.fn.self) p l.text l.place l.at l.said;
-  later : (p : List ℕ) → IsCompiledFrom (sought_by l.fn.self) p → length l.text ≤ most_bytes → longest_mapped (sought_by l.fn.self).table ≤ 1 → IfErr l.said (IsNothingBehind (sought_by l.fn.self) p l.text l.at);
+  later : (p : List ℕ) → IsCompiledFrom (sought_by l.fn.self) p → length l.text ≤ most_bytes → IfErr l.said (IsNothingBehind (sought_by l.fn.self) p l.text l.at);
   same : sought_by l.self ≡ sought_by l.fn.self;
 }
 

@@ -11,15 +11,13 @@ use Rattle.collation_backward.proofs.Behind.{none-behind, nothing-from}
 use Rattle.collation_backward.proofs.backward.Backward.said_behind.Goals as goal
 
 pub returns-in_default-place_behind-clause-behind : goal.returns-in_default-place_behind-clause-behind
-returns-in_default-place_behind-clause-behind g c = λ p compiled few short.
+returns-in_default-place_behind-clause-behind g c = λ p compiled few.
     let s = sought_by c.args.self.now in
-    let text = c.args.text.now in
-    let at = c.args.at in
     let table = ap (λ (t : Sought). t.table) (sym c.loop-said.invariant.same) ∙ c.loop-said.self.table_same in
-    none-behind s (g.W.Weights.table c.loop-said.self.table.now) p text at c.in-Err.fault c.place_behind.result table short c.place_behind.ensures.nearest c.in_default-place_behind.is
+    none-behind s (g.W.Weights.table c.loop-said.self.table.now) c.args.text.now c.args.at c.in-Err.fault c.place_behind.result table c.place_behind.ensures.nearest p c.in_default-place_behind.is
 
 pub returns-then-is_none-clause-behind : goal.returns-then-is_none-clause-behind
-returns-then-is_none-clause-behind g c = λ p compiled few short.
+returns-then-is_none-clause-behind g c = λ p compiled few.
     let s = sought_by c.args.self.now in
     let text = c.args.text.now in
     let at = c.args.at in
@@ -31,8 +29,8 @@ returns-then-is_none-clause-behind g c = λ p compiled few short.
     let none = subst (λ (t : Sought). said_up_to at (answer_from t p text next) ≡ Ok None) same
     (sym (c.said_from-later.ensures.said p here) ∙ c.is_none.ensures.is c.if-is_none.true) in
     let laws = c.whole_characters_are_the_longest_text.ensures in
-    nothing-from c.answers_from_safe_offsets.ensures laws.text laws.within s (g.W.Weights.table c.loop-said.self.table.now) p text at c.in-Err.fault c.place_behind.result next
-    table all few short c.place_behind.ensures.nearest c.in-Some.is none
+    nothing-from s (g.W.Weights.table c.loop-said.self.table.now) text at c.in-Err.fault c.place_behind.result table c.place_behind.ensures.nearest
+    c.answers_from_safe_offsets.ensures laws.text laws.within p next all few c.in-Some.is none
 
 before-only : (next at : ℕ) (r : Result (Option (ℕ × ℕ)) TextFault) → IfErr r (λ f. (next ≤ f.offset) × (f.offset < at)) → IfErr r (λ f. f.offset < at)
 before-only next at (Ok found) h = tt

@@ -1,0 +1,8 @@
+-- What was put away between two texts.
+use Rattle.std.specs.Prelude.{◌≡◌}
+use Rattle.collation_table.specs.Table.{TableMap, longest_mapped}
+use Rattle.collation_anchored.specs.declared.parking.Parked.{Parked}
+
+-- it was put away by what had this table, or has room for it
+abbrev pub IsFor : TableMap → Parked → Type 0
+IsFor table parked = parked.comparison.longest_key ≡ longest_mapped table

@@ -1,0 +1,55 @@
+//! What asks texts, put away between two of them without its table and its pattern, and taken up again. A program that can't keep a value
+//! which borrows from another, as a library for C, keeps the three apart.
+
+ghost use Rattle.collation_anchored.specs.Parking.{IsFor};
+
+use crate::anchored::Anchored;
+use crate::comparison::Comparison;
+use collation_pattern::Pattern;
+use collation_table::Weights;
+use std::alloc::Global;
+
+/// What an [`Anchored`] keeps from text to text: room alone.
+#[derive(Drop)]
+pub struct Parked {
+    pub(crate) alloc: Global,
+    pub(crate) comparison: Comparison,
+}
+
+impl<'a, W: Weights> Anchored<'a, W> {
+    ghost use Rattle.collation_anchored.specs.Parking.{IsFor};
+
+    /// Puts away what it keeps from text to text. It asks for no memory.
+    pub fn park(self) -> Parked
+        ensures fits { IsFor (W.table self.entry.table.now) result }
+    {
+        let Anchored {
+            table: _,
+            pattern: _,
+            alloc,
+            comparison,
+        } = self;
+        Parked { alloc, comparison }
+    }
+}
+
+impl Parked {
+    ghost use Rattle.std.specs.Prelude.{◌≡◌};
+    ghost use Rattle.collation_anchored.specs.Parking.{IsFor};
+
+    /// Takes it up again, with the table that it had, and with that pattern or another one that was compiled with the table. It asks for no
+    /// memory.
+    pub fn unpark<'a, W: Weights>(self, table: &'a W, pattern: &'a Pattern) -> Anchored<'a, W>
+        requires fits { IsFor (W.table table.now) self }
+        ensures table { result.table.now ≡ table.now }
+        ensures pattern { result.pattern.now ≡ pattern.now }
+    {
+        let Parked { alloc, comparison } = self;
+        Anchored {
+            table,
+            pattern,
+            alloc,
+            comparison,
+        }
+    }
+}
