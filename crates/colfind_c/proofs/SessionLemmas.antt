@@ -1,7 +1,7 @@
 -- A session before and after a call of its search.
 use Rattle.std.proofs.Common.{◌≡◌, ◌∙◌, ℕ, ◌+◌, ◌-◌, ◌≤◌, List, [], ◌++◌, length, min, take, drop, refl, sym, ap, subst, append_assoc, append-nil, take-add, arith, true, false, Some, None}
 use Rattle.std.proofs.lemmas.List.{take-append-drop}
-use Rattle.std.specs.Prelude.{Result, Ok, Err, Option, IsSome, OnOk, is_some, is_err, MatchResult}
+use Rattle.std.specs.Prelude.{Result, Ok, Err, Option, IsSome, OnOk, is_some, is_err, T, MatchResult}
 use Rattle.std.specs.Arc.{arc_value}
 use Rattle.collation_table.specs.declared.table.Table.{Table}
 use Rattle.collation_table.specs.contracts.table.TableWeights.TheImpl.{ghosts as weights}
@@ -27,7 +27,7 @@ use Rattle.collation_matches.specs.Offsets.{answer_from}
 use Rattle.collation_parts.specs.Parts.{part_answer}
 use Rattle.collation_search.specs.Feeding.{fault_of}
 use Rattle.collation_search.specs.Indexing.{first_range}
-use Rattle.colfind_c.specs.Sessions.{sought_of, HasFed, KeepsFed, HasBegunAgain, HasPart, HasMet, FeedsSession, FeedsPart, FinishesSession, StopsSession, EndsSession, FirstInSession, SavesSession, TakesRanges}
+use Rattle.colfind_c.specs.Sessions.{sought_of, HasFed, KeepsFed, HasBegunAgain, HasPart, HasMet, FeedsSession, FeedsPart, FinishesSession, StopsSession, EndsSession, FirstInSession, StaysEnded, SavesSession, TakesRanges}
 
 abbrev value_or : Parked → Option Parked → Parked
 value_or p None = p
@@ -40,6 +40,13 @@ is_some_parked (Some x) = Unit {0}
 -- a search that has ended has met no fault
 pub met_none : (s : Session) (f : TextFault) → s.parked ≡ None → HasMet s f → ⊥
 met_none s f none met = subst is_some_parked (sym met.1 ∙ none) tt
+
+-- a search that has not ended has nothing to keep as one that had
+pub never_ended : (s new : Session) (p : Parked) → s.parked ≡ Some p → StaysEnded s new
+never_ended s new p is = λ none. absurd (subst is_some_parked (sym is ∙ none) tt)
+
+pub open_stays : (s new : Session) → IsSome s.parked → StaysEnded s new
+open_stays s new open = λ none. absurd (subst T (sym open ∙ ap is_some none) tt)
 
 abbrev fault_or : TextFault → Result (Unit {0}) TextFault → TextFault
 fault_or f (Ok a) = f
@@ -302,10 +309,10 @@ module _ (s : Session) (p : Parked) (q : Query) (t : Table) (is : s.parked ≡ S
         (first t (subst (λ z. IsCompiledFrom z t) (sym seen_is) compiled))
 
     pub first_found : (range : Option (ℕ × ℕ)) → result ≡ Ok range → FirstInSession s text from range Good new
-    first_found range ok = record { first = (within, begun_again, λ t c. sym ok ∙ answered_first t c); same = same_sought s new eq2 es2 }
+    first_found range ok = record { first = (within, begun_again, λ t c. sym ok ∙ answered_first t c); ended = never_ended s new p is; same = same_sought s new eq2 es2 }
 
     pub first_failed : (f : TextFault) → result ≡ Err f → FirstInSession s text from None (Text f) new
-    first_failed f err = record { first = (within, begun_again, refl, λ t c. sym err ∙ answered_first t c); same = same_sought s new eq2 es2 }
+    first_failed f err = record { first = (within, begun_again, refl, λ t c. sym err ∙ answered_first t c); ended = never_ended s new p is; same = same_sought s new eq2 es2 }
 
   -- a search that looked through a part of a text is at the beginning of another one, and the ranges of the part wait
   module _ (text : List ℕ) (from to : ℕ) (result : Result (Unit {0}) TextFault) (queue1 queue2 : Queue) (p2 : Parked) (new : Session)

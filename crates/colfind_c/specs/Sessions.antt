@@ -182,8 +182,13 @@ IsFirstIn old text from range Ended new = (range ≡ None) × HadEnded old new
 IsFirstIn old text from range BadArgument new = (range ≡ None) × (length text < from) × (new ≡ old)
 IsFirstIn old text from range _ new = ⊥
 
+-- a search that had ended stays as it was
+abbrev pub StaysEnded : Session → Session → Type 0
+StaysEnded old new = old.parked ≡ None → new ≡ old
+
 pub record FirstInSession (old : Session) (text : List ℕ) (from : ℕ) (range : Option (ℕ × ℕ)) (outcome : Outcome) (new : Session) : Type 0 where
   pub first : IsFirstIn old text from range outcome new
+  pub ended : StaysEnded old new
   pub same : sought_of new ≡ sought_of old
 
 -- ---- a part of a text
@@ -208,6 +213,7 @@ IsPartIn old text from to _ new = ⊥
 
 pub record PartInSession (old : Session) (text : List ℕ) (from to : ℕ) (outcome : Outcome) (new : Session) : Type 0 where
   pub part : IsPartIn old text from to outcome new
+  pub ended : StaysEnded old new
   pub same : sought_of new ≡ sought_of old
 
 -- ---- all ranges of a text
@@ -265,4 +271,5 @@ AreAllIn old text out count _ new = ⊥
 
 pub record AllInSession (old : Session) (text : List ℕ) (out : List Range) (count : ℕ) (outcome : Outcome) (new : Session) : Type 0 where
   pub all : AreAllIn old text out count outcome new
+  pub ended : StaysEnded old new
   pub same : sought_of new ≡ sought_of old

@@ -5,4 +5,4 @@ use Rattle.collation_anchored.specs.declared.parking.Parked.{Parked}
 
 -- it was put away by what had this table, or has room for it
 abbrev pub IsFor : TableMap → Parked → Type 0
-IsFor table parked = parked.comparison.longest_key ≡ longest_mapped table
+IsFor table parked = parked.comparison.value.longest_key ≡ longest_mapped table

@@ -71,9 +71,9 @@ pub fn begins<W: Weights>(
 pub struct Anchored<'a, W: Weights> {
     pub(crate) table: &'a W,
     pub(crate) pattern: &'a Pattern,
-    pub(crate) alloc: Global,
-    pub(crate) comparison: Comparison,
-    ghost longest: { comparison.longest_key ≡ longest_mapped (W.table table.now) },
+    /// It stands on the heap, so that what asks texts does not carry it when it is moved.
+    pub(crate) comparison: Box<Comparison>,
+    ghost longest: { comparison.value.longest_key ≡ longest_mapped (W.table table.now) },
 }
 
 impl<'a, W: Weights> Anchored<'a, W> {
@@ -90,11 +90,11 @@ impl<'a, W: Weights> Anchored<'a, W> {
         ensures table { IfOk result (λ made. made.table.now ≡ table.now) }
         ensures pattern { IfOk result (λ made. made.pattern.now ≡ pattern.now) }
     {
+        let comparison = Comparison::new(alloc, table, pattern)?;
         Ok(Anchored {
             table,
             pattern,
-            alloc,
-            comparison: Comparison::new(alloc, table, pattern)?,
+            comparison: Box::new(alloc, comparison)?,
         })
     }
 
@@ -116,19 +116,17 @@ impl<'a, W: Weights> Anchored<'a, W> {
         key_law(self.table);
         laws_of_faults();
         whole_characters_are_the_longest_text();
-        match self
-            .comparison
-            .read(self.alloc, self.table, self.pattern, text, Asked::Whole)
-        {
+        let comparison = &mut *self.comparison;
+        match comparison.read(self.table, self.pattern, text, Asked::Whole) {
             Reading::Decided => Ok(false),
             Reading::Ended(at) => {
-                let begun = self.comparison.end(self.table, self.pattern);
+                let begun = comparison.end(self.table, self.pattern);
                 if !begun {
                     return Ok(false);
                 }
                 match at {
                     Some(fault) => Err(fault),
-                    None => Ok(self.comparison.progress.matched == self.pattern.len()),
+                    None => Ok(comparison.progress.matched == self.pattern.len()),
                 }
             }
         }
@@ -156,18 +154,19 @@ impl<'a, W: Weights> Anchored<'a, W> {
         laws_of_faults();
         whole_characters_are_the_longest_text();
         let most = self.pattern.len();
-        match self.comparison.read(self.alloc, self.table, self.pattern, text, Asked::Beginning) {
-            Reading::Decided => Ok(self.comparison.progress.completed),
+        let comparison = &mut *self.comparison;
+        match comparison.read(self.table, self.pattern, text, Asked::Beginning) {
+            Reading::Decided => Ok(comparison.progress.completed),
             Reading::Ended(at) => {
-                let begun = self.comparison.end(self.table, self.pattern);
-                let completed = self.comparison.progress.completed;
+                let begun = comparison.end(self.table, self.pattern);
+                let completed = comparison.progress.completed;
                 if completed.is_some() || !begun {
                     return Ok(completed);
                 }
                 match at {
                     Some(first) => Err(first),
                     None => {
-                        if self.comparison.progress.matched == most {
+                        if comparison.progress.matched == most {
                             Ok(Some(text.len() as u64))
                         } else {
                             Ok(None)

@@ -97,12 +97,12 @@ impl Comparison {
     }
 
     /// Goes to the beginning of a text.
-    pub(crate) fn begin(&mut self, alloc: Global, pattern: &Pattern)
+    fn begin(&mut self, pattern: &Pattern)
         ensures taken { (table : TableMap) → HasTaken table pattern.now self.new [] }
         ensures longest { self.new.longest_key ≡ self.old.longest_key }
     {
         self.cut = Cut::new();
-        self.reorder = Reorder::new(alloc);
+        self.reorder.finish(&mut self.given);
         self.window.clear();
         self.weigher = Weigher::new(pattern.strength(), pattern.variable());
         self.progress = Progress::new();
@@ -268,7 +268,6 @@ impl Comparison {
     /// and, where a beginning is asked for, no cluster began behind all of them.
     pub(crate) fn read<W: Weights>(
         &mut self,
-        alloc: Global,
         table: &W,
         pattern: &Pattern,
         text: &[u8],
@@ -291,7 +290,7 @@ impl Comparison {
     {
         whole_characters_are_the_longest_text();
         laws_of_faults();
-        self.begin(alloc, pattern);
+        self.begin(pattern);
         for byte in text {
             match self.take(table, pattern, *byte) {
                 Ok(alike) => {

@@ -7,13 +7,11 @@ use crate::anchored::Anchored;
 use crate::comparison::Comparison;
 use collation_pattern::Pattern;
 use collation_table::Weights;
-use std::alloc::Global;
 
 /// What an [`Anchored`] keeps from text to text: room alone.
 #[derive(Drop)]
 pub struct Parked {
-    pub(crate) alloc: Global,
-    pub(crate) comparison: Comparison,
+    pub(crate) comparison: Box<Comparison>,
 }
 
 impl<'a, W: Weights> Anchored<'a, W> {
@@ -26,10 +24,9 @@ impl<'a, W: Weights> Anchored<'a, W> {
         let Anchored {
             table: _,
             pattern: _,
-            alloc,
             comparison,
         } = self;
-        Parked { alloc, comparison }
+        Parked { comparison }
     }
 }
 
@@ -44,11 +41,10 @@ impl Parked {
         ensures table { result.table.now ≡ table.now }
         ensures pattern { result.pattern.now ≡ pattern.now }
     {
-        let Parked { alloc, comparison } = self;
+        let Parked { comparison } = self;
         Anchored {
             table,
             pattern,
-            alloc,
             comparison,
         }
     }

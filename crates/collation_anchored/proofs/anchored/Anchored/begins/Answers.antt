@@ -84,8 +84,8 @@ returns-in-Some-clause-answer g c = λ p compiled.
     at_fault (begun_by table pattern text) (fault text) c.in-Some.first (length good) end (sym begun_is ∙ c.if-not-begun.false) (sym (c.in-Ended.ensures.fault c.in-Ended.at refl) ∙ c.in-Some.is)
     (open_end end found keys pattern.keys (length good) by none)
 
-pub returns-then-self-most-clause-answer : goal.returns-then-self-most-clause-answer
-returns-then-self-most-clause-answer g c = λ p compiled.
+pub returns-then-comparison-most-clause-answer : goal.returns-then-comparison-most-clause-answer
+returns-then-comparison-most-clause-answer g c = λ p compiled.
     let table = g.W.Weights.table c.args.self.now.table.now in
     let pattern = c.args.self.now.pattern.now in
     let text = c.args.text.now in
@@ -109,12 +109,12 @@ returns-then-self-most-clause-answer g c = λ p compiled.
     let len : length good ≡ length text = ap length (ap (prefix_at text) no_fault) in
     let alike = c.if-not-begun.false in
     let matched = c.end-begun.new.self.progress.matched in
-    let all : matched ≡ length pattern.keys = c.if-self-most.true ∙ most.keys in
+    let all : matched ≡ length pattern.keys = c.if-comparison-most.true ∙ most.keys in
     let same : keys ≡ pattern.keys = ended.matched (chars good) stands alike ∙ all_of pattern.keys matched all in
     without_fault (begun_by table pattern text) (fault text) (length good) end (Some (length text)) no_fault (by.whole none same ∙ ap (λ (n : ℕ). Some n) len)
 
-pub returns-else-self-most-clause-answer : goal.returns-else-self-most-clause-answer
-returns-else-self-most-clause-answer g c = λ p compiled.
+pub returns-else-comparison-most-clause-answer : goal.returns-else-comparison-most-clause-answer
+returns-else-comparison-most-clause-answer g c = λ p compiled.
     let table = g.W.Weights.table c.args.self.now.table.now in
     let pattern = c.args.self.now.pattern.now in
     let text = c.args.text.now in
@@ -137,7 +137,7 @@ returns-else-self-most-clause-answer g c = λ p compiled.
     let no_fault : fault text ≡ None = sym (c.in-Ended.ensures.fault c.in-Ended.at refl) ∙ c.in-None.is in
     let alike = c.if-not-begun.false in
     let matched = c.end-begun.new.self.progress.matched in
-    let fewer : matched ≡ length pattern.keys → ⊥ = λ all. c.if-self-most.false (all ∙ sym most.keys) in
+    let fewer : matched ≡ length pattern.keys → ⊥ = λ all. c.if-comparison-most.false (all ∙ sym most.keys) in
     let other : keys ≡ pattern.keys → ⊥ =
     λ same. fewer_than pattern.keys matched (ended.within (chars good) stands alike) fewer (sym (ended.matched (chars good) stands alike) ∙ same) in
     without_fault (begun_by table pattern text) (fault text) (length good) end None no_fault (by.never none other)
