@@ -72,7 +72,7 @@ module _ (s : Session) (text : List ℕ) (begun : HasBegunAgain s) where
 
 -- the ranges that were found are handed over
 module _ (s s0 s1 s3 : Session) (text : List ℕ) (room count : ℕ) (out : List Range) (how : Outcome) (same0 : sought_of s0 ≡ sought_of s)
-    (open : IsSome s.parked) (begun : HasBegunAgain s3) (same : sought_of s3 ≡ sought_of s1) (len : length out ≡ room) (size : count ≡ length (waiting s1.queue))
+    (going : IsSome s.parked) (begun : HasBegunAgain s3) (same : sought_of s3 ≡ sought_of s1) (len : length out ≡ room) (size : count ≡ length (waiting s1.queue))
     (some : room < count → (how ≡ Short count) × (pairs out ≡ take room (waiting s1.queue))) where
   found_in : (fault : Option TextFault) → AreFound s0 text fault s1 → (p : List ℕ) → IsCompiledFrom (sought_of s) p
       → answer_to (sought_of s) p text ≡ record { ranges = waiting s1.queue; fault = fault }
@@ -96,7 +96,7 @@ module _ (s s0 s1 s3 : Session) (text : List ℕ) (room count : ℕ) (out : List
           subst (λ k. count ≤ k) (sym len) few,
           λ p compiled. found_in None found.searched p compiled ∙ ap (λ xs. record { ranges = xs; fault = None }) (sym (all few).1),
         )) (cases_lt room count);
-    ended = open_stays s s3 open;
+    ended = open_stays s s3 going;
     same = same ∙ found.same ∙ same0;
   }
 
@@ -108,25 +108,25 @@ module _ (s s0 s1 s3 : Session) (text : List ℕ) (room count : ℕ) (out : List
           subst (λ k. count ≤ k) (sym len) few,
           λ p compiled. found_in (Some f) found.searched p compiled ∙ ap (λ xs. record { ranges = xs; fault = Some f }) (sym (all few).1),
         )) (cases_lt room count);
-    ended = open_stays s s3 open;
+    ended = open_stays s s3 going;
     same = same ∙ found.same ∙ same0;
   }
 
 -- a search that has no room for a range is of no text
 pub none_found : (s s0 s1 : Session) (text : List ℕ) (out : List Range) (outcome : Outcome) → IsSome s.parked → sought_of s0 ≡ sought_of s → SearchesText s0 text outcome s1
     → (outcome ≡ Good → ⊥) → ((f : TextFault) → outcome ≡ Text f → ⊥) → (outcome ≡ NoMemory → ⊥) → AllInSession s text out 0 outcome s1
-none_found s s0 s1 text out Good open same found good fault refused = absurd (good refl)
-none_found s s0 s1 text out (Text f) open same found good fault refused = absurd (fault f refl)
-none_found s s0 s1 text out NoMemory open same found good fault refused = absurd (refused refl)
-none_found s s0 s1 text out (State f) open same found good fault refused = record {
+none_found s s0 s1 text out Good going same found good fault refused = absurd (good refl)
+none_found s s0 s1 text out (Text f) going same found good fault refused = absurd (fault f refl)
+none_found s s0 s1 text out NoMemory going same found good fault refused = absurd (refused refl)
+none_found s s0 s1 text out (State f) going same found good fault refused = record {
   all = (refl, found.searched.0, found.searched.1, λ p compiled. found.searched.2 p (subst (λ z. IsCompiledFrom z p) (sym same) compiled));
-  ended = open_stays s s1 open;
+  ended = open_stays s s1 going;
   same = found.same ∙ same;
 }
-none_found s s0 s1 text out (TableFile f) open same found good fault refused = absurd found.searched
-none_found s s0 s1 text out (Pattern f) open same found good fault refused = absurd found.searched
-none_found s s0 s1 text out (Partly n) open same found good fault refused = absurd found.searched
-none_found s s0 s1 text out WrongHandle open same found good fault refused = absurd found.searched
-none_found s s0 s1 text out Ended open same found good fault refused = absurd found.searched
-none_found s s0 s1 text out (Short n) open same found good fault refused = absurd found.searched
-none_found s s0 s1 text out BadArgument open same found good fault refused = absurd found.searched
+none_found s s0 s1 text out (TableFile f) going same found good fault refused = absurd found.searched
+none_found s s0 s1 text out (Pattern f) going same found good fault refused = absurd found.searched
+none_found s s0 s1 text out (Partly n) going same found good fault refused = absurd found.searched
+none_found s s0 s1 text out WrongHandle going same found good fault refused = absurd found.searched
+none_found s s0 s1 text out Ended going same found good fault refused = absurd found.searched
+none_found s s0 s1 text out (Short n) going same found good fault refused = absurd found.searched
+none_found s s0 s1 text out BadArgument going same found good fault refused = absurd found.searched

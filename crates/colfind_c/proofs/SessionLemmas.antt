@@ -46,7 +46,7 @@ pub never_ended : (s new : Session) (p : Parked) → s.parked ≡ Some p → Sta
 never_ended s new p is = λ none. absurd (subst is_some_parked (sym is ∙ none) tt)
 
 pub open_stays : (s new : Session) → IsSome s.parked → StaysEnded s new
-open_stays s new open = λ none. absurd (subst T (sym open ∙ ap is_some none) tt)
+open_stays s new going = λ none. absurd (subst T (sym going ∙ ap is_some none) tt)
 
 abbrev fault_or : TextFault → Result (Unit {0}) TextFault → TextFault
 fault_or f (Ok a) = f
