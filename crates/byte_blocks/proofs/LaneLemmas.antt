@@ -1,13 +1,16 @@
 -- What the operations on vectors of sixteen bytes hold at each lane.
-use Rattle.std.proofs.Common.{◌≡◌, ◌≢◌, ◌∙◌, ◌⊎◌, ℕ, zero, suc, ◌*◌, ◌/◌, ◌%◌, ◌^◌, ◌<◌, ◌≤◌, min, List, Bool, false, true, not, cond, eqb, ltb, length, get_or, map, replicate, refl, sym, ap, ap₂, subst, arith, w8, w64, bit_and, bit_or, bit_xor, Fits, inl, inr}
+use Rattle.std.proofs.Common.{◌≡◌, ◌≢◌, ◌∙◌, ◌⊎◌, ℕ, zero, suc, ◌+◌, ◌*◌, ◌/◌, ◌%◌, ◌^◌, ◌<◌, ◌≤◌, min, List, Bool, false, true, not, cond, eqb, ltb, length, slice_index, get_or, map, replicate, refl, sym, ap, ap₂, subst, arith, w8, w64, bit_and, bit_or, bit_xor, Fits, inl, inr}
 use Rattle.std.specs.Int.{bit_at, trailing_zeros}
 use Rattle.std.specs.Simd.Lanes.{zip2, sel_l, mask_l, Each1}
 use Rattle.std.proofs.lemmas.Simd.{length-zip2, get_or-zip2, get_or-replicate, length-sel_l, get_or-sel_l, length-swz_l, get_or-swz_l_below, swz_l, SwzOk, SwzOk-from_below, Each1-from_get_or, Each1-get_or, mask_l-lt, bit_mask_l}
 use Rattle.std.proofs.lemmas.List.{length-map, get_or-map, get_or_past}
 use Rattle.std.proofs.lemmas.Bool.{cases_Bool, cases_lt, cond-true, cond-false, ltb-true, ltb-false, true≢false, eqb-true}
 use Rattle.std.proofs.lemmas.Nat.{and_mask, le_or_l, le_or_r, or_lt}
+use Rattle.std.specs.Int.Bits.{and_zero_l}
 use Rattle.std.proofs.lemmas.Nat.Bits.{and_pow, bit_at-trailing_zeros, bit_at_or, bit_at_xor, bit_at-lt, bit_at-pow_other, bit_at-zero, same_from_bits}
 use Rattle.byte_blocks.specs.Lanes.{HasLanes}
+use Rattle.byte_blocks.specs.declared.sets.TheConstants.{COLUMNS}
+use Rattle.byte_blocks.specs.Sets.{in_set}
 
 pub lanes-zip2 : (f : ℕ → ℕ → ℕ) (a b : List ℕ) → length a ≡ 16 → length b ≡ 16 → HasLanes (zip2 f a b) (λ k. f (get_or a k 0) (get_or b k 0))
 lanes-zip2 f a b p q = record {
@@ -182,3 +185,17 @@ below-none n less = let e : bit_and n 128 ≡ (n / 128 % 2) * 128 = and_pow n 7 
 
 pub below-high : (n : ℕ) → n < 256 → bit_and n 128 ≡ 0 → n < 128
 below-high n small h = let e : bit_and n 128 ≡ (n / 128 % 2) * 128 = and_pow n 7 in omega (arith, e, h, small)
+
+-- ---- sets
+
+-- a lane of a look-up in a set
+pub member : (set v columns members : List ℕ) → HasLanes columns (λ k. get_or COLUMNS (get_or v k 0 / 16) 0) → HasLanes members (λ k. bit_and (get_or set (get_or v k 0 % 16) 0) (get_or columns k 0)) → (k : ℕ) → k < 16 →
+    get_or members k 0 ≡ in_set set (get_or v k 0)
+member set v columns members high looked k less = looked.each k less ∙ ap (bit_and (get_or set (get_or v k 0 % 16) 0)) (high.each k less)
+
+-- no byte is in a set whose lanes are all 0
+pub in-none : (set lanes : List ℕ) → HasLanes lanes (λ k. slice_index set (0 + k)) → ((k : ℕ) → k < 16 → slice_index lanes k ≡ 0) → (byte : ℕ) → in_set set byte ≡ 0
+in-none set lanes has nothing byte = ap (λ (x : ℕ). bit_and x (slice_index COLUMNS (byte / 16))) at ∙ and_zero_l (slice_index COLUMNS (byte / 16))
+  where
+    at : slice_index set (byte % 16) ≡ 0
+    at = ap (λ (j : ℕ). slice_index set j) (omega arith) ∙ sym (has.each (byte % 16) (omega arith)) ∙ nothing (byte % 16) (omega arith)

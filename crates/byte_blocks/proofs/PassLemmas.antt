@@ -1,6 +1,5 @@
 -- What blocks that pass say of the bytes of a piece.
 use Rattle.std.proofs.Common.{◌≡◌, ◌↔◌, ◌∙◌, ℕ, zero, suc, ◌+◌, ◌-◌, ◌/◌, ◌%◌, ◌≤◌, ◌<◌, min, max, List, ◌∷◌, ◌++◌, length, slice_index, get_or, subst, sym, ap, ap₂, arith, inl, inr, bit_and, bit_or}
-use Rattle.std.specs.Int.Bits.{and_zero_l}
 use Rattle.std.proofs.lemmas.Nat.{and_or_apart}
 use Rattle.std.proofs.lemmas.List.{get_or_append_left, get_or-append-add}
 use Rattle.std.proofs.lemmas.Bool.{cases_lt}
@@ -11,19 +10,7 @@ use Rattle.byte_blocks.proofs.LaneLemmas.{below-high, below-none, or-left, or-ri
 use Rattle.byte_blocks.specs.Ascii.{DoesNotPass, EndsAt, HaltsDecide, KeysDecide, MayPass, Passes, PassesBehind}
 use Rattle.byte_blocks.specs.Sets.{in_set}
 
--- a lane of a look-up in a set
-pub member : (set v columns members : List ℕ) → HasLanes columns (λ k. get_or COLUMNS (get_or v k 0 / 16) 0) → HasLanes members (λ k. bit_and (get_or set (get_or v k 0 % 16) 0) (get_or columns k 0)) → (k : ℕ) → k < 16 →
-    get_or members k 0 ≡ in_set set (get_or v k 0)
-member set v columns members high looked k less = looked.each k less ∙ ap (bit_and (get_or set (get_or v k 0 % 16) 0)) (high.each k less)
-
--- no byte is in a set whose lanes are all 0
-pub in-none : (set lanes : List ℕ) → HasLanes lanes (λ k. slice_index set (0 + k)) → ((k : ℕ) → k < 16 → slice_index lanes k ≡ 0) → (byte : ℕ) → in_set set byte ≡ 0
-in-none set lanes has nothing byte = ap (λ (x : ℕ). bit_and x (slice_index COLUMNS (byte / 16))) at ∙ and_zero_l (slice_index COLUMNS (byte / 16))
-  where
-    at : slice_index set (byte % 16) ≡ 0
-    at = ap (λ (j : ℕ). slice_index set j) (omega arith) ∙ sym (has.each (byte % 16) (omega arith)) ∙ nothing (byte % 16) (omega arith)
-
--- nor in one whose lanes add nothing to those of another, if it is not in that one
+-- A byte that is not in one set is not in another, whose lanes add nothing to those of the first.
 pub in-neither : (set other lanes others : List ℕ) → HasLanes lanes (λ k. slice_index set (0 + k)) → HasLanes others (λ k. slice_index other (0 + k)) →
     ((k : ℕ) → k < 16 → bit_or (slice_index lanes k) (slice_index others k) ≡ slice_index others k) → (byte : ℕ) → in_set other byte ≡ 0 → in_set set byte ≡ 0
 in-neither set other lanes others has has_other same byte none =

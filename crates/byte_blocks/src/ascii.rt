@@ -1,11 +1,12 @@
 //! Text of ASCII sixteen bytes at a time, as long as no two neighbours stop it.
-ghost use Rattle.std.specs.Prelude.{◌≡◌, ◌↔◌, ℕ, ◌+◌, ◌-◌, ◌<◌, ◌≤◌, length, true, slice_index};
+ghost use Rattle.std.specs.Prelude.{◌≡◌, ◌↔◌, ℕ, ◌+◌, ◌-◌, ◌<◌, ◌≤◌, ◌∷◌, length, true, slice_index};
 ghost use Rattle.byte_blocks.specs.Ascii.{DoesNotPass, EndsAt, HaltsDecide, KeysDecide, MayPass, Passes, PassesBehind};
+ghost use Rattle.byte_blocks.specs.Lanes.{HasLanes};
 ghost use Rattle.byte_blocks.specs.Sets.{in_set as in_set_of};
 
 use crate::lanes::{
-    halts_decide, halts_of, is_zero, key_stops, keys_behind, keys_decide, load, members_of, stops,
-    zeros_in_front, zeros_in_front_of_two,
+    columns, either, high_bits, is_empty, is_zero, least, load, members, members_of, one_back,
+    unlike, zeros_in_front, zeros_in_front_of_two,
 };
 use crate::sets::{AsciiSets, in_set};
 use std::simd::prelude::*;
@@ -220,4 +221,72 @@ fn lanes_that_pass(sets: &AsciiSets, bytes: &[u8], at: usize) -> usize
         (slice_index bytes.now (at + result)) }
 {
     zeros_in_front(stops(sets, load(bytes, at - 1), load(bytes, at)))
+}
+
+/// Not 0 in the lanes where a byte does not pass behind another.
+#[inline(always)]
+fn stops(sets: &AsciiSets, before: u8x16, here: u8x16) -> u8x16
+    ensures { (k : ℕ) → k < 16 → (slice_index result k ≡ 0)
+        ↔ PassesBehind sets.now (slice_index before k) (slice_index here k) }
+{
+    let columns_before = columns(before);
+    let columns_here = columns(here);
+    let key = members(&sets.key, before, columns_before);
+    let later = members(&sets.later, here, columns_here);
+    let joins = members(&sets.joins, before, columns_before);
+    let inner = members(&sets.inner, here, columns_here);
+    let halt = members(&sets.halt, here, columns_here);
+    either(
+        either(halt, least(key, later)),
+        either(least(joins, inner), high_bits(here)),
+    )
+}
+
+/// Where keys alone decide it, not 0 in the lanes where a byte does not pass behind another. `keys` are those of the bytes, and `before`
+/// those of the sixteen bytes before them.
+#[inline(always)]
+fn key_stops(sets: &AsciiSets, before: u8x16, keys: u8x16, here: u8x16) -> u8x16
+    requires { HasLanes keys (λ k. in_set_of sets.now.key (slice_index here k)) }
+    ensures { KeysDecide sets.now → (byte : ℕ)
+        → in_set_of sets.now.key byte ≡ slice_index before 15
+        → (k : ℕ) → k < 16 → (slice_index result k ≡ 0)
+        ↔ PassesBehind sets.now (slice_index (byte ∷ here) k) (slice_index here k) }
+{
+    let later = members(&sets.later, here, columns(here));
+    either(least(one_back(before, keys), later), high_bits(here))
+}
+
+/// The keys of sixteen bytes, of which the last one is given.
+#[inline(always)]
+fn keys_behind(sets: &AsciiSets, byte: u8) -> u8x16
+    ensures { in_set_of sets.now.key byte ≡ slice_index result 15 }
+{
+    u8x16::splat(in_set(&sets.key, byte))
+}
+
+/// Whether keys alone decide which bytes pass, as in a table without strings of letters of ASCII.
+#[inline(always)]
+fn keys_decide(sets: &AsciiSets) -> bool
+    ensures { result ≡ true → KeysDecide sets.now }
+{
+    is_empty(&sets.inner) && is_empty(&sets.halt)
+}
+
+/// Not 0 in the lanes of bytes that can't be passed.
+#[inline(always)]
+fn halts_of(sets: &AsciiSets, here: u8x16) -> u8x16
+    ensures { (k : ℕ) → k < 16 → (slice_index result k ≡ 0)
+        ↔ MayPass sets.now (slice_index here k) }
+{
+    either(members(&sets.halt, here, columns(here)), high_bits(here))
+}
+
+/// Whether the bytes that halt decide alone which bytes pass, as for a pattern of one key in a table without strings of letters of ASCII.
+#[inline(always)]
+fn halts_decide(sets: &AsciiSets) -> bool
+    ensures { result ≡ true → HaltsDecide sets.now }
+{
+    let halt = load(&sets.halt, 0);
+    let key = load(&sets.key, 0);
+    is_empty(&sets.inner) && is_zero(unlike(either(key, halt), halt))
 }

@@ -3,8 +3,11 @@ ghost use Rattle.std.specs.Prelude.{◌≡◌, ◌↔◌, ℕ, ◌+◌, ◌-◌,
 ghost use Rattle.byte_blocks.specs.Sets.{is_in, trails};
 ghost use Rattle.byte_blocks.specs.TwoBytes.{DoesNotGoOn, GoesOn, Pass, StopsAt};
 
-use crate::lanes::{is_zero, load, stops_of_two, zeros_in_front};
+use crate::lanes::{
+    either, high_halves, is_zero, least, load, members_of_both, unlike, zeros_in_front,
+};
 use crate::sets::{LEADS, TRAILS, TwoByteSets};
+use std::simd::prelude::*;
 
 /// The fewest bytes for which blocks are begun.
 const FEWEST_IN_BLOCKS: usize = 18;
@@ -95,4 +98,20 @@ fn lanes_that_go_on(sets: &TwoByteSets, bytes: &[u8], at: usize) -> usize
         load(bytes, at - 1),
         load(bytes, at),
     ))
+}
+
+/// Not 0 in the lanes where a byte does not go on behind two others.
+#[inline(always)]
+fn stops_of_two(sets: &TwoByteSets, earlier: u8x16, before: u8x16, here: u8x16) -> u8x16
+    ensures { (k : ℕ) → k < 16 → (slice_index result k ≡ 0)
+        ↔ GoesOn sets.now (slice_index earlier k) (slice_index before k) (slice_index here k) }
+{
+    let lead = high_halves(&LEADS, before);
+    let trail = high_halves(&TRAILS, here);
+    let halt = members_of_both(&sets.halt, here);
+    let later = members_of_both(&sets.later, here);
+    let near = members_of_both(&sets.key, before);
+    let far = members_of_both(&sets.key, earlier);
+    let waiting = either(near, least(lead, far));
+    either(either(halt, unlike(trail, lead)), least(waiting, later))
 }

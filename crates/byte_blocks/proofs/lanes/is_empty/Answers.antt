@@ -1,4 +1,4 @@
-use Rattle.byte_blocks.proofs.PassLemmas.{in-none}
+use Rattle.byte_blocks.proofs.LaneLemmas.{in-none}
 use Rattle.byte_blocks.proofs.lanes.is_empty.Goals as goal
 
 pub returns : goal.returns

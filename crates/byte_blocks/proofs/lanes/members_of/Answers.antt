@@ -1,4 +1,4 @@
-use Rattle.byte_blocks.proofs.PassLemmas.{member}
+use Rattle.byte_blocks.proofs.LaneLemmas.{member}
 use Rattle.byte_blocks.proofs.lanes.members_of.Goals as goal
 
 pub returns : goal.returns

@@ -1,7 +1,7 @@
 use Rattle.std.proofs.Common.{◌≡◌, ◌↔◌, ◌∙◌, ℕ, min, get_or, refl, sym, ap₂, bit_or}
 use Rattle.byte_blocks.specs.Sets.{leads, trails}
 use Rattle.byte_blocks.proofs.TwoByteLemmas.{lane-goes-on}
-use Rattle.byte_blocks.proofs.lanes.stops_of_two.Goals as goal
+use Rattle.byte_blocks.proofs.two_bytes.stops_of_two.Goals as goal
 
 pub returns : goal.returns
 returns c = λ k less.

@@ -1,7 +1,8 @@
 use Rattle.std.proofs.Common.{◌∙◌, ◌<◌, get_or, ap₂, arith, bit_or, Fits, w8}
 use Rattle.std.proofs.lemmas.Simd.{Each1-get_or}
-use Rattle.byte_blocks.proofs.PassLemmas.{lane-may-pass, member}
-use Rattle.byte_blocks.proofs.lanes.halts_of.Goals as goal
+use Rattle.byte_blocks.proofs.LaneLemmas.{member}
+use Rattle.byte_blocks.proofs.PassLemmas.{lane-may-pass}
+use Rattle.byte_blocks.proofs.ascii.halts_of.Goals as goal
 
 pub returns : goal.returns
 returns c = λ k less.

@@ -1,7 +1,8 @@
 use Rattle.std.proofs.Common.{◌∙◌, ℕ, ◌<◌, ◌∷◌, min, get_or, ap₂, arith, bit_or, Fits, w8}
 use Rattle.std.proofs.lemmas.Simd.{Each1-get_or}
-use Rattle.byte_blocks.proofs.PassLemmas.{keys-one-back, lane-passes-by-keys, member}
-use Rattle.byte_blocks.proofs.lanes.key_stops.Goals as goal
+use Rattle.byte_blocks.proofs.LaneLemmas.{member}
+use Rattle.byte_blocks.proofs.PassLemmas.{keys-one-back, lane-passes-by-keys}
+use Rattle.byte_blocks.proofs.ascii.key_stops.Goals as goal
 
 pub returns : goal.returns
 returns c = λ decide byte last k less.

@@ -1,6 +1,6 @@
 use Rattle.std.proofs.Common.{◌∙◌, sym}
 use Rattle.byte_blocks.proofs.PassLemmas.{in-neither}
-use Rattle.byte_blocks.proofs.lanes.halts_decide.Goals as goal
+use Rattle.byte_blocks.proofs.ascii.halts_decide.Goals as goal
 
 pub returns-then-is_empty : goal.returns-then-is_empty
 returns-then-is_empty c = λ yes.
