@@ -1,5 +1,5 @@
 -- Lemmas on what a trie marks of the strings that it maps: each mark is one of a mapped string.
-use Rattle.std.proofs.Common.{◌≡◌, ◌⊎◌, ℕ, zero, suc, ◌<◌, Bool, true, false, List, [], ◌∷◌, ◌++◌, length, take, Option, Some, None, is_some, bytes_eq, refl, sym, ap, subst, ◌∙◌, inl, inr, arith, append_assoc}
+use Rattle.std.proofs.Common.{◌≡◌, ◌⊎◌, ℕ, zero, suc, ◌<◌, true, false, List, [], ◌∷◌, ◌++◌, length, Some, is_some, bytes_eq, refl, sym, ap, subst, ◌∙◌, inl, inr, arith, append_assoc}
 use Rattle.std.proofs.lemmas.Bool.{cases_Bool, false≢true, false_from_ne_true}
 use Rattle.std.specs.Cmp.Lexicographic.{bytes_decides}
 use Rattle.collation_table.specs.declared.elements.Element.{Element}
@@ -10,7 +10,7 @@ use Rattle.collation_table.specs.declared.rows.RowPlaces.{RowPlaces}
 use Rattle.collation_table.specs.declared.trie.Trie.{Trie}
 use Rattle.collation_table.specs.Entries.{rows_at, IsIndexed}
 use Rattle.collation_table.specs.Table.{TableMap, BeginsNoLongerString, ContinuesNoString, is_mapped}
-use Rattle.collation_table.specs.Trie.{at, continues, leads_on, place_of, is_placed, BeginsLonger, BeginsWith, IsSet, IsTold, LeadsStep, MarksStep, MarksWay, StandsBehind, page_entry, no_page_entry}
+use Rattle.collation_table.specs.Trie.{continues, leads_on, place_of, is_placed, BeginsLonger, BeginsWith, IsSet, IsTold, LeadsStep, MarksStep, MarksWay, StandsBehind, page_entry, no_page_entry}
 use Rattle.collation_table.proofs.IndexLemmas.{found_string}
 use Rattle.collation_table.proofs.TrieLemmas.{same_or_not}
 

@@ -1,6 +1,6 @@
 //! The rows and the implicit ranges of a table, as the lines of its file give them one by one.
-ghost use Rattle.std.specs.Prelude.{◌≡◌, ℕ, List, [], ◌∷◌, ◌++◌, false, length, take, slice_get, None, Some, IfSome, OnOk, OnSome, option_copied, ◌<◌, ◌≤◌};
-ghost use Rattle.collation_table.specs.Table.{TableMap, BeginsNoLongerString, ContinuesNoString, GoesOnInNoString, row_of, row_with, is_mapped, is_in_longer as is_in_longer_string, longest_prefix, longest_mapped, most_elements, stands_alone};
+ghost use Rattle.std.specs.Prelude.{◌≡◌, ℕ, List, [], ◌∷◌, ◌++◌, false, length, take, slice_get, is_some, None, Some, IfSome, OnOk, OnSome, option_copied, ◌<◌, ◌≤◌};
+ghost use Rattle.collation_table.specs.Table.{TableMap, BeginsNoLongerString, ContinuesNoString, row_of, row_with, is_mapped, is_in_longer as is_in_longer_string, longest_mapped, most_elements, stands_alone};
 ghost use Rattle.std.specs.List.{list_any};
 ghost use Rattle.collation_table.specs.Entries.{part, after};
 ghost use Rattle.collation_table.specs.WellFormed.{IsRowSound, breaks_ranges};
@@ -174,6 +174,16 @@ impl<I: RowIndex> Rows<I> {
         self.index.place(string).is_some()
     }
 
+    /// What finds the rows: it has a place for each string that a row maps, and for no other one.
+    #[inline(always)]
+    pub fn index(&self) -> &I
+        ensures whole { I.is_whole result.now }
+        ensures places { (string : List ℕ)
+            → is_mapped self.now string ≡ is_some (I.finds result.now string) }
+    {
+        &self.index
+    }
+
     /// Adds a row after the others. Where memory is refused, all rows and ranges are lost.
     pub fn insert(
         &mut self,
@@ -282,27 +292,12 @@ impl<I: RowIndex> Rows<I> {
 }
 
 impl Rows<Trie> {
-    /// The greatest number of code points at which a prefix of `points` is mapped, and 0 if none is.
-    pub fn longest(&self, points: &[u32]) -> usize
-        ensures value { result ≡ longest_prefix self.now points.now }
-        ensures within { result ≤ length points.now }
-    {
-        self.index.longest(points)
-    }
-
     /// Whether a mapped string of two or more code points begins with `cp`.
     pub fn begins_longer_string(&self, cp: u32) -> bool
         ensures none { result ≡ false → BeginsNoLongerString self.now cp }
         ensures some { BeginsNoLongerString self.now cp → result ≡ false }
     {
         self.index.begins_longer_string(cp)
-    }
-
-    /// Whether a mapped string that is longer than `string` begins with it; `true` for the empty string.
-    pub fn goes_on(&self, string: &[u32]) -> bool
-        ensures { result ≡ false → GoesOnInNoString self.now string.now }
-    {
-        self.index.goes_on(string)
     }
 
     /// The elements of the row of `cp` alone, if it has one, where no mapped string of two or more code points begins with it; `None`

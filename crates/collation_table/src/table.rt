@@ -38,7 +38,7 @@ impl Weights for Table {
     ghost table = { λ t. t.rows };
 
     fn longest(&self, points: &[u32]) -> usize {
-        self.rows.longest(points)
+        self.rows.index().longest(points)
     }
 
     fn row(&self, string: &[u32]) -> Option<&[Element]> {
@@ -64,7 +64,7 @@ impl Weights for Table {
     }
 
     fn goes_on(&self, string: &[u32]) -> bool {
-        self.rows.goes_on(string)
+        self.rows.index().goes_on(string)
     }
 
     fn longest_key(&self) -> usize {

@@ -1,4 +1,4 @@
-use Rattle.std.proofs.Common.{◌∙◌, ◌∷◌, ◌++◌, ap, sym}
+use Rattle.std.proofs.Common.{◌∙◌, ◌∷◌, ap, sym}
 use Rattle.collation_table.specs.Table.{TableMap}
 use Rattle.collation_table.proofs.IndexLemmas.{found_string, is_some-none}
 use Rattle.collation_table.proofs.MarkLemmas.{told_begins}

@@ -1,5 +1,5 @@
-use Rattle.std.proofs.Common.{◌∙◌, take, sym, subst, ap, refl, arith, length, get_or}
-use Rattle.std.proofs.lemmas.List.{take_more, length-take-le, take_all}
+use Rattle.std.proofs.Common.{◌∙◌, take, sym, subst, ap, arith}
+use Rattle.std.proofs.lemmas.List.{take_more, length-take-le}
 use Rattle.collation_table.specs.Trie.{at, Leads, MarksWay}
 use Rattle.collation_table.proofs.MarkLemmas.{some_way, way_more}
 use Rattle.collation_table.proofs.trie.Trie.follow_all.Goals as goal

@@ -1,4 +1,4 @@
-use Rattle.std.proofs.Common.{inl, inr, ◌-◌, ◌∙◌, ◌<◌, sym, ap, subst, refl, arith, length, take, get_or, is_some}
+use Rattle.std.proofs.Common.{inl, inr, ◌-◌, ◌∙◌, sym, ap, subst, refl, arith, length, take, get_or, is_some}
 use Rattle.collation_table.specs.Trie.{at, place_of, IsTrieOf}
 use Rattle.collation_table.proofs.MarkLemmas.{told_insert, zero_or}
 use Rattle.collation_table.proofs.TrieLemmas.{IsTrieOf-put, place_from-put_here, place_from-put_other, put_node, split_last}
