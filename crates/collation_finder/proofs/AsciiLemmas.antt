@@ -2,7 +2,7 @@
 use Rattle.std.specs.Char.{len_utf8}
 use Rattle.std.specs.Str.{IsAscii}
 use Rattle.std.specs.List.{All}
-use Rattle.std.proofs.Common.{◌≡◌, ◌∙◌, ℕ, zero, suc, ◌+◌, ◌<◌, ◌≤◌, None, List, [], ◌∷◌, ◌++◌, length, take, get_or, false, true, not, ◌==◌, eq-eqb, refl, sym, ap, subst, arith, append_assoc}
+use Rattle.std.proofs.Common.{◌≡◌, ◌∙◌, ℕ, zero, suc, ◌+◌, ◌<◌, ◌≤◌, Option, None, Some, List, [], ◌∷◌, ◌++◌, length, take, get_or, slice_get, false, true, not, ◌==◌, eq-eqb, refl, sym, ap, subst, arith, append_assoc}
 use Rattle.std.proofs.lemmas.List.{append-nil, length-take-le}
 use Rattle.std.proofs.lemmas.Str.{encode_ascii, len_utf8_ascii, IsAscii-append}
 use Rattle.std.proofs.Math.Seq.{take-suc}
@@ -107,11 +107,20 @@ given-afresh law itself bytes w b bs taken none ascii good =
     given-joined itself bytes w b bs taken (points taken) (ascii 0)
     (given-ascii law itself bytes w bs (taken ++ b ∷ []) (points taken ++ ascii_point (byte_len taken) b ∷ []) none (λ i. ascii (suc i)) (ascii-afresh w taken b none (ascii 0) good))
 
+none-some : (o : Option ℕ) (c : ℕ) → o ≡ None → o ≡ Some c → ⊥
+none-some o c none some = cc
+
 -- the first of some bytes, and the others
 pub first-of : (n : ℕ) (bs : List ℕ) → 0 < n → n ≤ length bs → (others : List ℕ) × (take n bs ≡ get_or bs 0 0 ∷ others)
 first-of zero bs some within = absurd (omega (arith, some))
 first-of (suc n) [] some within = absurd (omega (arith, within))
 first-of (suc n) (b ∷ bs) some within = (take n bs, refl)
+
+-- some are taken where a first one is, and it is the first of all
+pub first-taken : (bs : List ℕ) (n c : ℕ) → slice_get (take n bs) 0 ≡ Some c → (0 < n) × (c ≡ get_or bs 0 0)
+first-taken bs zero c h = absurd (none-some (slice_get (take zero bs) 0) c refl h)
+first-taken [] (suc n) c h = absurd (none-some (slice_get (take (suc n) []) 0) c refl h)
+first-taken (b ∷ bs) (suc n) c h = (omega arith, cc)
 
 first-is : (bs : List ℕ) (c : ℕ) → take 1 bs ≡ c ∷ [] → get_or bs 0 0 ≡ c
 first-is [] c h = cc

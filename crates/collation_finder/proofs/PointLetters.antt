@@ -16,13 +16,10 @@ use Rattle.collation_letters.specs.declared.letter.Role.TheVariants.{Plain}
 use Rattle.collation_letters.specs.Letters.{IsLetter}
 use Rattle.collation_walk.specs.declared.matching.Matcher.{Matcher}
 use Rattle.collation_walk.specs.Walked.{HasWalkedOn}
+use Rattle.collation_finder.specs.Apart.{AreClosedHere}
 use Rattle.collation_finder.specs.Matching.{HasMatched}
 use Rattle.collation_finder.proofs.ApartLemmas.{from_one}
 use Rattle.collation_finder.proofs.CharacterLemmas.{points_are_shifted}
-
--- no unit reaches out of these points
-abbrev pub AreClosedHere : TableMap → List Point → Type 0
-AreClosedHere table ps = (more : List Point) → units table (ps ++ more) ≡ units table ps ++ units table more
 
 -- the points of one character, where it stands
 pub alone_from : (p : Point) → p.ccc ≡ 0 → p.first ≡ true → IsSoundPoint p → decomposition p.cp ≡ p.cp ∷ [] → points_from p.offset (p.cp ∷ []) ≡ p ∷ []

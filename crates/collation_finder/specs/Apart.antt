@@ -35,6 +35,10 @@ IsDecomposed p = decomposition p.cp ≡ p.cp ∷ []
 abbrev pub AreDecomposed : List Point → Type 0
 AreDecomposed = All IsDecomposed
 
+-- no unit reaches from these points to what follows
+abbrev pub AreClosedHere : TableMap → List Point → Type 0
+AreClosedHere table ps = (more : List Point) → units table (ps ++ more) ≡ units table ps ++ units table more
+
 -- ---- a pause
 
 -- all units of the text `taken` were cut, as if it ended there

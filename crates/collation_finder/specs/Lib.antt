@@ -6,3 +6,4 @@ pub mod Apart
 pub mod LetterRun
 pub mod Caches
 pub mod ShortPiece
+pub mod Pausing

@@ -1,5 +1,5 @@
 -- A short piece behind characters of ASCII that a window holds.
-use Rattle.std.specs.Prelude.{◌≡◌, ℕ, ◌+◌, ◌-◌, ◌≤◌, true, List, [], ◌++◌, length, take, drop}
+use Rattle.std.specs.Prelude.{◌≡◌, ℕ, ◌+◌, ◌-◌, ◌≤◌, true, List, [], ◌∷◌, ◌++◌, length, take, drop}
 use Rattle.std.specs.Char.{len_utf8}
 use Rattle.std.specs.Str.{chars, IsAscii, IsUtf8}
 use Rattle.utf8_cut.specs.Sequences.{SpellsCharacter}
@@ -7,8 +7,11 @@ use Rattle.nfd_points.specs.Points.{byte_len, points_of, points_from, begins_wit
 use Rattle.collation_table.specs.Table.{TableMap}
 use Rattle.collation_elements.specs.Windows.{Held}
 use Rattle.collation_pattern.specs.Compiled.{Compiled}
+use Rattle.collation_letters.specs.Letters.{IsLetter}
 use Rattle.collation_walk.specs.Walks.{passed_to}
 use Rattle.collation_finder.specs.declared.finder.Finder.{Finder}
+use Rattle.collation_finder.specs.declared.letter_loop.Front.{Front}
+use Rattle.collation_finder.specs.declared.short_piece.PassedShort.{PassedShort}
 use Rattle.collation_finder.specs.Apart.{IsPausedBefore}
 use Rattle.collation_finder.specs.Finding.{FinderStandsFor}
 
@@ -31,3 +34,8 @@ pub record PassesShort (table : TableMap) (pattern : Compiled) (finder : Finder)
   pub none_waits : finder.reorder.held ≡ []
   pub paused : (taken : List ℕ) (handed : List (ℕ × ℕ)) (window : Held) → window.points ≡ [] → FinderStandsFor table pattern finder taken handed → offset ≡ byte_len taken →
       IsPausedBefore table pattern finder.reorder window (record finder.matcher { walk = passed_to finder.matcher.walk start }) (taken ++ chars (take len piece)) handed next
+
+-- What may be passed by at the front of a piece, with the letter of the character that follows.
+pub record MayPass (table : TableMap) (pattern : Compiled) (finder : Finder) (front : Front) (passed : PassedShort) : Type 0 where
+  pub passes : PassesShort table pattern finder front.piece.now front.offset front.reach passed.start passed.end.len passed.end.next
+  pub letter : IsLetter table pattern (passed.end.next ∷ []) passed.end.letter

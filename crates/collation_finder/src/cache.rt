@@ -45,22 +45,13 @@ pub struct Cache {
 }
 
 impl Cache {
-    ghost use Rattle.std.specs.Prelude.{◌≡◌, ℕ, ◌+◌, ◌<◌, ◌≤◌, List, [], ◌∷◌, length, take, true, false, IfOk, IfSome};
-    ghost use Rattle.std.specs.Char.{len_utf8};
-    ghost use Rattle.std.specs.Str.{chars};
-    ghost use Rattle.nfd_points.specs.Points.{points_of, points_from, begins_with_starter};
+    ghost use Rattle.std.specs.Prelude.{◌≡◌, ◌<◌, ◌≤◌, length, true, IfOk, IfSome};
+    ghost use Rattle.nfd_points.specs.Points.{points_of, begins_with_starter};
     ghost use Rattle.collation_table.specs.Table.{TableMap};
-    ghost use Rattle.collation_elements.specs.Units.{units};
     ghost use Rattle.collation_pattern.specs.Compiled.{Compiled};
-    ghost use Rattle.collation_letters.specs.Apart.{IsNext};
-    ghost use Rattle.collation_elements.specs.Weighing.{is_after_variable};
-    ghost use Rattle.collation_skip.specs.Passed.{PassesTo};
-    ghost use Rattle.collation_walk.specs.declared.matching.Matcher.{Matcher};
     ghost use Rattle.collation_finder.specs.declared.cache.TheConstants.{MOST_KEYS};
-    ghost use Rattle.collation_walk.specs.Walked.{HasWalkedOn};
-    ghost use Rattle.collation_finder.specs.Caches.{AreRight};
+    ghost use Rattle.collation_finder.specs.Caches.{AreRight, SkipsText};
     ghost use Rattle.collation_finder.specs.LetterRun.{StandsInFront};
-    ghost use Rattle.collation_walk.specs.Walks.{passed_to};
 
     /// Nothing is known yet.
     ///
@@ -121,19 +112,9 @@ impl Cache {
         requires begins { begins_with_starter (points_of offset first) ≡ true }
         requires later { 0 < offset }
         requires right { AreRight (W.table query.now.table.now) query.now.pattern.now self.old }
-        ensures some { IfSome result (λ s. len_utf8 first ≤ s.end) }
-        ensures passes { IfSome result (PassesTo (W.table query.now.table.now)
-            query.now.pattern.now piece.now reach) }
-        ensures begun { IfSome result (λ s. (others : List ℕ)
-            × (chars (take s.end piece.now) ≡ first ∷ others)) }
-        ensures apart { IfSome result (λ s.
-            IsNext (W.table query.now.table.now) offset (chars (take s.end piece.now)) s.next) }
-        ensures walked { IfSome result (λ s. (matcher : Matcher)
-            → is_after_variable matcher.weigher ≡ false → matcher.walk.state ≡ 0
-            → HasWalkedOn (W.table query.now.table.now) query.now.pattern.now matcher
-            (record matcher { walk = passed_to matcher.walk (offset + s.start) })
-            (units (W.table query.now.table.now)
-            (points_from offset (chars (take s.end piece.now)))) []) }
+        ensures skips { IfSome result
+            (SkipsText (W.table query.now.table.now) query.now.pattern.now
+            piece.now first reach offset) }
         ensures right { AreRight (W.table query.now.table.now) query.now.pattern.now self.new }
     {
         laws_of_symbols();

@@ -1,13 +1,11 @@
 //! From points to ranges: a window, the units that it gives, and the matcher that these go through.
-ghost use Rattle.std.specs.Prelude.{◌≡◌, ◌+◌, ◌≤◌, List, [], ◌++◌, length, All, Contains, true, false};
+ghost use Rattle.std.specs.Prelude.{◌≡◌, ◌+◌, ◌≤◌, List, [], ◌++◌, length, All, false};
 ghost use Rattle.arrayvec.specs.ArrayVec.{array_vec_len};
 ghost use Rattle.nfd_points.specs.declared.points.Point.{Point};
-ghost use Rattle.unicode_normalization.specs.StreamSafe.{has_short_runs};
-ghost use Rattle.nfd_points.specs.Reordering.{IsSoundPoint, code_points, is_closed};
-ghost use Rattle.collation_table.specs.Table.{TableMap, longest_mapped};
-ghost use Rattle.collation_elements.specs.Decided.{left_points};
-ghost use Rattle.collation_elements.specs.Windows.{WindowStandsFor, is_decided};
-ghost use Rattle.collation_finder.specs.Matching.{HasMatched};
+ghost use Rattle.nfd_points.specs.Reordering.{IsSoundPoint};
+ghost use Rattle.collation_table.specs.Table.{TableMap};
+ghost use Rattle.collation_elements.specs.Windows.{WindowStandsFor};
+ghost use Rattle.collation_finder.specs.Matching.{HasMatched, LeavesUndecided};
 ghost use Rattle.collation_walk.specs.Walks.{KeepsWalk};
 
 use arrayvec::ArrayVec;
@@ -56,20 +54,7 @@ pub(crate) fn cut_units<W: Weights>(
         (ranges ++ found.new.items) }
     ensures few { array_vec_len found.new + length window.new.points
         ≤ array_vec_len found.old + length window.old.points }
-    ensures kept { All (Contains window.old.points) window.new.points }
-    ensures short { All IsSoundPoint window.old.points
-        → has_short_runs 0 (code_points window.old.points) ≡ true
-        → has_short_runs 0 (code_points window.new.points) ≡ true }
-    ensures capacity { window.new.capacity ≡ window.old.capacity }
-    ensures ended { window.new.has_ended ≡ window.old.has_ended }
-    ensures rest { window.old.has_ended ≡ false → is_closed window.old.points ≡ true
-        → length window.new.points ≤ longest_mapped (W.table table.now) }
-    ensures last { window.old.has_ended ≡ false → is_closed window.old.points ≡ true
-        → is_closed window.new.points ≡ true }
-    ensures all { window.old.has_ended ≡ true → window.new.points ≡ [] }
-    ensures undecided { is_decided (W.table table.now) window.new ≡ false }
-    ensures left { window.old.has_ended ≡ false
-        → window.new.points ≡ left_points (W.table table.now) window.old.points }
+    ensures leaves { LeavesUndecided (W.table table.now) window.old window.new }
     ensures keeps { KeepsWalk pattern.now matcher.old.walk matcher.new.walk }
 {
     decided_units_stay();

@@ -26,37 +26,27 @@ pub struct Finder {
     pub reorder: Reorder,
     pub window: Window,
     pub matcher: Matcher,
-    /// The number of code points of the table's longest key.
-    pub longest_key: usize,
-    /// The number of the pattern's keys.
-    pub pattern_len: usize,
     /// What the reorderer gave last, and the items of the last unit. Their room is used again and again.
     pub(crate) given: ArrayVec<Point, MOST_GIVEN>,
     /// It stands on the heap, so that a finder that is moved, as into the box of a search, does not carry it.
     pub items: Box<ArrayVec<Item, MOST_ITEMS>>,
-    ghost capacity: { window.capacity ≡ longest_key + MOST_GIVEN },
-    ghost short: { longest_key ≤ MOST_STRING_POINTS },
-    ghost undecided: { length window.points ≤ longest_key },
+    ghost short: { window.capacity ≤ MOST_STRING_POINTS + MOST_GIVEN },
+    ghost undecided: { length window.points + MOST_GIVEN ≤ window.capacity },
     ghost closed: { is_closed window.points ≡ true },
     ghost sound: { All IsSoundPoint window.points },
     ghost short_runs: { has_short_runs 0 (code_points window.points) ≡ true },
-    ghost state: { matcher.walk.state ≤ pattern_len },
-    ghost room: { matcher.walk.places.capacity ≡ pattern_len },
+    ghost state: { matcher.walk.state ≤ matcher.walk.places.capacity },
 }
 
 impl Finder {
     ghost use Rattle.std.specs.Prelude.{◌≡◌, ℕ, ◌+◌, ◌<◌, ◌≤◌, List, [], ◌∷◌, ◌++◌, length, IfOk, OnOk, OnErr, IfErr, Ok, Some, None, true, false};
     ghost use Rattle.arrayvec.specs.ArrayVec.{array_vec_len};
-    ghost use Rattle.nfd_points.specs.Points.{byte_len, points, points_of, begins_with_starter};
+    ghost use Rattle.nfd_points.specs.Points.{byte_len};
     ghost use Rattle.nfd_points.specs.PointFaults.{point_fault};
     ghost use Rattle.collation_table.specs.Table.{TableMap, longest_mapped as longest_key_of};
-    ghost use Rattle.collation_elements.specs.Units.{units};
     ghost use Rattle.collation_elements.specs.Windows.{is_decided};
-    ghost use Rattle.collation_elements.specs.Items.{items as items_of_units};
-    ghost use Rattle.collation_finder.specs.Apart.{IsPausedBefore};
-    ghost use Rattle.collation_walk.specs.Walked.{HasWalked};
-    ghost use Rattle.collation_finder.specs.Early.{IsCutUpTo};
-    ghost use Rattle.collation_finder.specs.Finding.{FinderStandsFor, IsMadeFor, KeepsSetup};
+    ghost use Rattle.collation_finder.specs.Finding.{EndsText, FinderStandsFor, IsReady, KeepsSetup, StaysOpen};
+    ghost use Rattle.collation_finder.specs.Taking.{TakesBehind};
     ghost use Rattle.collation_elements.specs.Clusters.{clusters_from};
     ghost use Rattle.collation_matches.specs.ByClusters.{text_begin, found as all_found};
     ghost use Rattle.collation_matches.specs.Selecting.{selected};
@@ -71,22 +61,17 @@ impl Finder {
     ) -> Result<Finder, AllocError>
         ensures stands { IfOk result
             (λ f. FinderStandsFor (W.table table.now) pattern.now f [] []) }
-        ensures open { IfOk result (λ f. f.window.has_ended ≡ false) }
+        ensures ready { IfOk result (IsReady (W.table table.now) pattern.now) }
         ensures empty { IfOk result (λ f. f.window.points ≡ []) }
-        ensures longest { IfOk result (λ f. f.longest_key ≡ longest_key_of (W.table table.now)) }
-        ensures pattern_len { IfOk result (λ f. f.pattern_len ≡ length pattern.now.keys) }
         ensures select { IfOk result (λ f. f.matcher.walk.select ≡ select) }
     {
-        let longest_key = table.longest_key();
         Ok(Finder {
             reorder: Reorder::new(alloc),
-            window: Window::with_capacity(alloc, longest_key)?,
+            window: Window::with_capacity(alloc, table.longest_key())?,
             matcher: Matcher {
                 weigher: Weigher::new(pattern.strength(), pattern.variable()),
                 walk: Walk::new(alloc, pattern, select)?,
             },
-            longest_key,
-            pattern_len: pattern.len(),
             given: ArrayVec::new(),
             items: Box::new(alloc, ArrayVec::new())?,
         })
@@ -94,11 +79,10 @@ impl Finder {
 
     /// Goes back to the beginning of a text.
     pub fn begin_again(&mut self, alloc: Global, pattern: &Pattern)
-        requires pattern_len { self.old.pattern_len ≡ length pattern.now.keys }
+        requires { self.old.matcher.walk.places.capacity ≡ length pattern.now.keys }
         ensures stands { (table : TableMap) → FinderStandsFor table pattern.now self.new [] [] }
-        ensures open { self.new.window.has_ended ≡ false }
         ensures empty { self.new.window.points ≡ [] }
-        ensures setup { KeepsSetup self.old self.new }
+        ensures goes_on { StaysOpen self.old self.new }
     {
         self.reorder = Reorder::new(alloc);
         self.window.clear();
@@ -119,53 +103,25 @@ impl Finder {
         offset: u64,
         found: &mut Found,
     ) -> Result<(), PointFault>
-        requires open { self.old.window.has_ended ≡ false }
-        requires made { IsMadeFor (W.table table.now) pattern.now self.old }
+        requires ready { IsReady (W.table table.now) pattern.now self.old }
         requires empty { found.old.items ≡ [] }
-        ensures stands { (taken : List ℕ) (ranges : List _)
-            → FinderStandsFor (W.table table.now) pattern.now self.old taken ranges
-            → offset ≡ byte_len taken
-            → OnOk result
-            (FinderStandsFor (W.table table.now) pattern.now self.new (taken ++ c ∷ [])
-            (ranges ++ found.new.items)) }
+        // whatever it stood for; the points left are those of which no unit is decided, but for units that were cut early
+        ensures taken { OnOk result
+            (TakesBehind (W.table table.now) pattern.now self.old self.new (Some c)
+            offset (c ∷ []) found.new.items) }
         ensures kept { (taken : List ℕ) (ranges : List _)
             → FinderStandsFor (W.table table.now) pattern.now self.old taken ranges
             → OnErr result (FinderStandsFor (W.table table.now) pattern.now self.new taken ranges) }
         ensures fault { (taken rest : List ℕ) (ranges : List _)
             → FinderStandsFor (W.table table.now) pattern.now self.old taken ranges
             → IfErr result (λ f. point_fault (taken ++ c ∷ rest) ≡ Some (byte_len taken, f.kind)) }
-        // after a pause, in which none waits, it goes on with a character that begins with a starter
-        ensures afresh { (taken : List ℕ) (ranges : List _)
-            → IsPausedBefore
-            (W.table table.now) pattern.now self.old.reorder self.old.window self.old.matcher
-            taken ranges c
-            → offset ≡ byte_len taken → begins_with_starter (points_of offset c) ≡ true
-            → OnOk result
-            (FinderStandsFor (W.table table.now) pattern.now self.new (taken ++ c ∷ [])
-            (ranges ++ found.new.items)) }
-        // the points left are those of which no unit is decided, but for units that were cut early
-        ensures left { (place : ℕ) (taken : List ℕ) (ranges : List _)
-            → FinderStandsFor (W.table table.now) pattern.now self.old taken ranges
-            → offset ≡ byte_len taken
-            → IsCutUpTo (W.table table.now) place taken self.old.window.points
-            → OnOk result
-            (IsCutUpTo (W.table table.now) place (taken ++ c ∷ []) self.new.window.points) }
-        ensures left_afresh { (taken : List ℕ) (ranges : List _)
-            → IsPausedBefore
-            (W.table table.now) pattern.now self.old.reorder self.old.window self.old.matcher
-            taken ranges c
-            → offset ≡ byte_len taken → begins_with_starter (points_of offset c) ≡ true
-            → OnOk result
-            (IsCutUpTo (W.table table.now) (byte_len taken)
-            (taken ++ c ∷ []) self.new.window.points) }
         ensures undecided { OnOk result (is_decided (W.table table.now) self.new.window ≡ false) }
         ensures apart { self.old.reorder.held ≡ [] → result ≡ Ok tt }
         ensures kind { IfErr result (λ f. f.kind ≡ 32) }
         ensures ascii { c < 128 → result ≡ Ok tt }
         ensures none { OnErr result (found.new.items ≡ []) }
         ensures few { array_vec_len found.new ≤ longest_key_of (W.table table.now) + MOST_GIVEN }
-        ensures open { self.new.window.has_ended ≡ false }
-        ensures setup { KeepsSetup self.old self.new }
+        ensures goes_on { StaysOpen self.old self.new }
     {
         closed_points_append();
         decided_units_stay();
@@ -189,22 +145,9 @@ impl Finder {
 
     /// Ends the text here: puts the ranges that end before its last cluster and were not handed out yet into `found`.
     pub fn end<W: Weights>(&mut self, table: &W, pattern: &Pattern, found: &mut Found)
-        requires open { self.old.window.has_ended ≡ false }
-        requires made { IsMadeFor (W.table table.now) pattern.now self.old }
+        requires ready { IsReady (W.table table.now) pattern.now self.old }
         requires empty { found.old.items ≡ [] }
-        ensures ended { (taken : List ℕ) (ranges : List _)
-            → FinderStandsFor (W.table table.now) pattern.now self.old taken ranges
-            → WalksOver pattern.now.keys
-            (items_of_units (W.table table.now) pattern.now.strength pattern.now.variable false
-            (units (W.table table.now) (points taken)))
-            (ranges ++ found.new.items) self.new.matcher.walk }
-        ensures walked { (taken : List ℕ) (ranges : List _)
-            → FinderStandsFor (W.table table.now) pattern.now self.old taken ranges
-            → HasWalked (W.table table.now) pattern.now self.new.matcher
-            (units (W.table table.now) (points taken)) (ranges ++ found.new.items) }
-        ensures good { (taken : List ℕ) (ranges : List _)
-            → FinderStandsFor (W.table table.now) pattern.now self.old taken ranges
-            → point_fault taken ≡ None }
+        ensures ended { EndsText (W.table table.now) pattern.now self.old self.new found.new.items }
         ensures none_waits { self.new.reorder.held ≡ [] }
         ensures none_left { self.new.window.points ≡ [] }
         ensures few { array_vec_len found.new ≤ longest_key_of (W.table table.now) + MOST_WAITING }
@@ -225,18 +168,11 @@ impl Finder {
 
     /// Ends the text here, as `end` does. Nothing is asked of it then but its last range, and to begin again.
     pub fn end_text<W: Weights>(&mut self, table: &W, pattern: &Pattern, found: &mut Found)
-        requires open { self.old.window.has_ended ≡ false }
-        requires made { IsMadeFor (W.table table.now) pattern.now self.old }
+        requires ready { IsReady (W.table table.now) pattern.now self.old }
         requires empty { found.old.items ≡ [] }
-        ensures ended { (taken : List ℕ) (ranges : List _)
-            → FinderStandsFor (W.table table.now) pattern.now self.old taken ranges
-            → WalksOver pattern.now.keys
-            (items_of_units (W.table table.now) pattern.now.strength pattern.now.variable false
-            (units (W.table table.now) (points taken)))
-            (ranges ++ found.new.items) self.new.matcher.walk }
+        ensures ended { EndsText (W.table table.now) pattern.now self.old self.new found.new.items }
         ensures few { array_vec_len found.new ≤ longest_key_of (W.table table.now) + MOST_WAITING }
-        ensures open { self.new.window.has_ended ≡ false }
-        ensures setup { KeepsSetup self.old self.new }
+        ensures goes_on { StaysOpen self.old self.new }
     {
         self.end(table, pattern, found);
         self.window.clear();

@@ -1,14 +1,13 @@
 //! The loop over letters: characters whose units, keys and cluster starts are their own, one after the other.
-ghost use Rattle.std.specs.Prelude.{◌≡◌, ℕ, ◌+◌, ◌<◌, ◌≤◌, List, [], ◌∷◌, ◌++◌, length, drop, false, true, IfSome};
+ghost use Rattle.std.specs.Prelude.{◌≡◌, ℕ, ◌+◌, ◌<◌, ◌≤◌, List, [], ◌∷◌, ◌++◌, length, drop, false, IfSome};
 ghost use Rattle.std.specs.Char.{len_utf8};
-ghost use Rattle.std.specs.List.{FoldsTo};
-ghost use Rattle.nfd_points.specs.Points.{points_of, begins_with_starter};
 ghost use Rattle.collation_letters.specs.Letters.{IsLetter};
 ghost use Rattle.collation_letters.specs.Store.{AreLetters};
 ghost use Rattle.collation_matches.specs.GoodPrefix.{most_bytes};
 ghost use Rattle.collation_finder.specs.Caches.{AreRight};
-ghost use Rattle.collation_finder.specs.LetterRun.{StandsInFront, HasComeTo, PassesOn};
+ghost use Rattle.collation_finder.specs.LetterRun.{IsFirst, HasComeTo, PassesOn};
 ghost use Rattle.collation_elements.specs.Weighing.{is_after_variable};
+ghost use Rattle.collation_walk.specs.HandingOut.{HandsOut};
 ghost use Rattle.collation_walk.specs.Walks.{KeepsWalk};
 
 use crate::cache::Cache;
@@ -53,19 +52,16 @@ pub(crate) fn walk_letters<W: Weights, F: FnMut(u64, u64)>(
     from: Walked,
     sink: &mut F,
 ) -> Walked
-    requires first { StandsInFront front.piece.now from.next }
-    requires letter { IsLetter (W.table query.now.table.now) query.now.pattern.now
-        (from.next ∷ []) from.letter }
-    requires begins { begins_with_starter (points_of front.offset from.next) ≡ true }
+    requires first { IsFirst (W.table query.now.table.now) query.now.pattern.now
+        front.piece.now front.offset from.next from.letter }
     requires right { AreRight (W.table query.now.table.now) query.now.pattern.now cache.old }
     requires fits { front.offset + length front.piece.now ≤ most_bytes }
     requires state { matcher.old.walk.state ≤ length query.now.pattern.now.keys }
     requires callable { F.IsAlwaysCallable sink.old }
-    ensures come { (ranges : List (ℕ × ℕ))
-        × FoldsTo (λ f range g. F.step f range.0 range.1 tt g) sink.old ranges sink.new
-        × HasComeTo (W.table query.now.table.now) query.now.pattern.now
+    ensures come { HandsOut F.step sink.old sink.new
+        (HasComeTo (W.table query.now.table.now) query.now.pattern.now
         front.entry.piece.now front.entry.offset front.entry.reach from.next matcher.old matcher.new
-        result.len result.next ranges }
+        result.len result.next) }
     ensures right { AreRight (W.table query.now.table.now) query.now.pattern.now cache.new }
     ensures keeps { KeepsWalk query.now.pattern.now matcher.old.walk matcher.new.walk }
     ensures callable { F.IsAlwaysCallable sink.new }
@@ -163,21 +159,15 @@ fn pass_by<W: Weights>(
     from: Walked,
 ) -> Walked
     requires near { from.len ≤ front.reach }
-    requires first { StandsInFront (drop from.len front.piece.now) from.next }
-    requires letter { IsLetter (W.table query.now.table.now) query.now.pattern.now
-        (from.next ∷ []) from.letter }
-    requires begins { begins_with_starter (points_of (front.offset + from.len) from.next) ≡ true }
+    requires first { IsFirst (W.table query.now.table.now) query.now.pattern.now
+        (drop from.len front.piece.now) (front.offset + from.len) from.next from.letter }
     requires later { 0 < front.offset + from.len }
     requires fits { front.offset + length front.piece.now ≤ most_bytes }
     requires right { AreRight (W.table query.now.table.now) query.now.pattern.now cache.old }
     requires state { matcher.old.walk.state ≡ 0 }
     requires flag { is_after_variable matcher.old.weigher ≡ false }
-    ensures come { PassesOn (W.table query.now.table.now) query.now.pattern.now
-        front.entry.piece.now front.entry.offset front.entry.reach from.len from.next
-        matcher.old matcher.new result.len result.next }
-    ensures forth { from.len ≤ result.len }
-    ensures letter { IsLetter (W.table query.now.table.now) query.now.pattern.now
-        (result.next ∷ []) result.letter }
+    ensures passes { PassesOn (W.table query.now.table.now) query.now.pattern.now front.entry
+        matcher.old matcher.new from result }
     ensures right { AreRight (W.table query.now.table.now) query.now.pattern.now cache.new }
     ensures keeps { KeepsWalk query.now.pattern.now matcher.old.walk matcher.new.walk }
 {

@@ -2,16 +2,13 @@
 //! start of its cluster are then its own, whatever stands around it. What the window holds is cut before, as if the text ended
 //! there, and none of the characters comes into the window but the last one, and the ASCII behind it at
 //! the end of a piece. With these the steps go on.
-ghost use Rattle.std.specs.Prelude.{◌≡◌, ℕ, ◌+◌, ◌≤◌, List, [], ◌∷◌, length, take, drop, true, false, IfSome};
-ghost use Rattle.std.specs.Char.{len_utf8};
-ghost use Rattle.std.specs.Str.{chars, IsUtf8};
-ghost use Rattle.utf8_cut.specs.Sequences.{SpellsCharacter};
+ghost use Rattle.std.specs.Prelude.{◌≡◌, ℕ, [], ◌∷◌, true, IfSome};
 ghost use Rattle.collation_table.specs.Table.{TableMap};
 ghost use Rattle.collation_pattern.specs.Compiled.{Compiled};
 ghost use Rattle.collation_letters.specs.Letters.{IsLetter};
 ghost use Rattle.collation_letters.specs.Store.{AreLetters};
 ghost use Rattle.collation_finder.specs.Apart.{BeginsUnit};
-ghost use Rattle.collation_finder.specs.LetterRun.{StandsInFront};
+ghost use Rattle.collation_finder.specs.LetterRun.{IsFollowed, ReadsLetter, StandsInFront};
 
 use crate::cache::Cache;
 use crate::finder::Finder;
@@ -37,17 +34,8 @@ fn read_letter<W: Weights>(
     requires c { StandsInFront piece.now c }
     requires letter { IsLetter (W.table query.now.table.now) query.now.pattern.now (c ∷ []) letter }
     requires right { AreLetters (W.table query.now.table.now) query.now.pattern.now letters.old }
-    ensures within { IfSome result (λ r. r.1.len + len_utf8 r.1.next ≤ length piece.now) }
-    ensures next { IfSome result (λ r.
-        SpellsCharacter (take (len_utf8 r.1.next) (drop r.1.len piece.now)) r.1.next) }
-    ensures letter { IfSome result (λ r.
-        IsLetter (W.table query.now.table.now) query.now.pattern.now (r.1.next ∷ []) r.1.letter) }
-    ensures text { IfSome result (λ r. IsUtf8 (take r.1.len piece.now)) }
-    ensures begun { IfSome result (λ r. (others : List ℕ)
-        × (chars (take r.1.len piece.now) ≡ c ∷ others)) }
-    ensures all { IfSome result (λ r.
-        IsLetter (W.table query.now.table.now) query.now.pattern.now
-        (chars (take r.1.len piece.now)) r.0) }
+    ensures reads { IfSome result (λ r.
+        ReadsLetter (W.table query.now.table.now) query.now.pattern.now piece.now c r.0 r.1) }
     ensures right { AreLetters (W.table query.now.table.now) query.now.pattern.now letters.new }
 {
     let mut all = letter;
@@ -81,11 +69,8 @@ fn next_apart<W: Weights>(
     requires c { StandsInFront piece.now c }
     requires letter { IsLetter (W.table query.now.table.now) query.now.pattern.now (c ∷ []) letter }
     requires right { AreLetters (W.table query.now.table.now) query.now.pattern.now letters.old }
-    ensures within { IfSome result (λ w. w.len + len_utf8 w.next ≤ length piece.now) }
-    ensures next { IfSome result (λ w.
-        SpellsCharacter (take (len_utf8 w.next) (drop w.len piece.now)) w.next) }
-    ensures letter { IfSome result (λ w.
-        IsLetter (W.table query.now.table.now) query.now.pattern.now (w.next ∷ []) w.letter) }
+    ensures next { IfSome result
+        (IsFollowed (W.table query.now.table.now) query.now.pattern.now piece.now) }
     ensures right { AreLetters (W.table query.now.table.now) query.now.pattern.now letters.new }
 {
     let (all, walked) = read_letter(query, letters, piece, c, letter)?;
@@ -196,16 +181,13 @@ fn joins_next<W: Weights>(
 const MOST: usize = 65_536;
 
 impl Finder {
-    ghost use Rattle.std.specs.Prelude.{◌≡◌, ℕ, ◌+◌, ◌≤◌, List, [], ◌∷◌, length, take, true, false};
-    ghost use Rattle.std.specs.Str.{IsUtf8};
-    ghost use Rattle.std.specs.List.{FoldsTo};
-    ghost use Rattle.nfd_points.specs.Points.{points_of, begins_with_starter};
-    ghost use Rattle.collation_letters.specs.Letters.{IsLetter};
-    ghost use Rattle.collation_finder.specs.LetterRun.{StandsInFront};
+    ghost use Rattle.std.specs.Prelude.{◌≡◌, ◌+◌, ◌≤◌, [], length};
+    ghost use Rattle.collation_walk.specs.HandingOut.{HandsOut};
+    ghost use Rattle.collation_finder.specs.LetterRun.{IsFirst};
     ghost use Rattle.collation_finder.specs.Caches.{AreRight};
     ghost use Rattle.collation_matches.specs.GoodPrefix.{most_bytes};
-    ghost use Rattle.collation_finder.specs.Finding.{IsMadeFor, KeepsSetup};
-    ghost use Rattle.collation_finder.specs.Taking.{CutsAfresh, CutsWithin, TakesAfresh, TakesText};
+    ghost use Rattle.collation_finder.specs.Finding.{IsReady};
+    ghost use Rattle.collation_finder.specs.Taking.{TakesPaused, TakesText};
 
     /// Takes characters at the front of a piece, which stands at a byte offset, and calls the sink once for each range that became
     /// known, in order. It answers how many bytes it took: those up to the first character that it can't take so, or that begins
@@ -219,24 +201,14 @@ impl Finder {
         found: &mut Found,
         sink: &mut F,
     ) -> usize
-        requires open { self.old.window.has_ended ≡ false }
-        requires made { IsMadeFor (W.table query.now.table.now) query.now.pattern.now self.old }
+        requires ready { IsReady (W.table query.now.table.now) query.now.pattern.now self.old }
         requires right { AreRight (W.table query.now.table.now) query.now.pattern.now cache.old }
         requires fits { front.offset + length front.piece.now ≤ most_bytes }
         requires callable { F.IsAlwaysCallable sink.old }
-        ensures within { result ≤ length front.entry.piece.now }
-        ensures text { IsUtf8 (take result front.entry.piece.now) }
-        ensures taken { (ranges : List (ℕ × ℕ))
-            × FoldsTo (λ f range g. F.step f range.0 range.1 tt g) sink.old ranges sink.new
-            × TakesText (W.table query.now.table.now) query.now.pattern.now self.old self.new
-            front.entry.offset (take result front.entry.piece.now) ranges }
-        // units may be cut early, but only before a character that does not begin after `reach`
-        ensures left { CutsWithin (W.table query.now.table.now) query.now.pattern.now
-            self.old self.new front.entry.offset front.entry.reach
-            (take result front.entry.piece.now) }
+        ensures taken { HandsOut F.step sink.old sink.new
+            (TakesText (W.table query.now.table.now) query.now.pattern.now self.old self.new
+            front.entry result) }
         ensures right { AreRight (W.table query.now.table.now) query.now.pattern.now cache.new }
-        ensures open { self.new.window.has_ended ≡ false }
-        ensures setup { KeepsSetup self.old self.new }
         ensures callable { F.IsAlwaysCallable sink.new }
     {
         laws_of_points();
@@ -263,30 +235,20 @@ impl Finder {
         found: &mut Found,
         sink: &mut F,
     ) -> usize
-        requires open { self.old.window.has_ended ≡ false }
-        requires made { IsMadeFor (W.table query.now.table.now) query.now.pattern.now self.old }
+        requires ready { IsReady (W.table query.now.table.now) query.now.pattern.now self.old }
         requires right { AreRight (W.table query.now.table.now) query.now.pattern.now cache.old }
         requires fits { front.offset + length front.piece.now ≤ most_bytes }
         requires callable { F.IsAlwaysCallable sink.old }
-        ensures within { result ≤ length front.entry.piece.now }
-        ensures text { IsUtf8 (take result front.entry.piece.now) }
-        ensures taken { (ranges : List (ℕ × ℕ))
-            × FoldsTo (λ f range g. F.step f range.0 range.1 tt g) sink.old ranges sink.new
-            × TakesText (W.table query.now.table.now) query.now.pattern.now self.old self.new
-            front.entry.offset (take result front.entry.piece.now) ranges }
-        // units may be cut early, but only before a character that does not begin after `reach`
-        ensures left { CutsWithin (W.table query.now.table.now) query.now.pattern.now
-            self.old self.new front.entry.offset front.entry.reach
-            (take result front.entry.piece.now) }
+        ensures taken { HandsOut F.step sink.old sink.new
+            (TakesText (W.table query.now.table.now) query.now.pattern.now self.old self.new
+            front.entry result) }
         ensures right { AreRight (W.table query.now.table.now) query.now.pattern.now cache.new }
-        ensures open { self.new.window.has_ended ≡ false }
-        ensures setup { KeepsSetup self.old self.new }
         ensures callable { F.IsAlwaysCallable sink.new }
     {
         // that is seen here, for most pieces are long, and a call costs more
         if front.piece.len() <= SHORT {
             if let Some(passed) = self.pass_short(query, cache, front) {
-                return self.take_short(query, cache, front, passed, found, sink);
+                return self.take_short_piece(query, cache, front, passed, found, sink);
             }
         }
         let Some(first) = first_character(front.piece) else {
@@ -316,28 +278,17 @@ impl Finder {
         found: &mut Found,
         sink: &mut F,
     ) -> usize
-        requires open { self.old.window.has_ended ≡ false }
-        requires made { IsMadeFor (W.table query.now.table.now) query.now.pattern.now self.old }
+        requires ready { IsReady (W.table query.now.table.now) query.now.pattern.now self.old }
         requires right { AreRight (W.table query.now.table.now) query.now.pattern.now cache.old }
         requires fits { front.offset + length front.piece.now ≤ most_bytes }
         requires callable { F.IsAlwaysCallable sink.old }
         requires none_waits { self.old.reorder.held ≡ [] }
-        requires first { StandsInFront front.piece.now from.next }
-        requires letter { IsLetter (W.table query.now.table.now) query.now.pattern.now
-            (from.next ∷ []) from.letter }
-        requires begins { begins_with_starter (points_of front.offset from.next) ≡ true }
-        ensures within { result ≤ length front.entry.piece.now }
-        ensures text { IsUtf8 (take result front.entry.piece.now) }
-        ensures taken { (ranges : List (ℕ × ℕ))
-            × FoldsTo (λ f range g. F.step f range.0 range.1 tt g) sink.old ranges sink.new
-            × TakesAfresh (W.table query.now.table.now) query.now.pattern.now self.old self.new
-            from.next front.entry.offset (take result front.entry.piece.now) ranges }
-        ensures left { CutsAfresh (W.table query.now.table.now) query.now.pattern.now
-            self.old self.new from.next front.entry.offset front.entry.reach
-            (take result front.entry.piece.now) }
+        requires first { IsFirst (W.table query.now.table.now) query.now.pattern.now
+            front.piece.now front.offset from.next from.letter }
+        ensures taken { HandsOut F.step sink.old sink.new
+            (TakesPaused (W.table query.now.table.now) query.now.pattern.now self.old self.new
+            from.next front.entry result) }
         ensures right { AreRight (W.table query.now.table.now) query.now.pattern.now cache.new }
-        ensures open { self.new.window.has_ended ≡ false }
-        ensures setup { KeepsSetup self.old self.new }
         ensures callable { F.IsAlwaysCallable sink.new }
     {
         laws_of_characters();
@@ -347,7 +298,7 @@ impl Finder {
         let at = front.offset + walked.len as u64;
         let rest = &front.piece[walked.len..];
         // so few bytes are left at the end of a piece: no more of it goes by letters, and what is ASCII comes into the window at once
-        if walked.next.is_ascii() && rest.len() < self.longest_key.max(2) {
+        if walked.next.is_ascii() && rest.len() < query.longest_key.max(2) {
             let len = self.take_ascii(query, rest, at, found);
             hand_out(found.as_slice(), sink);
             return walked.len + len;

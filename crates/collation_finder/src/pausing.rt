@@ -1,15 +1,12 @@
 //! The pause before letters: what the window holds is cut, as if the text ended there. Its points are
 //! walked over as letters up to the first one that is no plain letter, and the rest as units.
-ghost use Rattle.std.specs.Prelude.{◌≡◌, ℕ, ◌≤◌, All, List, [], ◌∷◌, ◌++◌, length, take, false, IfSome};
-ghost use Rattle.std.specs.List.{FoldsTo};
-ghost use Rattle.nfd_points.specs.declared.points.Point.{Point};
-ghost use Rattle.nfd_points.specs.Points.{decomposition, points_from};
+ghost use Rattle.std.specs.Prelude.{◌≡◌, ◌≤◌, All, [], length, take, false, IfSome};
 ghost use Rattle.nfd_points.specs.Reordering.{IsSoundPoint};
-ghost use Rattle.collation_finder.specs.Apart.{AreDecomposed};
+ghost use Rattle.collation_finder.specs.Apart.{AreClosedHere, AreDecomposed};
+ghost use Rattle.collation_finder.specs.Pausing.{IsPlainPoint};
 ghost use Rattle.collation_elements.specs.Units.{units};
-ghost use Rattle.collation_letters.specs.Letters.{IsLetter};
 ghost use Rattle.collation_letters.specs.Store.{AreLetters};
-ghost use Rattle.collation_letters.specs.declared.letter.Role.TheVariants.{Plain};
+ghost use Rattle.collation_walk.specs.HandingOut.{HandsOut};
 ghost use Rattle.collation_walk.specs.Walked.{HasWalkedOn};
 ghost use Rattle.collation_walk.specs.Walks.{KeepsWalk};
 
@@ -46,11 +43,8 @@ fn plain_letter<W: Weights>(
 ) -> Option<Letter>
     requires sound { IsSoundPoint point }
     requires right { AreLetters (W.table query.now.table.now) query.now.pattern.now letters.old }
-    ensures alone { IfSome result (λ l. decomposition point.cp ≡ point.cp ∷ []
-        → points_from point.offset (point.cp ∷ []) ≡ point ∷ []) }
-    ensures plain { IfSome result (λ l. l.role ≡ Plain) }
-    ensures letter { IfSome result
-        (λ l. IsLetter (W.table query.now.table.now) query.now.pattern.now (point.cp ∷ []) l) }
+    ensures plain { IfSome result
+        (IsPlainPoint (W.table query.now.table.now) query.now.pattern.now point) }
     ensures right { AreLetters (W.table query.now.table.now) query.now.pattern.now letters.new }
 {
     if point.ccc != 0 || !point.first {
@@ -78,14 +72,9 @@ fn walk_points<W: Weights, F: FnMut(u64, u64)>(
     requires right { AreLetters (W.table query.now.table.now) query.now.pattern.now letters.old }
     requires callable { F.IsAlwaysCallable sink.old }
     ensures within { result ≤ length window.now.points }
-    // no unit reaches from them to what follows
-    ensures closed { AreDecomposed window.now.points → (more : List Point)
-        → units (W.table query.now.table.now) (take result window.now.points ++ more)
-        ≡ units (W.table query.now.table.now) (take result window.now.points) ++ units
-        (W.table query.now.table.now) more }
-    ensures walked { (ranges : List (ℕ × ℕ))
-        × FoldsTo (λ f range g. F.step f range.0 range.1 tt g) sink.old ranges sink.new
-        × (AreDecomposed window.now.points
+    ensures closed { AreDecomposed window.now.points
+        → AreClosedHere (W.table query.now.table.now) (take result window.now.points) }
+    ensures walked { HandsOut F.step sink.old sink.new (λ ranges. AreDecomposed window.now.points
         → HasWalkedOn (W.table query.now.table.now) query.now.pattern.now matcher.old matcher.new
         (units (W.table query.now.table.now) (take result window.now.points)) ranges) }
     ensures keeps { KeepsWalk query.now.pattern.now matcher.old.walk matcher.new.walk }
@@ -106,11 +95,11 @@ fn walk_points<W: Weights, F: FnMut(u64, u64)>(
 }
 
 impl Finder {
-    ghost use Rattle.std.specs.Prelude.{◌≡◌, ℕ, List, [], ◌++◌, true, false};
-    ghost use Rattle.std.specs.List.{FoldsTo};
+    ghost use Rattle.std.specs.Prelude.{◌≡◌, [], true};
     ghost use Rattle.collation_letters.specs.Store.{AreLetters};
-    ghost use Rattle.collation_finder.specs.Apart.{IsPaused};
-    ghost use Rattle.collation_finder.specs.Finding.{FinderStandsFor, IsMadeFor, KeepsSetup};
+    ghost use Rattle.collation_walk.specs.HandingOut.{HandsOut};
+    ghost use Rattle.collation_finder.specs.Finding.{IsReady, StaysOpen};
+    ghost use Rattle.collation_finder.specs.Pausing.{CutsSome, Pauses};
 
     /// Cuts all that it holds, as if the text ended here, and calls the sink once for each range
     /// that became known, in order. `found` is room that it uses.
@@ -121,20 +110,13 @@ impl Finder {
         found: &mut Found,
         sink: &mut F,
     )
-        requires open { self.old.window.has_ended ≡ false }
-        requires made { IsMadeFor (W.table query.now.table.now) query.now.pattern.now self.old }
+        requires ready { IsReady (W.table query.now.table.now) query.now.pattern.now self.old }
         requires right { AreLetters (W.table query.now.table.now) query.now.pattern.now letters.old }
         requires callable { F.IsAlwaysCallable sink.old }
-        ensures paused { (ranges : List (ℕ × ℕ))
-            × FoldsTo (λ f range g. F.step f range.0 range.1 tt g) sink.old ranges sink.new
-            × ((taken : List ℕ) (handed : List (ℕ × ℕ))
-            → FinderStandsFor (W.table query.now.table.now) query.now.pattern.now
-            self.old taken handed
-            → IsPaused (W.table query.now.table.now) query.now.pattern.now
-            self.new.reorder self.new.window self.new.matcher taken (handed ++ ranges)) }
-        ensures open { self.new.window.has_ended ≡ false }
+        ensures paused { HandsOut F.step sink.old sink.new
+            (Pauses (W.table query.now.table.now) query.now.pattern.now self.old self.new) }
         ensures none_waits { self.new.reorder.held ≡ [] }
-        ensures setup { KeepsSetup self.old self.new }
+        ensures goes_on { StaysOpen self.old self.new }
         ensures right { AreLetters (W.table query.now.table.now) query.now.pattern.now letters.new }
         ensures callable { F.IsAlwaysCallable sink.new }
     {
@@ -166,19 +148,12 @@ impl Finder {
         letters: &mut Letters,
         sink: &mut F,
     )
-        requires open { self.old.window.has_ended ≡ false }
-        requires made { IsMadeFor (W.table query.now.table.now) query.now.pattern.now self.old }
+        requires ready { IsReady (W.table query.now.table.now) query.now.pattern.now self.old }
         requires right { AreLetters (W.table query.now.table.now) query.now.pattern.now letters.old }
         requires callable { F.IsAlwaysCallable sink.old }
-        ensures cut { (ranges : List (ℕ × ℕ))
-            × FoldsTo (λ f range g. F.step f range.0 range.1 tt g) sink.old ranges sink.new
-            × ((taken : List ℕ) (handed : List (ℕ × ℕ))
-            → FinderStandsFor (W.table query.now.table.now) query.now.pattern.now
-            self.old taken handed
-            → FinderStandsFor (W.table query.now.table.now) query.now.pattern.now
-            self.new taken (handed ++ ranges)) }
-        ensures open { self.new.window.has_ended ≡ false }
-        ensures setup { KeepsSetup self.old self.new }
+        ensures cut { HandsOut F.step sink.old sink.new
+            (CutsSome (W.table query.now.table.now) query.now.pattern.now self.old self.new) }
+        ensures goes_on { StaysOpen self.old self.new }
         ensures right { AreLetters (W.table query.now.table.now) query.now.pattern.now letters.new }
         ensures callable { F.IsAlwaysCallable sink.new }
     {

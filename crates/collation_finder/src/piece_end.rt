@@ -51,13 +51,11 @@ fn ascii_points(piece: &[u8], offset: u64, points: &mut ArrayVec<Point, MOST_GIV
 }
 
 impl Finder {
-    ghost use Rattle.std.specs.Prelude.{◌≡◌, ℕ, ◌+◌, ◌<◌, ◌≤◌, List, [], ◌++◌, length, take, false, slice_index};
+    ghost use Rattle.std.specs.Prelude.{◌≡◌, ◌+◌, ◌<◌, ◌≤◌, [], length, take, slice_get, slice_index};
     ghost use Rattle.std.specs.Str.{chars, IsUtf8};
-    ghost use Rattle.nfd_points.specs.Points.{byte_len};
     ghost use Rattle.collation_matches.specs.GoodPrefix.{most_bytes};
-    ghost use Rattle.collation_finder.specs.Early.{IsCutUpTo};
-    ghost use Rattle.collation_finder.specs.Finding.{FinderStandsFor, IsMadeFor, KeepsSetup};
-    ghost use Rattle.collation_finder.specs.Taking.{CutsAfresh, TakesAfresh};
+    ghost use Rattle.collation_finder.specs.Finding.{IsReady, StaysOpen};
+    ghost use Rattle.collation_finder.specs.Taking.{TakesBehind};
 
     /// Takes characters of ASCII at the front of a piece, which stands at a byte offset: as many as
     /// there is room for, and none where a point waits. It puts the ranges that became known into
@@ -70,34 +68,16 @@ impl Finder {
         offset: u64,
         found: &mut Found,
     ) -> usize
-        requires open { self.old.window.has_ended ≡ false }
-        requires made { IsMadeFor (W.table query.now.table.now) query.now.pattern.now self.old }
+        requires ready { IsReady (W.table query.now.table.now) query.now.pattern.now self.old }
         requires fits { offset + length piece.now ≤ most_bytes }
         ensures within { result ≤ length piece.now }
         ensures text { IsUtf8 (take result piece.now) }
-        ensures stands { (taken : List ℕ) (ranges : List (ℕ × ℕ))
-            → FinderStandsFor (W.table query.now.table.now) query.now.pattern.now
-            self.old taken ranges
-            → offset ≡ byte_len taken
-            → FinderStandsFor (W.table query.now.table.now) query.now.pattern.now self.new
-            (taken ++ chars (take result piece.now)) (ranges ++ found.new.items) }
-        ensures left { (place : ℕ) (taken : List ℕ) (ranges : List (ℕ × ℕ))
-            → FinderStandsFor (W.table query.now.table.now) query.now.pattern.now
-            self.old taken ranges
-            → offset ≡ byte_len taken
-            → IsCutUpTo (W.table query.now.table.now) place taken self.old.window.points
-            → IsCutUpTo (W.table query.now.table.now) place
-            (taken ++ chars (take result piece.now)) self.new.window.points }
+        ensures taken { TakesBehind (W.table query.now.table.now) query.now.pattern.now
+            self.old self.new (slice_get (take result piece.now) 0)
+            offset (chars (take result piece.now)) found.new.items }
         ensures some { self.old.reorder.held ≡ [] → 0 < length piece.now
             → slice_index piece.now 0 < 128 → 0 < result }
-        ensures afresh { 0 < result
-            → TakesAfresh (W.table query.now.table.now) query.now.pattern.now self.old self.new
-            (slice_index piece.now 0) offset (take result piece.now) found.new.items }
-        ensures left_afresh { 0 < result
-            → CutsAfresh (W.table query.now.table.now) query.now.pattern.now self.old self.new
-            (slice_index piece.now 0) offset 0 (take result piece.now) }
-        ensures open { self.new.window.has_ended ≡ false }
-        ensures setup { KeepsSetup self.old self.new }
+        ensures goes_on { StaysOpen self.old self.new }
     {
         closed_points_append();
         decided_units_stay();

@@ -54,16 +54,14 @@ fn ascii_at(point: Point, offset: u64) -> Option<u8>
 }
 
 impl Finder {
-    ghost use Rattle.std.specs.Prelude.{◌≡◌, ℕ, ◌+◌, ◌≤◌, List, [], ◌∷◌, ◌++◌, length, take, true, false, IfSome};
-    ghost use Rattle.std.specs.Str.{IsUtf8};
-    ghost use Rattle.std.specs.List.{FoldsTo};
+    ghost use Rattle.std.specs.Prelude.{◌≡◌, ℕ, ◌+◌, ◌≤◌, List, [], ◌++◌, length, true, false, IfSome};
     ghost use Rattle.collation_elements.specs.Weighing.{is_after_variable};
-    ghost use Rattle.collation_letters.specs.Letters.{IsLetter};
+    ghost use Rattle.collation_walk.specs.HandingOut.{HandsOut};
     ghost use Rattle.collation_matches.specs.GoodPrefix.{most_bytes};
     ghost use Rattle.collation_finder.specs.Caches.{AreRight};
-    ghost use Rattle.collation_finder.specs.Finding.{IsMadeFor, KeepsSetup};
-    ghost use Rattle.collation_finder.specs.ShortPiece.{HoldsAscii, PassesShort};
-    ghost use Rattle.collation_finder.specs.Taking.{CutsWithin, TakesText};
+    ghost use Rattle.collation_finder.specs.Finding.{IsReady};
+    ghost use Rattle.collation_finder.specs.ShortPiece.{HoldsAscii, MayPass};
+    ghost use Rattle.collation_finder.specs.Taking.{TakesText};
 
     /// Whether no key waits, and the last element that was variable or primary was not variable.
     fn is_idle(&self) -> bool
@@ -136,13 +134,8 @@ impl Finder {
     ) -> Option<PassedShort>
         requires fits { front.offset + length front.piece.now ≤ most_bytes }
         requires right { AreRight (W.table query.now.table.now) query.now.pattern.now cache.old }
-        ensures passes { IfSome result (λ passed.
-            PassesShort (W.table query.now.table.now) query.now.pattern.now self.now
-            front.entry.piece.now front.entry.offset front.entry.reach
-            passed.start passed.end.len passed.end.next) }
-        ensures letter { IfSome result (λ passed.
-            IsLetter (W.table query.now.table.now) query.now.pattern.now
-            (passed.end.next ∷ []) passed.end.letter) }
+        ensures passes { IfSome result
+            (MayPass (W.table query.now.table.now) query.now.pattern.now self.now front.entry) }
         ensures right { AreRight (W.table query.now.table.now) query.now.pattern.now cache.new }
     {
         laws_of_characters();
@@ -188,7 +181,7 @@ impl Finder {
 
     /// Takes what is passed by at the front of a short piece, and goes on behind it. It answers how
     /// many bytes it took.
-    pub(crate) fn take_short<W: Weights, F: FnMut(u64, u64)>(
+    pub(crate) fn take_short_piece<W: Weights, F: FnMut(u64, u64)>(
         &mut self,
         query: &Query<'_, W>,
         cache: &mut Cache,
@@ -197,28 +190,16 @@ impl Finder {
         found: &mut Found,
         sink: &mut F,
     ) -> usize
-        requires open { self.old.window.has_ended ≡ false }
-        requires made { IsMadeFor (W.table query.now.table.now) query.now.pattern.now self.old }
+        requires ready { IsReady (W.table query.now.table.now) query.now.pattern.now self.old }
         requires right { AreRight (W.table query.now.table.now) query.now.pattern.now cache.old }
         requires fits { front.offset + length front.piece.now ≤ most_bytes }
         requires callable { F.IsAlwaysCallable sink.old }
-        requires passes { PassesShort (W.table query.now.table.now) query.now.pattern.now self.old
-            front.piece.now front.offset front.reach
-            passed.start passed.end.len passed.end.next }
-        requires letter { IsLetter (W.table query.now.table.now) query.now.pattern.now
-            (passed.end.next ∷ []) passed.end.letter }
-        ensures within { result ≤ length front.entry.piece.now }
-        ensures text { IsUtf8 (take result front.entry.piece.now) }
-        ensures taken { (ranges : List (ℕ × ℕ))
-            × FoldsTo (λ f range g. F.step f range.0 range.1 tt g) sink.old ranges sink.new
-            × TakesText (W.table query.now.table.now) query.now.pattern.now self.old self.new
-            front.entry.offset (take result front.entry.piece.now) ranges }
-        ensures left { CutsWithin (W.table query.now.table.now) query.now.pattern.now
-            self.old self.new front.entry.offset front.entry.reach
-            (take result front.entry.piece.now) }
+        requires passes { MayPass (W.table query.now.table.now) query.now.pattern.now self.old
+            front passed }
+        ensures taken { HandsOut F.step sink.old sink.new
+            (TakesText (W.table query.now.table.now) query.now.pattern.now self.old self.new
+            front.entry result) }
         ensures right { AreRight (W.table query.now.table.now) query.now.pattern.now cache.new }
-        ensures open { self.new.window.has_ended ≡ false }
-        ensures setup { KeepsSetup self.old self.new }
         ensures callable { F.IsAlwaysCallable sink.new }
     {
         laws_of_points();

@@ -13,7 +13,7 @@ use Rattle.collation_elements.specs.Decided.{left_points, EarlyCutsAreMadeGood}
 use Rattle.collation_matches.specs.GoodPrefix.{is_good_so_far, whole}
 use Rattle.collation_search.specs.Early.{starters_from}
 use Rattle.collation_search.specs.Search.{HasSearched, HasTaken, HasReported, HasReportedNone, sought}
-use Rattle.collation_search.specs.StateAfter.{final_points, reported_after, fault_so_far, IsReported}
+use Rattle.collation_search.specs.StateAfter.{final_points, IsReported}
 use Rattle.collation_matches.specs.Sought.{IsCompiledFrom, Sought, answer_to}
 use Rattle.collation_search.specs.Feeding.{fault_of, Feeds, MayCut, Takes}
 use Rattle.collation_search.proofs.StarterCounts.{made-good, made-good_none}
@@ -36,7 +36,7 @@ if_err-map (Err e) P Q f h = f e h
 ok_not_err : {A E : Type 0} → (a : A) (e : E) → Ok a ≡ Err e → ⊥
 ok_not_err a e h = cc
 
-err_of : (f g : TextFault) → Some f ≡ Some g → let r : Result (Unit {0}) TextFault = Err f in r ≡ Err g
+pub err_of : (f g : TextFault) → Some f ≡ Some g → let r : Result (Unit {0}) TextFault = Err f in r ≡ Err g
 err_of f g e = let same : f ≡ g = cc in ap (λ t. let r : Result (Unit {0}) TextFault = Err t in r) same
 
 pub none_of : (o : Option TextFault) → ((f : TextFault) → o ≡ Some f → ⊥) → o ≡ None
@@ -66,12 +66,13 @@ LeavesEnough s reach piece =
 module _ {W : Type 0} {G : Ghosts W} where
   -- nothing was taken yet
   pub takes-none : (search : Search W G) (reach : ℕ) → ((f : TextFault) → HasReported search f → ⊥) → Takes search reach [] (Ok tt) [] search
-  takes-none search reach none = record {
-    stands = λ place u handed h.
+  takes-none search reach none = λ place. record {
+    stands = λ u handed h.
         subst (λ t. HasTaken search place t (handed ++ [])) (sym (append-nil u)) (subst (λ (t : List (ℕ × ℕ)). HasTaken search place u t) (sym (append-nil handed)) h.1);
-    ended = λ place u more handed h. tt;
-    answer = λ place text u more handed compiled h. tt;
-    closed = λ place u more handed h. tt;
+    known = λ u handed h. tt;
+    ended = λ u more handed h. tt;
+    answer = λ text u more handed compiled h. tt;
+    closed = λ u more handed h. tt;
     reported = tt;
     again = λ f h. absurd (none f h);
     none = none_of search.fault none;
@@ -82,35 +83,36 @@ module _ {W : Type 0} {G : Ghosts W} where
   -- one part of a piece and then another
   pub takes-append : (a b c : Search W G) (near later reach : ℕ) (p q : List ℕ) (r : Result (Unit {0}) TextFault) (xs ys : List (ℕ × ℕ)) →
       (0 < near → near ≤ reach) → (0 < later → length p + later ≤ reach) → Takes a near p (Ok tt) xs b → Takes b later q r ys c → Takes a reach (p ++ q) r (xs ++ ys) c
-  takes-append a b c near later reach p q r xs ys near_in later_in first second = record {
-    stands = λ place u handed h.
+  takes-append a b c near later reach p q r xs ys near_in later_in first second = λ place. record {
+    stands = λ u handed h.
         on_ok-map r _ _
         (λ s. subst (λ t. HasTaken c place t (handed ++ (xs ++ ys))) (append_assoc u p q)
         (subst (λ (t : List (ℕ × ℕ)). HasTaken c place ((u ++ p) ++ q) t) (append_assoc handed xs ys) s))
-        (second.stands place (u ++ p) (handed ++ xs) (between place u handed h));
-    ended = λ place u more handed h.
+        ((second place).stands (u ++ p) (handed ++ xs) (between place u handed h));
+    known = λ u handed h. tt;
+    ended = λ u more handed h.
         if_err-map r _ _
         (λ f e. subst (λ t. IsReported (sought a) (t ++ more) (handed ++ (xs ++ ys)) (Some f)) (append_assoc u p q)
         (subst (λ (t : List (ℕ × ℕ)). IsReported (sought a) (((u ++ p) ++ q) ++ more) t (Some f)) (append_assoc handed xs ys)
-        (subst (λ (s : Sought). IsReported s (((u ++ p) ++ q) ++ more) ((handed ++ xs) ++ ys) (Some f)) first.same_sought e)))
-        (second.ended place (u ++ p) more (handed ++ xs) (between place u handed h));
-    answer = λ place text u more handed compiled h.
-        let same = first.same_sought in
+        (subst (λ (s : Sought). IsReported s (((u ++ p) ++ q) ++ more) ((handed ++ xs) ++ ys) (Some f)) (first place).same_sought e)))
+        ((second place).ended (u ++ p) more (handed ++ xs) (between place u handed h));
+    answer = λ text u more handed compiled h.
+        let same = (first place).same_sought in
         if_err-map r _ _
         (λ f e.
         ap (λ t. answer_to (sought a) text (t ++ more)) (sym (append_assoc u p q))
         ∙ ap (λ (s : Sought). answer_to s text (((u ++ p) ++ q) ++ more)) (sym same)
         ∙ e
         ∙ ap (λ (t : List (ℕ × ℕ)). let z : Answer = record { ranges = t; fault = Some f } in z) (append_assoc handed xs ys))
-        (second.answer place text (u ++ p) more (handed ++ xs) (subst (λ (s : Sought). IsCompiledFrom s text) (sym same) compiled) (between place u handed h));
-    closed = λ place u more handed h.
+        ((second place).answer text (u ++ p) more (handed ++ xs) (subst (λ (s : Sought). IsCompiledFrom s text) (sym same) compiled) (between place u handed h));
+    closed = λ u more handed h.
         on_err-map r _ _ (λ e. ap (λ t. is_good_so_far (t ++ more)) (sym (append_assoc u p q)) ∙ e)
-        (second.closed place (u ++ p) more (handed ++ xs) (between place u handed h));
-    reported = second.reported;
-    again = λ f h. absurd (ok_not_err tt f (first.again f h).0);
-    none = second.none;
-    memory = if_err-map r _ _ (λ f h kind. absurd (none_or_some b.fault f first.none (h kind))) second.memory;
-    same_sought = second.same_sought ∙ first.same_sought;
+        ((second place).closed (u ++ p) more (handed ++ xs) (between place u handed h));
+    reported = (second place).reported;
+    again = λ f h. absurd (ok_not_err tt f ((first place).again f h).0);
+    none = (second place).none;
+    memory = if_err-map r _ _ (λ f h kind. absurd (none_or_some b.fault f (first place).none (h kind))) (second place).memory;
+    same_sought = (second place).same_sought ∙ (first place).same_sought;
   }
     where
       between : (place : ℕ) (u : List ℕ) (handed : List (ℕ × ℕ)) → MayCut a reach place u handed → MayCut b later place (u ++ p) (handed ++ xs)
@@ -120,7 +122,7 @@ module _ {W : Type 0} {G : Ghosts W} where
             let far = h.0 (omega (arith, some, within)) in
             let sum = length-append u p in
             omega (arith, within, far, sum),
-        first.stands place u handed (
+        (first place).stands u handed (
           λ some.
               let within = near_in some in
               let far = h.0 (omega (arith, some, within)) in
@@ -131,16 +133,17 @@ module _ {W : Type 0} {G : Ghosts W} where
 
   -- after a fault the rest of a piece is not read
   pub takes-stop : (a b : Search W G) (reach : ℕ) (p q : List ℕ) (f : TextFault) (xs : List (ℕ × ℕ)) → Takes a reach p (Err f) xs b → Takes a reach (p ++ q) (Err f) xs b
-  takes-stop a b reach p q f xs h = record {
-    stands = λ place u handed s. tt;
-    ended = λ place u more handed s. subst (λ t. IsReported (sought a) t (handed ++ xs) (Some f)) (sym (later u more)) (h.ended place u (q ++ more) handed s);
-    answer = λ place text u more handed compiled s. ap (λ t. answer_to (sought a) text t) (later u more) ∙ h.answer place text u (q ++ more) handed compiled s;
-    closed = λ place u more handed s. ap is_good_so_far (later u more) ∙ h.closed place u (q ++ more) handed s;
-    reported = h.reported;
-    again = h.again;
+  takes-stop a b reach p q f xs h = λ place. record {
+    stands = λ u handed s. tt;
+    known = λ u handed h. tt;
+    ended = λ u more handed s. subst (λ t. IsReported (sought a) t (handed ++ xs) (Some f)) (sym (later u more)) ((h place).ended u (q ++ more) handed s);
+    answer = λ text u more handed compiled s. ap (λ t. answer_to (sought a) text t) (later u more) ∙ (h place).answer text u (q ++ more) handed compiled s;
+    closed = λ u more handed s. ap is_good_so_far (later u more) ∙ (h place).closed u (q ++ more) handed s;
+    reported = (h place).reported;
+    again = (h place).again;
     none = tt;
-    memory = h.memory;
-    same_sought = h.same_sought;
+    memory = (h place).memory;
+    same_sought = (h place).same_sought;
   }
     where
       later : (u more : List ℕ) → (u ++ (p ++ q)) ++ more ≡ (u ++ p) ++ (q ++ more)
@@ -148,11 +151,12 @@ module _ {W : Type 0} {G : Ghosts W} where
 
   -- a fault that was reported before is reported again, and nothing is handed out
   pub takes-reported : (search : Search W G) (reach : ℕ) (piece : List ℕ) (f : TextFault) → HasReported search f → Takes search reach piece (Err f) [] search
-  takes-reported search reach piece f reported = record {
-    stands = λ place u handed h. tt;
-    ended = λ place u more handed h. absurd (none_or_some search.fault f h.1.no_fault reported);
-    answer = λ place text u more handed compiled h. absurd (none_or_some search.fault f h.1.no_fault reported);
-    closed = λ place u more handed h. absurd (none_or_some search.fault f h.1.no_fault reported);
+  takes-reported search reach piece f reported = λ place. record {
+    stands = λ u handed h. tt;
+    known = λ u handed h. tt;
+    ended = λ u more handed h. absurd (none_or_some search.fault f h.1.no_fault reported);
+    answer = λ text u more handed compiled h. absurd (none_or_some search.fault f h.1.no_fault reported);
+    closed = λ u more handed h. absurd (none_or_some search.fault f h.1.no_fault reported);
     reported = reported;
     again = λ g h. (err_of f g (sym reported ∙ h), refl);
     none = tt;
@@ -170,15 +174,16 @@ module _ {W : Type 0} {G : Ghosts W} where
       IfErr r (λ f. HasReported b f) → ((f : TextFault) → HasReported a f → (r ≡ Err f) × (found ≡ [])) →
       OnOk r (HasReportedNone b) → IfErr r (λ f. f.kind ≡ 35 → HasReported a f) → sought b ≡ sought a →
       Takes a 0 (byte ∷ []) r found b
-  takes-byte a b byte r found stands ended answer closed reported again none memory same = record {
-    stands = λ place u handed h. stands place u handed h.1;
-    ended = λ place u more handed h.
+  takes-byte a b byte r found stands ended answer closed reported again none memory same = λ place. record {
+    stands = λ u handed h. stands place u handed h.1;
+    known = λ u handed h. tt;
+    ended = λ u more handed h.
         let Q : List ℕ → Type 0 = λ t. IfErr r (λ f. IsReported (sought a) t (handed ++ found) (Some f)) in
         subst Q (sym (one_byte u byte more)) (ended place u more handed h.1);
-    answer = λ place text u more handed compiled h.
+    answer = λ text u more handed compiled h.
         let Q : List ℕ → Type 0 = λ t. IfErr r (λ f. answer_to (sought a) text t ≡ record { ranges = handed ++ found; fault = Some f }) in
         subst Q (sym (one_byte u byte more)) (answer place text u more handed compiled h.1);
-    closed = λ place u more handed h.
+    closed = λ u more handed h.
         let Q : List ℕ → Type 0 = λ t. OnErr r (is_good_so_far t ≡ false) in subst Q (sym (one_byte u byte more)) (closed place u more handed h.1);
     reported = reported;
     again = again;
@@ -190,11 +195,12 @@ module _ {W : Type 0} {G : Ghosts W} where
   -- characters without a fault
   pub takes-good : (a b : Search W G) (reach : ℕ) (piece : List ℕ) (found : List (ℕ × ℕ)) → a.fault ≡ None → b.fault ≡ None → sought b ≡ sought a →
       ((place : ℕ) (u : List ℕ) (handed : List (ℕ × ℕ)) → MayCut a reach place u handed → HasTaken b place (u ++ piece) (handed ++ found)) → Takes a reach piece (Ok tt) found b
-  takes-good a b reach piece found none_before none same stands = record {
-    stands = stands;
-    ended = λ place u more handed h. tt;
-    answer = λ place text u more handed compiled h. tt;
-    closed = λ place u more handed h. tt;
+  takes-good a b reach piece found none_before none same stands = λ place. record {
+    stands = stands place;
+    known = λ u handed h. tt;
+    ended = λ u more handed h. tt;
+    answer = λ text u more handed compiled h. tt;
+    closed = λ u more handed h. tt;
     reported = tt;
     again = λ f h. absurd (none_or_some a.fault f none_before h);
     none = none;
@@ -253,21 +259,17 @@ module _ {W : Type 0} {G : Ghosts W} where
   feeds-of laws short law a b reach piece r found enough t = record {
     stands = stands;
     known = λ u handed h.
-        by_answer r (λ answer. handed ++ found ≡ reported_after (sought a) (u ++ piece))
-        (on_ok-map r _ _ (λ now. (reported u handed now).0) (stands u handed h))
-        (if_err-map r _ _ (λ f now. now.0) (over u handed h));
-    fault = λ u handed h.
-        by_answer r (λ answer. fault_of answer ≡ fault_so_far (u ++ piece))
-        (on_ok-map r _ _ (λ now. (reported u handed now).1) (stands u handed h))
-        (if_err-map r _ _ (λ f now. now.1) (over u handed h));
-    ended = λ u more handed h. t.ended (length u + reach) u more handed (begins u handed h);
-    answer = λ text u more handed compiled h. t.answer (length u + reach) text u more handed compiled (begins u handed h);
-    closed = λ u more handed h. t.closed (length u + reach) u more handed (begins u handed h);
-    reported = t.reported;
-    again = t.again;
-    none = t.none;
-    memory = t.memory;
-    same_sought = t.same_sought;
+        by_answer r (λ answer. IsReported (sought a) (u ++ piece) (handed ++ found) (fault_of answer))
+        (on_ok-map r _ _ (λ now. reported u handed now) (stands u handed h))
+        (over u handed h);
+    ended = λ u more handed h. (t (length u + reach)).ended u more handed (begins u handed h);
+    answer = λ text u more handed compiled h. (t (length u + reach)).answer text u more handed compiled (begins u handed h);
+    closed = λ u more handed h. (t (length u + reach)).closed u more handed (begins u handed h);
+    reported = (t 0).reported;
+    again = (t 0).again;
+    none = (t 0).none;
+    memory = (t 0).memory;
+    same_sought = (t 0).same_sought;
   }
     where
       begins : (u : List ℕ) (handed : List (ℕ × ℕ)) → HasSearched a u handed → MayCut a reach (length u + reach) u handed
@@ -275,18 +277,18 @@ module _ {W : Type 0} {G : Ghosts W} where
 
       over : (u : List ℕ) (handed : List (ℕ × ℕ)) → HasSearched a u handed → IfErr r (λ f. IsReported (sought a) (u ++ piece) (handed ++ found) (Some f))
       over u handed h =
-          subst (λ bytes. IfErr r (λ f. IsReported (sought a) bytes (handed ++ found) (Some f))) (append-nil (u ++ piece)) (t.ended (length u + reach) u [] handed (begins u handed h))
+          subst (λ bytes. IfErr r (λ f. IsReported (sought a) bytes (handed ++ found) (Some f))) (append-nil (u ++ piece)) ((t (length u + reach)).ended u [] handed (begins u handed h))
 
       stands : (u : List ℕ) (handed : List (ℕ × ℕ)) → HasSearched a u handed → OnOk r (HasSearched b (u ++ piece) (handed ++ found))
       stands u handed h =
-          let there : LeavesEnough (sought b) reach piece = subst (λ s. LeavesEnough s reach piece) (sym t.same_sought) enough in
+          let there : LeavesEnough (sought b) reach piece = subst (λ s. LeavesEnough s reach piece) (sym (t 0).same_sought) enough in
           on_ok-all r (λ place. (0 < reach → length u + reach ≤ place)) (λ place. HasTaken b place (u ++ piece) (handed ++ found)) (HasSearched b (u ++ piece) (handed ++ found))
           (made_good short law b reach u piece (handed ++ found) there)
-          (λ place far. t.stands place u handed (far, taken-from a place u handed h))
+          (λ place far. (t place).stands u handed (far, taken-from a place u handed h))
 
       reported : (u : List ℕ) (handed : List (ℕ × ℕ)) → HasSearched b (u ++ piece) (handed ++ found) → IsReported (sought a) (u ++ piece) (handed ++ found) None
       reported u handed now =
-          subst (λ s. IsReported s (u ++ piece) (handed ++ found) None) t.same_sought
+          subst (λ s. IsReported s (u ++ piece) (handed ++ found) None) (t 0).same_sought
           (reported-known laws (sought b) b.cut b.finder.value b.fault (u ++ piece) (handed ++ found) now refl, fault-known laws (sought b) b.cut b.finder.value b.fault (u ++ piece) (handed ++ found) now refl)
 
   -- where none is cut early
@@ -301,7 +303,6 @@ module _ {W : Type 0} {G : Ghosts W} where
   feeds-reported search piece f reported not_open again = record {
     stands = λ u handed h. tt;
     known = λ u handed h. absurd (not_open u handed h);
-    fault = λ u handed h. absurd (not_open u handed h);
     ended = λ u more handed h. absurd (not_open u handed h);
     answer = λ text u more handed compiled h. absurd (not_open u handed h);
     closed = λ u more handed h. absurd (not_open u handed h);

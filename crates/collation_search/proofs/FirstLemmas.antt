@@ -42,7 +42,7 @@ module _ {W : Type 0} {G : Ghosts W} where
   at_fault : (old new : Search W G) (reach : ℕ) (p u part later : List ℕ) (f : TextFault) (found : List (ℕ × ℕ)) →
       Takes old reach part (Err f) found new → HasSearched old u [] → IsCompiledFrom (sought old) p → first_range found (Some f) ≡ first_to (sought old) p ((u ++ part) ++ later)
   at_fault old new reach p u part later f found t h compiled =
-      ap (λ (a : Answer). first_range a.ranges a.fault) (sym (t.answer (length u + reach) p u later [] compiled (may-cut old reach u [] h)))
+      ap (λ (a : Answer). first_range a.ranges a.fault) (sym ((t (length u + reach)).answer p u later [] compiled (may-cut old reach u [] h)))
 
   pub fault-taken : (old new : Search W G) (reach : ℕ) (p u part later : List ℕ) (answer : Result (Unit {0}) TextFault) (found : List (ℕ × ℕ)) (f : TextFault) →
       Takes old reach part answer found new → HasSearched old u [] → IsCompiledFrom (sought old) p → first_range found (fault_of answer) ≡ Err f →
@@ -59,9 +59,9 @@ module _ {W : Type 0} {G : Ghosts W} where
   first-taken old new reach p u part later (Ok done) [] range t h compiled begins told = absurd cc
   first-taken old new reach p u part later (Ok done) (first ∷ ranges) range t h compiled begins told =
       let text = (u ++ part) ++ later in
-      let same = t.same_sought in
+      let same = (t 0).same_sought in
       let place = length u + reach in
-      let begun = begins place p (u ++ part) later (first ∷ ranges) (subst (λ (s : Sought). IsCompiledFrom s p) (sym same) compiled) (t.stands place u [] (may-cut old reach u [] h)) in
+      let begun = begins place p (u ++ part) later (first ∷ ranges) (subst (λ (s : Sought). IsCompiledFrom s p) (sym same) compiled) ((t place).stands u [] (may-cut old reach u [] h)) in
       let there : (answer_to (sought old) p text).ranges ≡ (first ∷ ranges) ++ begun.0 = subst (λ (s : Sought). (answer_to s p text).ranges ≡ (first ∷ ranges) ++ begun.0) same begun.1 in
       sym told ∙ ap (λ (rs : List (ℕ × ℕ)). first_range rs (answer_to (sought old) p text).fault) (sym there)
 

@@ -19,3 +19,4 @@ pub mod TextSeams
 pub mod StateLemmas
 pub mod LaterRanges
 pub mod ToComeLemmas
+pub mod FinderLemmas

@@ -23,14 +23,14 @@ use Rattle.collation_search.proofs.SavedState.{SavedLaws, is_good}
 -- ---- a search that goes on
 
 module _ (laws : SavedLaws) (s : Sought) (cut : CutState) (finder : Finder) (taken : List ℕ) (handed : List (ℕ × ℕ))
-    (h : Searched s.table s.pattern cut finder None taken handed) (goes_on : finder.window.has_ended ≡ false) (longest : finder.longest_key ≡ longest_mapped s.table)
+    (h : Searched s.table s.pattern cut finder None taken handed) (goes_on : finder.window.has_ended ≡ false) (longest : finder.window.capacity ≡ longest_mapped s.table + MOST_GIVEN)
     (same_select : finder.matcher.walk.select ≡ s.select) (new : Finder) (restored : IsRestored s (open_state s.pattern cut finder) new) where
   same_reorder : new.reorder ≡ finder.reorder
   same_reorder = ap (λ l. let w : Waiting = record { held = l } in w) restored.held
 
   same_window : new.window ≡ finder.window
   same_window =
-      let room = sym (finder.capacity ∙ ap (λ n. n + MOST_GIVEN) longest) in
+      let room = sym longest in
       restored.window
       ∙ ap (λ n. let w : Held = record { points = finder.window.points; capacity = n; has_ended = false } in w) room
       ∙ ap (λ b. let w : Held = record { points = finder.window.points; capacity = finder.window.capacity; has_ended = b } in w) (sym goes_on)

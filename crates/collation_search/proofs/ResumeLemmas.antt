@@ -3,13 +3,14 @@ use Rattle.std.specs.Prelude.{All as AllOf, Contains, [], ◌∷◌, ◌++◌}
 use Rattle.std.specs.Str.{chars, is_utf8}
 use Rattle.std.specs.Str.Lossy.{utf8_valid_len}
 use Rattle.std.specs.Char.{encode_utf8}
-use Rattle.std.proofs.Common.{◌≡◌, ℕ, false, List, Option, Some, None, Result, Err, refl, sym, ap, ◌∙◌, subst, arith, inl, inr}
+use Rattle.std.proofs.Common.{◌≡◌, ℕ, ◌+◌, false, List, Option, Some, None, Result, Err, refl, sym, ap, ◌∙◌, subst, arith, inl, inr}
 use Rattle.utf8_cut.specs.State.{StandsFor}
 use Rattle.utf8_cut.specs.Value.{CutState}
 use Rattle.nfd_points.specs.declared.points.Point.{Point}
 use Rattle.nfd_points.specs.PointFaults.{fault_from}
 use Rattle.nfd_points.specs.Points.{points_from, ordered}
 use Rattle.nfd_points.specs.Reordering.{Waiting, HasReordered}
+use Rattle.nfd_points.specs.declared.limits.TheConstants.{MOST_GIVEN}
 use Rattle.collation_table.specs.Table.{longest_mapped}
 use Rattle.collation_table.specs.declared.lookup.Weights.{Ghosts}
 use Rattle.collation_matches.specs.declared.faults.TextFault.{TextFault}
@@ -24,6 +25,7 @@ use Rattle.collation_search.specs.Resuming.{AreSaved, AreSavedAfter, GoesOn, Kee
 use Rattle.collation_search.specs.Search.{sought, HasSearched}
 use Rattle.collation_search.specs.Searching.{Searched}
 use Rattle.collation_search.specs.State.{sizes_of, open_state, state_of}
+use Rattle.collation_search.proofs.FinderLemmas.{made}
 use Rattle.collation_search.proofs.SavedState.{SavedLaws, is-open, has-ended}
 use Rattle.collation_search.proofs.RestoredState.{restored-stands}
 
@@ -44,7 +46,7 @@ back-of laws s state all a = ap (state_in s.select) a.are ∙ laws.back (sizes_o
 record GoesOnWith {W : Type 0} {G : Ghosts W} (saved : Search W G) (s : Sought) (all taken : List ℕ) (handed : List (ℕ × ℕ)) : Type 0 where
   searched : Searched s.table s.pattern saved.cut saved.finder.value None taken handed
   goes_on : saved.finder.value.window.has_ended ≡ false
-  longest : saved.finder.value.longest_key ≡ longest_mapped s.table
+  longest : saved.finder.value.window.capacity ≡ longest_mapped s.table + MOST_GIVEN
   select : saved.finder.value.matcher.walk.select ≡ s.select
   of : AreOf s (open_state s.pattern saved.cut saved.finder.value) all
 
@@ -54,7 +56,7 @@ goes-on-with laws saved s all taken handed a =
     let searched = subst (λ (f : Option TextFault). Searched s.table s.pattern saved.cut saved.finder.value f taken handed) none
     (subst (λ (t : Sought). Searched t.table t.pattern saved.cut saved.finder.value saved.fault taken handed) a.0 a.2) in
     let goes_on = saved.«open» none in
-    let longest = saved.longest ∙ saved.query.longest ∙ ap (λ (t : Sought). longest_mapped t.table) a.0 in
+    let longest = (made saved).longest ∙ ap (λ (t : Sought). longest_mapped t.table + MOST_GIVEN) a.0 in
     let select = ap (λ (t : Sought). t.select) a.0 in
     record {
       searched = searched;

@@ -1,10 +1,10 @@
 -- The points that a finder holds are as a state says.
-use Rattle.std.proofs.Common.{◌≡◌, ℕ, ◌<◌, ◌≤◌, true, List, ◌∷◌, [], ◌++◌, length, sym}
+use Rattle.std.proofs.Common.{◌≡◌, ℕ, ◌+◌, ◌<◌, ◌≤◌, true, List, ◌∷◌, [], ◌++◌, length, sym}
 use Rattle.std.proofs.lemmas.Bool.{and_from}
 use Rattle.std.proofs.lemmas.List.Elements.{All-same, All-weaker, All-contains_itself, Contains-append_left, Contains-append_right}
 use Rattle.std.specs.List.{All, Contains, list_all}
 use Rattle.unicode_normalization.specs.StreamSafe.{has_short_runs}
-use Rattle.nfd_points.specs.declared.limits.TheConstants.{MOST_WAITING}
+use Rattle.nfd_points.specs.declared.limits.TheConstants.{MOST_GIVEN, MOST_WAITING}
 use Rattle.nfd_points.specs.declared.points.Point.{Point}
 use Rattle.nfd_points.specs.Laws.{OffsetsAreWithin, WaitingAreOthers, PointsAreDecomposed}
 use Rattle.nfd_points.specs.Points.{decomposition, byte_len, points, is_in_order}
@@ -43,7 +43,7 @@ pub record PointsAreSaved (finder : Finder) (end : ℕ) : Type 0 where
   pub waiting : All (IsPointBefore end) finder.reorder.held
   pub window_may_be : may_be_in_window finder.window.points ≡ true
   pub waiting_may_wait : may_wait finder.reorder.held ≡ true
-  pub window_few : length finder.window.points ≤ finder.longest_key
+  pub window_few : length finder.window.points + MOST_GIVEN ≤ finder.window.capacity
   pub waiting_few : length finder.reorder.held ≤ MOST_WAITING
 
 each-before : (end : ℕ) (ps : List Point) → All IsSoundPoint ps → All (λ (p : Point). decomposition p.cp ≡ p.cp ∷ []) ps → All (λ (p : Point). p.offset < end) ps → All (IsPointBefore end) ps

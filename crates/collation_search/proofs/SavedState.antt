@@ -1,6 +1,6 @@
 -- What a search holds is a state that a search may hold.
 use Rattle.std.specs.Str.{chars, IsUtf8}
-use Rattle.std.proofs.Common.{◌≡◌, ℕ, ◌-◌, ◌≤◌, false, nat_le, cond, ◌&&◌, not, List, [], length, take, None, refl, sym, ap, ◌∙◌, subst, arith}
+use Rattle.std.proofs.Common.{◌≡◌, ℕ, ◌+◌, ◌-◌, ◌≤◌, false, nat_le, cond, ◌&&◌, not, List, [], length, take, None, refl, sym, ap, ◌∙◌, subst, arith}
 use Rattle.std.proofs.lemmas.Bool.{and_parts, leb-true}
 use Rattle.std.proofs.lemmas.List.{length-drop}
 use Rattle.std.specs.List.{All as AllOf}
@@ -8,6 +8,7 @@ use Rattle.utf8_cut.specs.Characters.{characters_end, after_characters, is_incom
 use Rattle.utf8_cut.specs.Value.{CutState}
 use Rattle.nfd_points.specs.Laws.{OffsetsAreWithin, WaitingAreOthers, PointsAreDecomposed}
 use Rattle.nfd_points.specs.Points.{byte_len}
+use Rattle.nfd_points.specs.declared.limits.TheConstants.{MOST_GIVEN}
 use Rattle.collation_table.specs.Table.{longest_mapped}
 use Rattle.collation_elements.specs.Context.{BoundariesAreStarts}
 use Rattle.collation_matches.specs.declared.faults.TextFault.{TextFault}
@@ -37,7 +38,7 @@ pub record SavedLaws : Type 0 where
 -- ---- a search that goes on
 
 module _ (laws : SavedLaws) (s : Sought) (cut : CutState) (finder : Finder) (taken : List ℕ) (handed : List (ℕ × ℕ))
-    (h : Searched s.table s.pattern cut finder None taken handed) (goes_on : finder.window.has_ended ≡ false) (longest : finder.longest_key ≡ longest_mapped s.table)
+    (h : Searched s.table s.pattern cut finder None taken handed) (goes_on : finder.window.has_ended ≡ false) (longest : finder.window.capacity ≡ longest_mapped s.table + MOST_GIVEN)
     (select : finder.matcher.walk.select ≡ s.select) where
   points : PointsAreSaved finder (byte_len (chars (whole taken)))
   points = points-saved laws.offsets laws.others laws.decomposed s.table s.pattern finder (chars (whole taken)) handed h.found

@@ -1,6 +1,6 @@
 -- What a search represents that was put away without its table and its pattern.
-use Rattle.std.specs.Prelude.{◌≡◌, ℕ, List, length, Option}
-use Rattle.collation_table.specs.Table.{TableMap, longest_mapped}
+use Rattle.std.specs.Prelude.{ℕ, List, Option}
+use Rattle.collation_table.specs.Table.{TableMap}
 use Rattle.collation_pattern.specs.Compiled.{Compiled}
 use Rattle.collation_matches.specs.declared.faults.TextFault.{TextFault}
 use Rattle.collation_matches.specs.declared.select.Select.{Select}
@@ -8,6 +8,7 @@ use Rattle.collation_matches.specs.Sought.{Sought}
 use Rattle.collation_states.specs.State.{words}
 use Rattle.collation_search.specs.declared.parking.Parked.{Parked}
 use Rattle.collation_finder.specs.Caches.{AreRight}
+use Rattle.collation_finder.specs.Finding.{IsMadeFor}
 use Rattle.collation_search.specs.Searching.{Searched}
 use Rattle.collation_search.specs.State.{sizes_of, state_of}
 
@@ -21,8 +22,7 @@ parked_fault parked = parked.fault
 -- It was put away by a search with this table and this pattern.
 pub record IsFor (table : TableMap) (pattern : Compiled) (parked : Parked) : Type 0 where
   pub right : AreRight table pattern parked.cache.value
-  pub longest : parked.finder.value.longest_key ≡ longest_mapped table
-  pub pattern_len : parked.finder.value.pattern_len ≡ length pattern.keys
+  pub made : IsMadeFor table pattern parked.finder.value
 
 -- the bytes went in and the ranges were handed out, as of a search (`HasSearched`)
 abbrev pub HasParked : Sought → Parked → List ℕ → List (ℕ × ℕ) → Type 0

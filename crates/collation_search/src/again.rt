@@ -6,10 +6,9 @@ use collation_walk::Found;
 use utf8_cut::Cut;
 
 impl<'a, W: Weights> Search<'a, W> {
-    ghost use Rattle.std.specs.Prelude.{◌≡◌, ℕ, List, [], ◌++◌, OnOk, IfErr, Some, None, Err};
-    ghost use Rattle.collation_matches.specs.declared.faults.TextFault.{TextFault};
-    ghost use Rattle.collation_matches.specs.Sought.{IsCompiledFrom, answer_to};
-    ghost use Rattle.collation_search.specs.Search.{HasSearched, HasReported, sought};
+    ghost use Rattle.std.specs.Prelude.{◌≡◌, []};
+    ghost use Rattle.collation_search.specs.Feeding.{Ends};
+    ghost use Rattle.collation_search.specs.Search.{HasSearched, sought};
 
     /// Gives up the text, and goes back to the beginning of another one, also after a fault. The ranges that are found in it are those of
     /// a new search; what was found out of characters stays, so that they are found sooner. No memory is taken.
@@ -31,19 +30,7 @@ impl<'a, W: Weights> Search<'a, W> {
     ///
     /// Those of [`Search::finish`]. The search is then at the beginning of another text too.
     pub fn finish_text(&mut self, found: &mut Found) -> Result<(), TextFault>
-        ensures good { (text u : List ℕ) (handed : List _) → IsCompiledFrom (sought self.old) text
-            → HasSearched self.old u handed
-            → OnOk result
-            (answer_to (sought self.old) text u
-            ≡ record { ranges = handed ++ found.new.items; fault = None }) }
-        ensures bad { (text u : List ℕ) (handed : List _) → IsCompiledFrom (sought self.old) text
-            → HasSearched self.old u handed
-            → IfErr result
-            (λ f. answer_to (sought self.old) text u
-            ≡ record { ranges = handed ++ found.new.items; fault = Some f }) }
-        ensures again { (f : TextFault) → HasReported self.old f
-            → (result ≡ Err f) × (found.new.items ≡ []) }
-        ensures memory { IfErr result (λ f. f.kind ≡ 35 → HasReported self.old f) }
+        ensures ended { Ends self.old result found.new.items }
         ensures stands { HasSearched self.new [] [] }
         ensures sought { sought self.new ≡ sought self.old }
     {

@@ -123,7 +123,7 @@ impl<'a, W: Weights> Search<'a, W> {
             return Err(fault);
         }
         let reach = self.reach(piece);
-        let mut at = self.take_letters(piece, reach, false, found, sink);
+        let mut at = self.feed_letters(piece, reach, false, found, sink);
         while at < piece.len() {
             match self.step_on(piece[at], found) {
                 Ok(()) => hand_out(found.as_slice(), sink),
@@ -133,7 +133,7 @@ impl<'a, W: Weights> Search<'a, W> {
                 }
             }
             at += 1;
-            at += self.take_letters(&piece[at..], reach.saturating_sub(at), false, found, sink);
+            at += self.feed_letters(&piece[at..], reach.saturating_sub(at), false, found, sink);
         }
         Ok(())
     }
@@ -159,7 +159,7 @@ impl<'a, W: Weights> Search<'a, W> {
     /// Takes the letters at the front of a piece that can be taken, up to `reach`, and ASCII behind it, and calls the sink once for each
     /// range that became known, in order. It answers how many bytes it took, few or none behind the first range that a letter hands out
     /// where `one_range` says so. `found` is room that it uses.
-    pub(crate) fn take_letters<F: FnMut(u64, u64)>(
+    pub(crate) fn feed_letters<F: FnMut(u64, u64)>(
         &mut self,
         piece: &[u8],
         reach: usize,

@@ -250,7 +250,7 @@ impl<'a, W: Weights> Search<'a, W> {
         }
     }
 
-    /// Takes letters at the front of a piece, as [`Search::take_letters`] does, up to the first range: how many bytes, and that range, if
+    /// Takes letters at the front of a piece, as [`Search::feed_letters`] does, up to the first range: how many bytes, and that range, if
     /// one became known.
     fn letters_to_first(
         &mut self,
@@ -265,7 +265,7 @@ impl<'a, W: Weights> Search<'a, W> {
             × (result.1 ≡ slice_get ranges 0) }
     {
         let mut first = None;
-        let len = self.take_letters(
+        let len = self.feed_letters(
             piece,
             reach,
             true,

@@ -1,6 +1,7 @@
 //! The search over a stream of bytes.
-ghost use Rattle.std.specs.Prelude.{◌≡◌, ◌≤◌, length, None, false};
+ghost use Rattle.std.specs.Prelude.{◌≡◌, ◌+◌, ◌≤◌, length, None, false};
 ghost use Rattle.std.specs.Option.{ForSome};
+ghost use Rattle.nfd_points.specs.declared.limits.TheConstants.{MOST_GIVEN};
 ghost use Rattle.std.proofs.Props.{props};
 ghost use Rattle.collation_finder.specs.Caches.{AreRight};
 ghost use Rattle.collation_matches.specs.GoodPrefix.{most_bytes};
@@ -28,8 +29,9 @@ pub struct Search<'a, W: Weights> {
     /// What it has found out of the characters that it met. It is no part of a state: it is found anew.
     pub(crate) cache: Box<Cache>,
     ghost right: { AreRight (W.table query.table.now) query.pattern.now cache.value } by { Prim.hlevel props },
-    ghost longest: { finder.value.longest_key ≡ query.longest_key },
-    ghost pattern_len: { finder.value.pattern_len ≡ length query.pattern.now.keys },
+    ghost longest: { finder.value.window.capacity ≡ query.longest_key + MOST_GIVEN },
+    ghost pattern_len: { finder.value.matcher.walk.places.capacity
+        ≡ length query.pattern.now.keys },
     ghost open: { fault ≡ None → finder.value.window.has_ended ≡ false },
     ghost count: { cut.count ≤ most_bytes },
     ghost kept: { ForSome fault (λ f. (31 ≤ f.kind) × (f.kind ≤ 35) × (f.offset ≤ most_bytes)) },
@@ -46,9 +48,9 @@ impl<'a, W: Weights> Search<'a, W> {
     ghost use Rattle.collation_finder.specs.Finding.{FinderStandsFor};
     ghost use Rattle.collation_matches.specs.Lag.{code_points_from};
     ghost use Rattle.collation_matches.specs.declared.select.Select.TheVariants.{All};
-    ghost use Rattle.collation_search.specs.Search.{HasSearched, HasTaken, HasReported, HasReportedNone, sought};
-    ghost use Rattle.collation_search.specs.StateAfter.{reported_after, fault_so_far, IsReported};
-    ghost use Rattle.collation_search.specs.Feeding.{Takes, fault_of as told};
+    ghost use Rattle.collation_search.specs.Search.{HasSearched, HasTaken, HasReported, sought};
+    ghost use Rattle.collation_search.specs.StateAfter.{reported_after};
+    ghost use Rattle.collation_search.specs.Feeding.{Ends, Feeds, Takes};
     ghost use Rattle.collation_matches.specs.Sought.{IsCompiledFrom, answer_to, seeking, settled_in};
     ghost use Rattle.collation_matches.specs.GoodPrefix.{fault as fault_of, is_good_so_far, most_bytes, whole};
 
@@ -166,31 +168,9 @@ impl<'a, W: Weights> Search<'a, W> {
     /// The first fault of the text, at which it counts as ended; then `found` has the rest of the settled ranges. From then on
     /// the same fault, and nothing is found. No memory is taken, so that 35 is only a fault that the search began with.
     pub fn step(&mut self, byte: u8, found: &mut Found) -> Result<(), TextFault>
-        ensures stands { (u : List ℕ) (handed : List _) → HasSearched self.old u handed
-            → OnOk result (HasSearched self.new (u ++ byte ∷ []) (handed ++ found.new.items)) }
-        ensures answer { (text u more : List ℕ) (handed : List _)
-            → IsCompiledFrom (sought self.old) text → HasSearched self.old u handed
-            → IfErr result
-            (λ f. answer_to (sought self.old) text (u ++ byte ∷ more)
-            ≡ record { ranges = handed ++ found.new.items; fault = Some f }) }
-        ensures closed { (u more : List ℕ) (handed : List _) → HasSearched self.old u handed
-            → OnErr result (is_good_so_far (u ++ byte ∷ more) ≡ false) }
-        // what was handed out, and whether a fault stands in the bytes, is known from the bytes alone
-        ensures known { (u : List ℕ) (handed : List _) → HasSearched self.old u handed
-            → handed ++ found.new.items ≡ reported_after (sought self.old) (u ++ byte ∷ []) }
-        ensures fault { (u : List ℕ) (handed : List _) → HasSearched self.old u handed
-            → told result ≡ fault_so_far (u ++ byte ∷ []) }
-        ensures ended { (u more : List ℕ) (handed : List _) → HasSearched self.old u handed
-            → IfErr result
-            (λ f. IsReported (sought self.old) (u ++ byte ∷ more) (handed ++ found.new.items)
-            (Some f)) }
+        // the byte is taken as a piece of one byte
+        ensures fed { Feeds self.old (byte ∷ []) result found.new.items self.new }
         ensures few { length found.new.items ≤ longest_key_of (sought self.old).table + MOST_GIVEN }
-        ensures reported { IfErr result (λ f. HasReported self.new f) }
-        ensures again { (f : TextFault) → HasReported self.old f
-            → (result ≡ Err f) × (found.new.items ≡ []) }
-        ensures none { OnOk result (HasReportedNone self.new) }
-        ensures memory { IfErr result (λ f. f.kind ≡ 35 → HasReported self.old f) }
-        ensures sought { sought self.new ≡ sought self.old }
     {
         decided_units_stay();
         laws_of_decompositions();
@@ -227,19 +207,7 @@ impl<'a, W: Weights> Search<'a, W> {
     ///
     /// The fault of the text: one that was reported before, or 31 where a character that its end cuts starts.
     pub fn finish(self, found: &mut Found) -> Result<(), TextFault>
-        ensures good { (text u : List ℕ) (handed : List _) → IsCompiledFrom (sought self.entry) text
-            → HasSearched self.entry u handed
-            → OnOk result
-            (answer_to (sought self.entry) text u
-            ≡ record { ranges = handed ++ found.new.items; fault = None }) }
-        ensures bad { (text u : List ℕ) (handed : List _) → IsCompiledFrom (sought self.entry) text
-            → HasSearched self.entry u handed
-            → IfErr result
-            (λ f. answer_to (sought self.entry) text u
-            ≡ record { ranges = handed ++ found.new.items; fault = Some f }) }
-        ensures again { (f : TextFault) → HasReported self.entry f
-            → (result ≡ Err f) × (found.new.items ≡ []) }
-        ensures memory { IfErr result (λ f. f.kind ≡ 35 → HasReported self.entry f) }
+        ensures ended { Ends self.entry result found.new.items }
     {
         let mut search = self;
         search.end_text(found)
@@ -252,19 +220,7 @@ impl<'a, W: Weights> Search<'a, W> {
     ///
     /// Those of [`Search::finish`].
     pub(crate) fn end_text(&mut self, found: &mut Found) -> Result<(), TextFault>
-        ensures good { (text u : List ℕ) (handed : List _) → IsCompiledFrom (sought self.old) text
-            → HasSearched self.old u handed
-            → OnOk result
-            (answer_to (sought self.old) text u
-            ≡ record { ranges = handed ++ found.new.items; fault = None }) }
-        ensures bad { (text u : List ℕ) (handed : List _) → IsCompiledFrom (sought self.old) text
-            → HasSearched self.old u handed
-            → IfErr result
-            (λ f. answer_to (sought self.old) text u
-            ≡ record { ranges = handed ++ found.new.items; fault = Some f }) }
-        ensures again { (f : TextFault) → HasReported self.old f
-            → (result ≡ Err f) × (found.new.items ≡ []) }
-        ensures memory { IfErr result (λ f. f.kind ≡ 35 → HasReported self.old f) }
+        ensures ended { Ends self.old result found.new.items }
         ensures sought { sought self.new ≡ sought self.old }
     {
         matches_by_clusters(self.query.table);

@@ -19,7 +19,7 @@ use Rattle.collation_letters.specs.Letters.{is_mark, flag_after, keys_alone, IsP
 use Rattle.collation_letters.specs.Symbols.{AreLastSymbols, listed}
 use Rattle.collation_walk.specs.declared.matching.Matcher.{Matcher}
 use Rattle.collation_walk.specs.Walked.{HasWalkedOn}
-use Rattle.collation_walk.specs.Walks.{WalksOver, letter_items}
+use Rattle.collation_walk.specs.Walks.{WalksOn, letter_items}
 use Rattle.collation_letters.proofs.CharacterLemmas.{points_are_shifted}
 use Rattle.collation_letters.proofs.JoiningLemmas.{after-plain}
 use Rattle.collation_letters.proofs.LetterApart.{starter-counted}
@@ -36,8 +36,7 @@ GoesOnLaw =
 
 pub walked-on : GoesOnLaw → PointsAreShifted → (table : TableMap) (pattern : Compiled) (m m' : Matcher) (start : ℕ) (cs : List ℕ) (l : Letter) (found : List (ℕ × ℕ)) → l.role ≢ Steps →
     is_mark l.role ≡ false → IsLetter table pattern cs l → m'.weigher ≡ weigher pattern.strength pattern.variable (flag_after l.role m.weigher.after_variable) →
-    ((items : List Item) (ranges : List (ℕ × ℕ)) (keys : List Key) → AreLastSymbols pattern.keys keys (listed l.symbols) → WalksOver pattern.keys items ranges m.walk →
-    WalksOver pattern.keys (items ++ letter_items l.role start keys) (ranges ++ found) m'.walk) →
+    ((keys : List Key) → AreLastSymbols pattern.keys keys (listed l.symbols) → WalksOn pattern m.walk m'.walk (letter_items l.role start keys) found) →
     HasWalkedOn table pattern m m' (units table (points_from start cs)) found
 walked-on law shift table pattern m m' start cs l found known starter h made walks = λ before ranges on.
     let w = m.weigher in
@@ -59,7 +58,7 @@ walked-on law shift table pattern m m' start cs l found known starter h made wal
     record {
       items = on.items ++ given;
       weighed = subst (λ (v : Weigher). WeigherStandsFor table v (before ++ us) (on.items ++ given)) same (law table w before us on.items given (flag_after l.role flag) gives leaves on.weighed);
-      walked = walks on.items ranges (keys_alone table pattern (points_from 0 cs) flag) symbols on.walked;
+      walked = walks (keys_alone table pattern (points_from 0 cs) flag) symbols on.items ranges on.walked;
       strength = ap (λ v. v.strength) made;
       variable = ap (λ v. v.variable) made;
     }

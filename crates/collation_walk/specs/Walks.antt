@@ -49,3 +49,13 @@ pub record WalksOver (pattern : List Key) (items : List Item) (ranges : List (�
   pub places : keep_last walk.state walk.places.items ≡ keep_last walk.state (map place_of (placed (before ++ current ∷ [])))
   pub handed_out : ranges ≡ selected walk.select (found pattern before current.start)
   pub last_end : walk.last_end ≡ remembered walk.select ranges
+
+-- Further items went through a walk, and further ranges came out.
+abbrev pub WalksOn : Compiled → Walk → Walk → List Item → List (ℕ × ℕ) → Type 0
+WalksOn pattern old new further found =
+    (items : List Item) (ranges : List (ℕ × ℕ)) → WalksOver pattern.keys items ranges old → WalksOver pattern.keys (items ++ further) (ranges ++ found) new
+
+-- The same of items behind which ranges were put after those found before.
+abbrev pub WalksInto : Compiled → Walk → Walk → List Item → List (ℕ × ℕ) → List (ℕ × ℕ) → Type 0
+WalksInto pattern old new further before found =
+    (items : List Item) (ranges : List (ℕ × ℕ)) → WalksOver pattern.keys items (ranges ++ before) old → WalksOver pattern.keys (items ++ further) (ranges ++ found) new

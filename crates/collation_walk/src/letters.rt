@@ -1,11 +1,9 @@
 //! From letters to ranges: a letter's keys and the start of its cluster are its own, so a matcher takes them without units.
-ghost use Rattle.std.specs.Prelude.{◌≡◌, ◌≢◌, ℕ, ◌≤◌, List, length, false};
-ghost use Rattle.std.specs.List.{FoldsTo};
-ghost use Rattle.nfd_points.specs.Points.{points_from};
-ghost use Rattle.collation_elements.specs.Units.{units};
-ghost use Rattle.collation_letters.specs.Letters.{IsLetter, is_mark};
+ghost use Rattle.std.specs.Prelude.{◌≡◌, ◌≢◌, ◌≤◌, length, false};
+ghost use Rattle.collation_letters.specs.Letters.{is_mark};
 ghost use Rattle.collation_letters.specs.declared.letter.Role.TheVariants.{Steps, Plain};
-ghost use Rattle.collation_walk.specs.Walked.{HasWalkedOn};
+ghost use Rattle.collation_walk.specs.HandingOut.{HandsOut};
+ghost use Rattle.collation_walk.specs.Walked.{WalksLetter};
 ghost use Rattle.collation_walk.specs.Walks.{KeepsWalk};
 
 use crate::handing_out::call;
@@ -29,13 +27,9 @@ pub fn walk_letter<W: Weights, F: FnMut(u64, u64)>(
     requires known { (letter.now.role ≢ Steps) × (is_mark letter.now.role ≡ false) }
     requires state { matcher.old.walk.state ≤ length query.now.pattern.now.keys }
     requires callable { F.IsAlwaysCallable sink.old }
-    ensures walked { (ranges : List (ℕ × ℕ))
-        × FoldsTo (λ f range g. F.step f range.0 range.1 tt g) sink.old ranges sink.new
-        × ((cs : List ℕ)
-        → IsLetter (W.table query.now.table.now) query.now.pattern.now cs letter.now
-        → HasWalkedOn (W.table query.now.table.now) query.now.pattern.now
-        matcher.old matcher.new
-        (units (W.table query.now.table.now) (points_from start cs)) ranges) }
+    ensures walked { HandsOut F.step sink.old sink.new
+        (WalksLetter (W.table query.now.table.now) query.now.pattern.now matcher.old matcher.new
+        letter.now start) }
     ensures keeps { KeepsWalk query.now.pattern.now matcher.old.walk matcher.new.walk }
     ensures callable { F.IsAlwaysCallable sink.new }
 {
@@ -57,13 +51,9 @@ fn walk_plain<W: Weights, F: FnMut(u64, u64)>(
     requires plain { letter.now.role ≡ Plain }
     requires state { matcher.old.walk.state ≤ length query.now.pattern.now.keys }
     requires callable { F.IsAlwaysCallable sink.old }
-    ensures walked { (ranges : List (ℕ × ℕ))
-        × FoldsTo (λ f range g. F.step f range.0 range.1 tt g) sink.old ranges sink.new
-        × ((cs : List ℕ)
-        → IsLetter (W.table query.now.table.now) query.now.pattern.now cs letter.now
-        → HasWalkedOn (W.table query.now.table.now) query.now.pattern.now
-        matcher.old matcher.new
-        (units (W.table query.now.table.now) (points_from start cs)) ranges) }
+    ensures walked { HandsOut F.step sink.old sink.new
+        (WalksLetter (W.table query.now.table.now) query.now.pattern.now matcher.old matcher.new
+        letter.now start) }
     ensures keeps { KeepsWalk query.now.pattern.now matcher.old.walk matcher.new.walk }
     ensures callable { F.IsAlwaysCallable sink.new }
 {
@@ -90,13 +80,9 @@ fn walk_any<W: Weights, F: FnMut(u64, u64)>(
     requires known { (letter.now.role ≢ Steps) × (is_mark letter.now.role ≡ false) }
     requires state { matcher.old.walk.state ≤ length query.now.pattern.now.keys }
     requires callable { F.IsAlwaysCallable sink.old }
-    ensures walked { (ranges : List (ℕ × ℕ))
-        × FoldsTo (λ f range g. F.step f range.0 range.1 tt g) sink.old ranges sink.new
-        × ((cs : List ℕ)
-        → IsLetter (W.table query.now.table.now) query.now.pattern.now cs letter.now
-        → HasWalkedOn (W.table query.now.table.now) query.now.pattern.now
-        matcher.old matcher.new
-        (units (W.table query.now.table.now) (points_from start cs)) ranges) }
+    ensures walked { HandsOut F.step sink.old sink.new
+        (WalksLetter (W.table query.now.table.now) query.now.pattern.now matcher.old matcher.new
+        letter.now start) }
     ensures keeps { KeepsWalk query.now.pattern.now matcher.old.walk matcher.new.walk }
     ensures callable { F.IsAlwaysCallable sink.new }
 {

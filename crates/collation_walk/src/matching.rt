@@ -1,13 +1,10 @@
 //! From units to ranges: a weigher, and a walk over the items that it gives.
-ghost use Rattle.std.specs.Prelude.{◌≡◌, ◌+◌, ◌≤◌, ◌<◌, List, [], ◌∷◌, ◌++◌, length, map, option_to_list};
+ghost use Rattle.std.specs.Prelude.{◌≡◌, ◌+◌, ◌≤◌, ◌<◌, List, ◌++◌, length, map, option_to_list};
 ghost use Rattle.arrayvec.specs.ArrayVec.{array_vec_len};
-ghost use Rattle.nfd_points.specs.declared.points.Point.{Point};
-ghost use Rattle.collation_table.specs.Table.{TableMap};
 ghost use Rattle.collation_elements.specs.declared.keys.Item.{Item};
 ghost use Rattle.collation_elements.specs.ItemParts.{item_starts};
-ghost use Rattle.collation_elements.specs.UnitValues.{IsUnitOf};
-ghost use Rattle.collation_elements.specs.Weighing.{value_items, weigher_after, WeigherStandsFor};
-ghost use Rattle.collation_walk.specs.Walks.{KeepsWalk, WalksOver};
+ghost use Rattle.collation_walk.specs.Walked.{TakesUnit};
+ghost use Rattle.collation_walk.specs.Walks.{KeepsWalk, WalksInto, WalksOver};
 
 use crate::walk::Walk;
 use arrayvec::ArrayVec;
@@ -42,9 +39,8 @@ pub fn keep(found: &mut Found, range: Option<(u64, u64)>)
 fn walk_over(walk: &mut Walk, pattern: &Pattern, items: &[Item], found: &mut Found)
     requires state { walk.old.state ≤ length pattern.now.keys }
     requires room { array_vec_len found.old + length (item_starts items.now) ≤ MOST_FOUND }
-    ensures stands { (before : List _) (ranges : List _)
-        → WalksOver pattern.now.keys before (ranges ++ found.old.items) walk.old
-        → WalksOver pattern.now.keys (before ++ items.now) (ranges ++ found.new.items) walk.new }
+    ensures stands { WalksInto pattern.now walk.old walk.new items.now
+        found.old.items found.new.items }
     ensures few { array_vec_len found.new ≤ array_vec_len found.old + length
         (item_starts items.now) }
     ensures keeps { KeepsWalk pattern.now walk.old walk.new }
@@ -60,11 +56,8 @@ fn walk_over(walk: &mut Walk, pattern: &Pattern, items: &[Item], found: &mut Fou
 fn walk_start(walk: &mut Walk, pattern: &Pattern, start: Option<u64>, found: &mut Found)
     requires state { walk.old.state ≤ length pattern.now.keys }
     requires room { array_vec_len found.old < MOST_FOUND }
-    ensures stands { (before : List _) (ranges : List _)
-        → WalksOver pattern.now.keys before (ranges ++ found.old.items) walk.old
-        → WalksOver pattern.now.keys
-        (before ++ map (λ at. Item.ClusterStart at) (option_to_list start))
-        (ranges ++ found.new.items) walk.new }
+    ensures stands { WalksInto pattern.now walk.old walk.new
+        (map (λ at. Item.ClusterStart at) (option_to_list start)) found.old.items found.new.items }
     ensures few { array_vec_len found.new ≤ array_vec_len found.old + 1 }
     ensures keeps { KeepsWalk pattern.now walk.old walk.new }
 {
@@ -101,16 +94,8 @@ fn take_long(
 )
     requires state { matcher.old.walk.state ≤ length pattern.now.keys }
     requires room { array_vec_len found.old < MOST_FOUND }
-    ensures weighed { (table : TableMap) (points : List Point) (units : List (List Point))
-        (given : List Item) → IsUnitOf table points unit.entry
-        → WeigherStandsFor table matcher.old.weigher units given
-        → WeigherStandsFor table matcher.new.weigher (units ++ points ∷ [])
-        (given ++ value_items matcher.old.weigher unit.entry) }
-    ensures after { matcher.new.weigher ≡ weigher_after matcher.old.weigher unit.entry }
-    ensures walked { (before : List _) (ranges : List _)
-        → WalksOver pattern.now.keys before (ranges ++ found.old.items) matcher.old.walk
-        → WalksOver pattern.now.keys (before ++ value_items matcher.old.weigher unit.entry)
-        (ranges ++ found.new.items) matcher.new.walk }
+    ensures taken { TakesUnit pattern.now matcher.old matcher.new unit.entry
+        found.old.items found.new.items }
     ensures few { array_vec_len found.new ≤ array_vec_len found.old + 1 }
     ensures keeps { KeepsWalk pattern.now matcher.old.walk matcher.new.walk }
 {
@@ -129,16 +114,8 @@ pub fn take_unit(
 )
     requires state { matcher.old.walk.state ≤ length pattern.now.keys }
     requires room { array_vec_len found.old < MOST_FOUND }
-    ensures weighed { (table : TableMap) (points : List Point) (units : List (List Point))
-        (given : List Item) → IsUnitOf table points unit.entry
-        → WeigherStandsFor table matcher.old.weigher units given
-        → WeigherStandsFor table matcher.new.weigher (units ++ points ∷ [])
-        (given ++ value_items matcher.old.weigher unit.entry) }
-    ensures after { matcher.new.weigher ≡ weigher_after matcher.old.weigher unit.entry }
-    ensures walked { (before : List _) (ranges : List _)
-        → WalksOver pattern.now.keys before (ranges ++ found.old.items) matcher.old.walk
-        → WalksOver pattern.now.keys (before ++ value_items matcher.old.weigher unit.entry)
-        (ranges ++ found.new.items) matcher.new.walk }
+    ensures taken { TakesUnit pattern.now matcher.old matcher.new unit.entry
+        found.old.items found.new.items }
     ensures few { array_vec_len found.new ≤ array_vec_len found.old + 1 }
     ensures keeps { KeepsWalk pattern.now matcher.old.walk matcher.new.walk }
 {

@@ -43,7 +43,7 @@ impl Walk {
     ghost use Rattle.collation_matches.specs.ByClusters.{text_begin, found};
     ghost use Rattle.collation_matches.specs.Selecting.{selected, remembered};
     ghost use Rattle.collation_letters.specs.declared.letter.Role.TheVariants.{Plain};
-    ghost use Rattle.collation_walk.specs.Walks.{KeepsWalk, WalksOver, letter_items, passed_to};
+    ghost use Rattle.collation_walk.specs.Walks.{KeepsWalk, WalksOn, WalksOver, letter_items, passed_to};
     ghost use Rattle.collation_letters.specs.Symbols.{AreLastSymbols, listed, some_symbol};
 
     /// A walk at the beginning of a text.
@@ -86,10 +86,7 @@ impl Walk {
     #[inline(always)]
     pub(crate) fn take(&mut self, pattern: &Pattern, item: Item) -> Option<(u64, u64)>
         requires { self.old.state ≤ length pattern.now.keys }
-        ensures walks { (items : List Item) (ranges : List (ℕ × ℕ))
-            → WalksOver pattern.now.keys items ranges self.old
-            → WalksOver pattern.now.keys (items ++ item ∷ [])
-            (ranges ++ option_to_list result) self.new }
+        ensures walks { WalksOn pattern.now self.old self.new (item ∷ []) (option_to_list result) }
         ensures at_start { IfSome result (λ range. item ≡ ClusterStart range.1) }
         ensures keeps { KeepsWalk pattern.now self.old self.new }
     {
@@ -125,11 +122,10 @@ impl Walk {
         start: u64,
     ) -> Option<(u64, u64)>
         requires state { self.old.state ≤ length pattern.now.keys }
-        ensures walks { (items : List Item) (ranges : List (ℕ × ℕ)) (keys : List Key)
+        ensures walks { (keys : List Key)
             → AreLastSymbols pattern.now.keys keys (listed letter.now.symbols)
-            → WalksOver pattern.now.keys items ranges self.old
-            → WalksOver pattern.now.keys (items ++ letter_items letter.now.role start keys)
-            (ranges ++ option_to_list result) self.new }
+            → WalksOn pattern.now self.old self.new (letter_items letter.now.role start keys)
+            (option_to_list result) }
         ensures keeps { KeepsWalk pattern.now self.old self.new }
     {
         laws_of_symbols();
@@ -150,11 +146,10 @@ impl Walk {
         start: u64,
     ) -> Option<(u64, u64)>
         requires state { self.old.state ≤ length pattern.now.keys }
-        ensures walks { (items : List Item) (ranges : List (ℕ × ℕ)) (keys : List Key)
+        ensures walks { (keys : List Key)
             → AreLastSymbols pattern.now.keys keys (some_symbol symbol)
-            → WalksOver pattern.now.keys items ranges self.old
-            → WalksOver pattern.now.keys (items ++ letter_items Plain start keys)
-            (ranges ++ option_to_list result) self.new }
+            → WalksOn pattern.now self.old self.new (letter_items Plain start keys)
+            (option_to_list result) }
         ensures keeps { KeepsWalk pattern.now self.old self.new }
     {
         let range = self.take(pattern, Item::ClusterStart(start));
@@ -166,10 +161,8 @@ impl Walk {
     #[inline(always)]
     fn take_start(&mut self, pattern: &Pattern, begins: bool, start: u64) -> Option<(u64, u64)>
         requires state { self.old.state ≤ length pattern.now.keys }
-        ensures walks { (items : List Item) (ranges : List (ℕ × ℕ))
-            → WalksOver pattern.now.keys items ranges self.old
-            → WalksOver pattern.now.keys (items ++ (if begins then ClusterStart start ∷ [] else []))
-            (ranges ++ option_to_list result) self.new }
+        ensures walks { WalksOn pattern.now self.old self.new
+            (if begins then ClusterStart start ∷ [] else []) (option_to_list result) }
         ensures keeps { KeepsWalk pattern.now self.old self.new }
     {
         if begins {

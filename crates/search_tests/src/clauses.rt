@@ -1,4 +1,4 @@
-//! What a finder says of letters that it takes, clause by clause, where its contract has names for it (`TakesText`, `CutsWithin`).
+//! What a finder says of letters that it takes, clause by clause, where its contract has a name for it (`TakesText`).
 ghost use Rattle.std.specs.Prelude.{◌≡◌, ℕ, ◌+◌, ◌≤◌, List, ◌++◌, length, take, false};
 ghost use Rattle.std.specs.Str.{chars, IsUtf8};
 ghost use Rattle.std.specs.List.{FoldsTo};
@@ -6,7 +6,7 @@ ghost use Rattle.nfd_points.specs.Points.{byte_len};
 ghost use Rattle.collation_matches.specs.GoodPrefix.{most_bytes};
 ghost use Rattle.collation_finder.specs.Caches.{AreRight};
 ghost use Rattle.collation_finder.specs.Early.{IsCutUpTo};
-ghost use Rattle.collation_finder.specs.Finding.{FinderStandsFor, IsMadeFor, KeepsSetup};
+ghost use Rattle.collation_finder.specs.Finding.{FinderStandsFor, IsReady, KeepsSetup};
 
 use collation_finder::{Cache, Finder, Front};
 use collation_table::Weights;
@@ -21,8 +21,7 @@ fn letters_say<W: Weights, F: FnMut(u64, u64)>(
     found: &mut Found,
     sink: &mut F,
 ) -> usize
-    requires open { finder.old.window.has_ended ≡ false }
-    requires made { IsMadeFor (W.table query.now.table.now) query.now.pattern.now finder.old }
+    requires ready { IsReady (W.table query.now.table.now) query.now.pattern.now finder.old }
     requires right { AreRight (W.table query.now.table.now) query.now.pattern.now cache.old }
     requires fits { front.offset + length front.piece.now ≤ most_bytes }
     requires callable { F.IsAlwaysCallable sink.old }

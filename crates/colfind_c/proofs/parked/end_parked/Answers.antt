@@ -12,9 +12,9 @@ returns-clause-finished g c =
     let same = c.unpark-search.ensures.sought in let up = taken_up _ c.args.parked c.unpark-search.result same c.unpark-search.ensures.stands in let found = c.finish_text-ended.new.found.items in (
       found,
       record {
-        good = λ text u handed compiled h. subst (λ t. OnOk c.finish_text-ended.result (answer_to t text u ≡ record { ranges = handed ++ found; fault = None })) same (c.finish_text-ended.ensures.good text u handed (subst (λ t. IsCompiledFrom t text) (sym same) compiled) (up u handed h));
-        bad = λ text u handed compiled h. subst (λ t. IfErr c.finish_text-ended.result (λ f. answer_to t text u ≡ record { ranges = handed ++ found; fault = Some f })) same (c.finish_text-ended.ensures.bad text u handed (subst (λ t. IsCompiledFrom t text) (sym same) compiled) (up u handed h));
-        again = λ f is. c.finish_text-ended.ensures.again f (c.unpark-search.ensures.reported ∙ is);
+        good = λ text u handed compiled h. subst (λ t. OnOk c.finish_text-ended.result (answer_to t text u ≡ record { ranges = handed ++ found; fault = None })) same (c.finish_text-ended.ensures.ended.good text u handed (subst (λ t. IsCompiledFrom t text) (sym same) compiled) (up u handed h));
+        bad = λ text u handed compiled h. subst (λ t. IfErr c.finish_text-ended.result (λ f. answer_to t text u ≡ record { ranges = handed ++ found; fault = Some f })) same (c.finish_text-ended.ensures.ended.bad text u handed (subst (λ t. IsCompiledFrom t text) (sym same) compiled) (up u handed h));
+        again = λ f is. c.finish_text-ended.ensures.ended.again f (c.unpark-search.ensures.reported ∙ is);
       },
       subst (λ xs. Gets c.args.queue.now xs c.put_all.new.self) c.as_slice.ensures.value c.put_all.ensures,
       subst (λ xs. length xs ≤ MOST_FOUND) c.as_slice.ensures.value c.as_slice.ensures.fits,

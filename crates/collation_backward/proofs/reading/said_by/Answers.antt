@@ -100,5 +100,5 @@ returns-clause-said g c = λ p compiled.
     c.told-2.ensures.said
     ∙ ap (λ (o : Option (ℕ × ℕ)). unless_fault (is_fault_before to (fault_of ended)) (fault_of ended) o) last
     ∙ finish-told c.loop-rest.search s p u to (handed ++ found) ended i.same
-    (c.finish_text-ended.ensures.good p u handed here i.taken.3) (c.finish_text-ended.ensures.bad p u handed here i.taken.3)
+    (c.finish_text-ended.ensures.ended.good p u handed here i.taken.3) (c.finish_text-ended.ensures.ended.bad p u handed here i.taken.3)
     ∙ ap (λ (t : List ℕ). said_up_to to (answer_to s p t)) all

@@ -1,11 +1,18 @@
-use Rattle.std.proofs.Common.{◌∙◌, [], ◌∷◌, ◌++◌, refl, sym, ap, subst, arith}
-use Rattle.nfd_points.specs.Reordering.{IsSoundPoint}
+use Rattle.std.specs.Prelude.{◌||◌, nat_lt, nat_le}
+use Rattle.std.proofs.Common.{◌≡◌, ◌∙◌, ◌≤◌, Bool, true, false, ◌&&◌, List, [], ◌∷◌, ◌++◌, length, drop, refl, sym, ap, subst, arith}
+use Rattle.unicode_normalization.specs.StreamSafe.{has_short_runs}
+use Rattle.nfd_points.specs.declared.points.Point.{Point}
+use Rattle.nfd_points.specs.Points.{is_starter}
+use Rattle.nfd_points.specs.Reordering.{IsSoundPoint, code_points, is_closed}
+use Rattle.collation_table.specs.Table.{longest_mapped}
+use Rattle.collation_elements.specs.Units.{prefix_length}
 use Rattle.collation_elements.specs.Decided.{left_points}
 use Rattle.collation_elements.specs.Weighing.{value_items}
 use Rattle.collation_elements.specs.Windows.{is_decided, next_cut}
-use Rattle.std.proofs.lemmas.Bool.{false≢true, false_from_ne_true}
+use Rattle.std.proofs.lemmas.Bool.{false≢true, false_from_ne_true, ltb-false}
+use Rattle.std.proofs.lemmas.List.{nil_from_length}
 use Rattle.std.proofs.lemmas.List.Elements.{All-contains_itself}
-use Rattle.std.specs.List.{All, Contains}
+use Rattle.std.specs.List.{All, Contains, list_any}
 use Rattle.collation_finder.specs.Matching.{HasMatched}
 use Rattle.collation_finder.proofs.MatchingLemmas.{all-among, among-through}
 use Rattle.collation_walk.proofs.WalkSteps.{keeps-on}
@@ -28,10 +35,10 @@ loop-unit-preserved g c =
             cut = c.in-Some.ensures.stands points before.units before.cut;
             went = record {
               items = went.items ++ value_items c.loop-unit.matcher.weigher c.in-Some.unit;
-              weighed = c.take_unit.ensures.weighed table unit before.units went.items c.in-Some.ensures.unit went.weighed;
-              walked = c.take_unit.ensures.walked went.items ranges went.walked;
-              strength = ap (λ w. w.strength) c.take_unit.ensures.after ∙ went.strength;
-              variable = ap (λ w. w.variable) c.take_unit.ensures.after ∙ went.variable;
+              weighed = c.take_unit.ensures.taken.weighed table unit before.units went.items c.in-Some.ensures.unit went.weighed;
+              walked = c.take_unit.ensures.taken.walked went.items ranges went.walked;
+              strength = ap (λ w. w.strength) c.take_unit.ensures.taken.after ∙ went.strength;
+              variable = ap (λ w. w.variable) c.take_unit.ensures.taken.after ∙ went.variable;
             };
             kept = among-through points c.loop-unit.window.points c.next_unit.new.self.points before.kept c.in-Some.ensures.kept;
           };
@@ -64,17 +71,39 @@ loop-unit-init g c = record {
   keeps = record { state = c.requires.state; select = refl; room = refl };
 }
 
-pub returns-clause-kept : goal.returns-clause-kept
-returns-clause-kept g c = subst (λ w. All (Contains c.args.window.now.points) w.points) (sym c.in_default.ensures.unchanged) c.loop-unit.invariant.kept
-
 pub returns-clause-stands : goal.returns-clause-stands
 returns-clause-stands g c = λ points ranges h.
     subst (λ w. HasMatched (g.W.Weights.table c.args.table.now) c.args.pattern.now w c.loop-unit.matcher points (ranges ++ c.loop-unit.found.items))
     (sym c.in_default.ensures.unchanged) (c.loop-unit.invariant.stands points ranges h)
 
-pub returns-clause-left : goal.returns-clause-left
-returns-clause-left g c = λ goes_on.
+any-none : (ended any other : Bool) → ended ≡ true → ((ended && any) || other) ≡ false → any ≡ false
+any-none true true other e h = absurd cc
+any-none true false other e h = refl
+any-none false any other e h = absurd cc
+
+none-held : (ps : List Point) → nat_lt 0 (length ps) ≡ false → ps ≡ []
+none-held ps h = nil_from_length ps (let few = ltb-false 0 (length ps) h in omega (arith, few))
+
+pub returns-clause-leaves : goal.returns-clause-leaves
+returns-clause-leaves g c =
     let table = g.W.Weights.table c.args.table.now in
-    ap (λ w. w.points) c.in_default.ensures.unchanged
-    ∙ sym (c.decided_units_stay.ensures.left table c.loop-unit.window (false_from_ne_true (is_decided table c.loop-unit.window) (λ decided. false≢true (c.in_default.ensures.decided.1 decided))))
-    ∙ c.loop-unit.invariant.left goes_on
+    let w = c.loop-unit.window in
+    let same = c.in_default.ensures.unchanged in
+    let back = sym same in
+    let i = c.loop-unit.invariant in
+    let none = false_from_ne_true (is_decided table w) (λ decided. false≢true (c.in_default.ensures.decided.1 decided)) in
+    record {
+      kept = subst (λ v. All (Contains c.args.window.now.points) v.points) back i.kept;
+      short = λ sound runs. subst (λ v. has_short_runs 0 (code_points v.points) ≡ true) back (i.short sound runs);
+      capacity = ap (λ v. v.capacity) same ∙ i.capacity;
+      ended = ap (λ v. v.has_ended) same ∙ i.ended;
+      rest = λ goes_on starts. subst (λ v. length v.points ≤ longest_mapped table) back (c.in_default.ensures.room (i.ended ∙ goes_on) (i.last goes_on starts));
+      last = λ goes_on starts. subst (λ v. is_closed v.points ≡ true) back (i.last goes_on starts);
+      all = λ over.
+          let holds_longest = nat_le (longest_mapped table) (length w.points) in
+          let following = drop (prefix_length table w.points) w.points in
+          ap (λ v. v.points) same
+          ∙ none-held w.points (any-none w.has_ended (nat_lt 0 (length w.points)) (holds_longest && list_any is_starter following) (i.ended ∙ over) none);
+      undecided = ap (is_decided table) same ∙ none;
+      left = λ goes_on. ap (λ v. v.points) same ∙ sym (c.decided_units_stay.ensures.left table w none) ∙ i.left goes_on;
+    }

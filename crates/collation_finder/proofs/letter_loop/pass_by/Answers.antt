@@ -10,11 +10,15 @@ use Rattle.collation_walk.specs.Walked.{HasWalkedOn}
 use Rattle.collation_walk.specs.Walks.{passed_to}
 use Rattle.collation_finder.specs.LetterRun.{AreNext, HasComeTo}
 use Rattle.collation_finder.proofs.LoopSteps.{come-further, next-n}
+use Rattle.collation_finder.proofs.letter_loop.pass_by.Given as given
+use Rattle.collation_finder.proofs.letter_loop.pass_by.Goals.{After-pass_to}
 use Rattle.collation_finder.proofs.letter_loop.pass_by.Goals as goal
 
 -- text behind the characters that were walked over was passed by
-pub returns-clause-come : goal.returns-clause-come
-returns-clause-come g c = λ first before ranges so_far.
+come : (g : given.Over) (c : After-pass_to g) (first : ℕ) (before : Matcher) (ranges : List (ℕ × ℕ)) →
+    HasComeTo (g.W.Weights.table c.args.query.now.table.now) c.args.query.now.pattern.now c.args.front.piece.now c.args.front.offset c.args.front.reach first before c.args.matcher.now c.args.from.len c.args.from.next ranges →
+    HasComeTo (g.W.Weights.table c.args.query.now.table.now) c.args.query.now.pattern.now c.args.front.piece.now c.args.front.offset c.args.front.reach first before (record c.args.matcher.now { walk = c.pass_to.new.self }) (c.args.from.len + c.in-Some.skipped.end) c.in-Some.skipped.next ranges
+come g c first before ranges so_far =
     let table = g.W.Weights.table c.args.query.now.table.now in
     let pattern = c.args.query.now.pattern.now in
     let piece = c.args.front.piece.now in
@@ -22,7 +26,7 @@ returns-clause-come g c = λ first before ranges so_far.
     let reach = c.args.front.reach in
     let from = c.args.from in
     let s = c.in-Some.skipped in
-    let e = c.in-Some.ensures in
+    let e = c.in-Some.ensures.skips in
     let start = offset + from.len in
     let to = from.len + s.end in
     let rest = take_rest piece from.len in
@@ -39,3 +43,10 @@ returns-clause-come g c = λ first before ranges so_far.
     (e.walked matcher c.requires.flag c.requires.state)) in
     subst (λ (t : List (ℕ × ℕ)). HasComeTo table pattern piece offset reach first before now to s.next t) (append-nil ranges)
     (come-further c.laws_of_characters.ensures table pattern piece offset reach first from.len to from.next s.next before matcher now ranges [] so_far skipped goes)
+
+pub returns-clause-passes : goal.returns-clause-passes
+returns-clause-passes g c = record {
+  come = λ first before ranges so_far. come g (goal.at.returns-clause-passes g c).After-pass_to first before ranges so_far;
+  forth = omega arith;
+  letter = c.in-Some.ensures.skips.passes.letter;
+}

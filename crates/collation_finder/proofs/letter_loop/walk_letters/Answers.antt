@@ -21,7 +21,7 @@ returns-then-reach-end-clause-come g c = (
   [],
   refl,
   come-none c.laws_of_characters.ensures (g.W.Weights.table c.args.query.now.table.now) c.args.query.now.pattern.now c.args.front.piece.now c.args.front.offset c.args.front.reach c.args.from.next c.args.matcher.now
-      c.requires.first.0 c.requires.first.1 c.requires.begins,
+      c.requires.first.front.0 c.requires.first.front.1 c.requires.first.begins,
 )
 
 pub returns-then-reach-end-clause-keeps : goal.returns-then-reach-end-clause-keeps
@@ -35,17 +35,17 @@ characters-init g c =
     let pattern = c.args.query.now.pattern.now in
     let piece = c.args.front.piece.now in
     let laws = c.laws_of_characters.ensures in
-    let part = one_part piece 0 c.len_utf8-end.result c.args.from.next (omega (arith, c.len_utf8-end.ensures.value)) c.requires.first.1 in
+    let part = one_part piece 0 c.len_utf8-end.result c.args.from.next (omega (arith, c.len_utf8-end.ensures.value)) c.requires.first.front.1 in
     record {
       callable = c.requires.callable;
       right = c.requires.right;
       keeps = record { state = c.requires.state; select = refl; room = refl };
       forth = omega arith;
-      ends = omega (arith, c.len_utf8-end.ensures.value, c.requires.first.0);
+      ends = omega (arith, c.len_utf8-end.ensures.value, c.requires.first.front.0);
       part = part.0;
       first = ([], part.1);
-      letter = subst (λ (cs : List ℕ). IsLetter table pattern cs c.args.from.letter) (sym part.1) c.requires.letter;
-      come = ([], refl, come-none laws table pattern piece c.args.front.offset c.args.front.reach c.args.from.next c.args.matcher.now c.requires.first.0 c.requires.first.1 c.requires.begins);
+      letter = subst (λ (cs : List ℕ). IsLetter table pattern cs c.args.from.letter) (sym part.1) c.requires.first.letter;
+      come = ([], refl, come-none laws table pattern piece c.args.front.offset c.args.front.reach c.args.from.next c.args.matcher.now c.requires.first.front.0 c.requires.first.front.1 c.requires.first.begins);
     }
 
 -- the characters of the letter and the next one are one unit
@@ -153,11 +153,19 @@ pass_by-behind-requires-clause-near g c = c.if-end-reach.false
 pub pass_by-behind-requires-clause-state : goal.pass_by-behind-requires-clause-state
 pass_by-behind-requires-clause-state g c = omega arith
 
-pub pass_by-behind-requires-clause-begins : goal.pass_by-behind-requires-clause-begins
-pass_by-behind-requires-clause-begins g c =
-    let here = come g (goal.at.pass_by-behind-requires-clause-begins g c).After-walk_letter in
-    let len = chars-len c.args.front.piece.now c.characters.end (omega (arith, here.within)) here.text in
-    subst (λ k. begins_with_starter (points_of (c.args.front.offset + k) c.in-Some.next) ≡ true) len here.apart.next_begins
+pub pass_by-behind-requires-clause-first : goal.pass_by-behind-requires-clause-first
+pass_by-behind-requires-clause-first g c =
+    let here = come g (goal.at.pass_by-behind-requires-clause-first g c).After-walk_letter in
+    let piece = c.args.front.piece.now in
+    let end = c.characters.end in
+    let within = here.within in
+    let long = length-drop end piece in
+    let len = chars-len piece end (omega (arith, within)) here.text in
+    record {
+      front = (omega (arith, within, long), here.next);
+      begins = subst (λ k. begins_with_starter (points_of (c.args.front.offset + k) c.in-Some.next) ≡ true) len here.apart.next_begins;
+      letter = c.letter-following.ensures.letter;
+    }
 
 pub pass_by-behind-requires-clause-later : goal.pass_by-behind-requires-clause-later
 pass_by-behind-requires-clause-later g c =
@@ -168,7 +176,7 @@ pass_by-behind-requires-clause-later g c =
 pub overflow_add-end-in-characters-2 : goal.overflow_add-end-in-characters-2
 overflow_add-end-in-characters-2 g c =
     let so_far = come g (goal.at.overflow_add-end-in-characters-2 g c).After-walk_letter in
-    let now = c.pass_by-behind.ensures.come c.args.from.next c.args.matcher.now (c.characters.invariant.come.0 ++ c.walk_letter.ensures.walked.0) so_far in
+    let now = c.pass_by-behind.ensures.passes.come c.args.from.next c.args.matcher.now (c.characters.invariant.come.0 ++ c.walk_letter.ensures.walked.0) so_far in
     omega (arith, now.within, c.requires.fits)
 
 -- text behind them may have been passed by
@@ -181,7 +189,7 @@ characters-preserved g c =
     let behind = c.pass_by-behind.result in
     let e = c.pass_by-behind.ensures in
     let ranges = i.come.0 ++ walked.0 in
-    let now = e.come c.args.from.next c.args.matcher.now ranges (come g (goal.at.characters-preserved g c).After-walk_letter) in
+    let now = e.passes.come c.args.from.next c.args.matcher.now ranges (come g (goal.at.characters-preserved g c).After-walk_letter) in
     let last = one_part c.args.front.piece.now behind.len (behind.len + c.len_utf8.result) behind.next (omega (arith, c.len_utf8.ensures.value)) now.next in
     record {
       callable = c.walk_letter.ensures.callable;
@@ -191,7 +199,7 @@ characters-preserved g c =
       ends = omega (arith, now.within, c.len_utf8.ensures.value);
       part = last.0;
       first = ([], last.1);
-      letter = subst (λ (cs : List ℕ). IsLetter table pattern cs behind.letter) (sym last.1) e.letter;
+      letter = subst (λ (cs : List ℕ). IsLetter table pattern cs behind.letter) (sym last.1) e.passes.letter;
       come = (
         ranges,
         folds-append (λ f range t. goal.F-step g f range.0 range.1 tt t) c.args.sink.now i.come.0 walked.0 c.characters.sink c.walk_letter.new.sink i.come.1 walked.1,

@@ -7,9 +7,9 @@ use Rattle.collation_elements.specs.Units.{units}
 use Rattle.collation_walk.specs.Walked.{HasWalkedOn}
 use Rattle.collation_walk.proofs.Folds.{folds-append}
 use Rattle.collation_walk.proofs.WalkSteps.{keeps-on}
-use Rattle.collation_finder.specs.Apart.{AreDecomposed}
+use Rattle.collation_finder.specs.Apart.{AreClosedHere, AreDecomposed}
 use Rattle.collation_finder.proofs.CharacterLemmas.{on-none, on-more}
-use Rattle.collation_finder.proofs.PointLetters.{AreClosedHere, closed-one_point, closed-on}
+use Rattle.collation_finder.proofs.PointLetters.{closed-one_point, closed-on}
 use Rattle.collation_finder.proofs.pausing.walk_points.Goals as goal
 
 pub points-init : goal.points-init
@@ -33,7 +33,7 @@ points-preserved g c =
     let p : Point = c.point-point.result in
     let is = c.point-point.ensures in
     let laws = c.laws_of_characters.ensures in
-    let e = c.in-Some.ensures in
+    let e = c.in-Some.ensures.plain in
     let walked = c.walk_letter.ensures.walked in
     let test = c.points-test.true in
     let count = c.len.ensures.len in
@@ -45,7 +45,7 @@ points-preserved g c =
     record {
       within = omega (arith, less);
       callable = c.walk_letter.ensures.callable;
-      right = e.right;
+      right = c.in-Some.ensures.right;
       keeps = keeps-on pattern _ _ _ i.keeps c.walk_letter.ensures.keeps;
       closed = λ each. subst (AreClosedHere table) (sym all) (closed-on table so_far p (i.closed each) (closed-one_point laws.shifted table pattern p c.in-Some.letter (alone each) e.plain e.letter));
       walked = (

@@ -18,7 +18,7 @@ hand_out-requires g c =
 pub returns-clause-ended : goal.returns-clause-ended
 returns-clause-ended g c =
     let called = c.hand_out.ensures.called in
-    let ended = c.finish_text-ended.ensures in
+    let ended = c.finish_text-ended.ensures.ended in
     let ranges = c.as_slice.result.now in
     let from = c.args.part.from in
     let len = c.args.part.len in

@@ -65,7 +65,7 @@ returns-clause-answer g c = λ text compiled.
     let goes_on = subst (λ (t : List ℕ). GoesOn c.in_ok-search.search s t) c.deref.ensures.value c.in_ok-search.ensures.goes_on in
     let on = under_way-on s words (joined c.args.pieces.now) before.0 c.in_ok-search.search goes_on whole in
     let found = c.finish.new.found.items in
-    let end = c.finish.ensures in
+    let end = c.finish.ensures.ended in
     let calls = subst (λ (t : List (ℕ × ℕ)). FoldsTo (λ f range t'. goal.F-step g f range.0 range.1 tt t') c.loop-piece.sink t c.hand_out.new.sink) c.as_slice.ensures.value c.hand_out.ensures.called in (
       before.0 ++ found,
       folds-append (λ f range t. goal.F-step g f range.0 range.1 tt t) c.args.sink.now before.0 found c.loop-piece.sink c.hand_out.new.sink before.1 calls,

@@ -28,7 +28,7 @@ returns-clause-walked g c =
           let said = h.plain plain in
           walked-on c.weighers_go_on.ensures c.laws_of_points.ensures.shifted table pattern c.args.matcher.now (record { weigher = c.restore-matcher.result; walk = walk }) c.args.start cs letter range
           (plain-known letter.role plain) (ap is_mark plain) h made
-          (λ items ranges keys k on.
+          (λ keys k items ranges on.
           subst (λ r. WalksOver pattern.keys (items ++ letter_items r c.args.start keys) (ranges ++ range) walk) (sym plain)
-          (c.take_plain-range.ensures.walks items ranges keys (subst (λ l. AreLastSymbols pattern.keys keys l) (plain-listed c.laws_of_symbols.ensures.listed letter.symbols said.1.0 said.1.1) k) on)),
+          (c.take_plain-range.ensures.walks keys (subst (λ l. AreLastSymbols pattern.keys keys l) (plain-listed c.laws_of_symbols.ensures.listed letter.symbols said.1.0 said.1.1) k) items ranges on)),
     )

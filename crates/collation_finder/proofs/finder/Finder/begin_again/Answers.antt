@@ -10,15 +10,16 @@ pub invariant_of-self : goal.invariant_of-self
 unfolding is_closed has_short_runs
 invariant_of-self c =
     let none = ap (λ w. w.points) c.clear.ensures.empty in
+    let room = ap (λ w. w.capacity) c.clear.ensures.empty in
+    let fits = c.args.self.now.short in
+    let few = c.args.self.now.undecided in
     record {
-      capacity = ap (λ w. w.capacity) c.clear.ensures.empty ∙ c.args.self.now.capacity;
-      short = c.args.self.now.short;
-      undecided = let zero = ap length none in omega (arith, zero);
+      short = omega (arith, room, fits);
+      undecided = let zero = ap length none in omega (arith, zero, room, few);
       closed = ap is_closed none;
       sound = All-same IsSoundPoint _ _ none (All-nil IsSoundPoint);
       short_runs = ap (λ ps. has_short_runs 0 (code_points ps)) none;
       state = omega (arith, c.begin_again.ensures.state);
-      room = c.begin_again.ensures.room ∙ c.args.self.now.room;
     }
 
 pub returns-clause-stands : goal.returns-clause-stands
@@ -41,3 +42,13 @@ returns-clause-stands c = λ table.
         kept = All-same (Contains first) _ _ none (All-nil (Contains first));
       };
     }
+
+pub returns-clause-goes_on : goal.returns-clause-goes_on
+returns-clause-goes_on c = record {
+  open_text = ap (λ w. w.has_ended) c.clear.ensures.empty;
+  setup = record {
+    longest = ap (λ w. w.capacity) c.clear.ensures.empty;
+    pattern_len = c.begin_again.ensures.room;
+    select = c.begin_again.ensures.select;
+  };
+}

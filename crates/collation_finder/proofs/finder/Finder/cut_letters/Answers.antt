@@ -36,15 +36,17 @@ invariant_of-self-2 g c =
     let n = c.walk_points-len.result in
     let is = left-of old.window.points c.as_slice.result.now c.move_points.new.window.points c.push_points.new.window.points n (c.as_slice.ensures.value ∙ c.move_points.ensures.points) (ap (λ w. w.points) c.move_points.ensures.emptied)
     (ap (λ w. w.points) c.push_points.ensures.points) in
+    let room = ap (λ w. w.capacity) c.push_points.ensures.points ∙ ap (λ w. w.capacity) c.move_points.ensures.emptied in
+    let fits = old.short in
+    let keeps = c.walk_points-len.ensures.keeps in
+    let made = c.requires.ready.made in
     record {
-      capacity = ap (λ w. w.capacity) c.push_points.ensures.points ∙ ap (λ w. w.capacity) c.move_points.ensures.emptied ∙ old.capacity;
-      short = old.short;
-      undecided = let count = ap length is in let fewer = length-drop n old.window.points in let few = old.undecided in omega (arith, count, fewer, few);
+      short = omega (arith, room, fits);
+      undecided = let count = ap length is in let fewer = length-drop n old.window.points in let few = old.undecided in omega (arith, count, fewer, few, room);
       closed = ap is_closed is ∙ is_closed-drop n old.window.points old.closed;
       sound = All-same IsSoundPoint _ _ is (All-drop IsSoundPoint n old.window.points old.sound);
       short_runs = ap (λ (ps : List Point). has_short_runs 0 (code_points ps)) is ∙ short-drop 0 n old.window.points old.short_runs;
-      state = let state = c.walk_points-len.ensures.keeps.state in omega (arith, state, c.requires.made.pattern_len);
-      room = c.walk_points-len.ensures.keeps.room ∙ old.room;
+      state = omega (arith, keeps.state, keeps.room, made.pattern_len);
     }
 
 -- each point of the window is its own decomposition, as those of a text are
@@ -69,7 +71,7 @@ returns-clause-cut g c =
           let d = decomposed c.laws_of_reordering.ensures.others c.laws_of_points.ensures.decomposed table pattern old taken handed h in record {
             points = h.points;
             reordered = h.reordered;
-            matched = matched-cut table pattern old.window c.push_points.new.window old.matcher c.walk_points-len.new.matcher n h.points handed e.walked.0 c.requires.open is (e.closed d) (e.walked.2 d) h.matched;
+            matched = matched-cut table pattern old.window c.push_points.new.window old.matcher c.walk_points-len.new.matcher n h.points handed e.walked.0 c.requires.ready.open_text is (e.closed d) (e.walked.2 d) h.matched;
           },
     )
 
@@ -87,7 +89,7 @@ returns-then-len-eq0-clause-cut g c =
           let d = decomposed c.laws_of_reordering.ensures.others c.laws_of_points.ensures.decomposed table pattern old taken handed h in record {
             points = h.points;
             reordered = h.reordered;
-            matched = matched-cut table pattern old.window old.window old.matcher c.walk_points-len.new.matcher n h.points handed e.walked.0 c.requires.open is (e.closed d) (e.walked.2 d) h.matched;
+            matched = matched-cut table pattern old.window old.window old.matcher c.walk_points-len.new.matcher n h.points handed e.walked.0 c.requires.ready.open_text is (e.closed d) (e.walked.2 d) h.matched;
           },
     )
 
@@ -96,15 +98,18 @@ pub invariant_of-self-then-len : goal.invariant_of-self-then-len
 invariant_of-self-then-len g c =
     let old = c.args.self.now in
     let none = ap (λ w. w.points) c.clear.ensures.empty in
+    let room = ap (λ w. w.capacity) c.clear.ensures.empty in
+    let fits = old.short in
+    let few = old.undecided in
+    let keeps = c.walk_points-len.ensures.keeps in
+    let made = c.requires.ready.made in
     record {
-      capacity = ap (λ w. w.capacity) c.clear.ensures.empty ∙ old.capacity;
-      short = old.short;
-      undecided = let few = ap length none in omega (arith, few);
+      short = omega (arith, room, fits);
+      undecided = let zero = ap length none in omega (arith, zero, room, few);
       closed = ap is_closed none ∙ closed-none;
       sound = All-same IsSoundPoint _ _ none (λ k d less. absurd (omega (arith, less)));
       short_runs = ap (λ (ps : List Point). has_short_runs 0 (code_points ps)) none ∙ short-none;
-      state = let state = c.walk_points-len.ensures.keeps.state in omega (arith, state, c.requires.made.pattern_len);
-      room = c.walk_points-len.ensures.keeps.room ∙ old.room;
+      state = omega (arith, keeps.state, keeps.room, made.pattern_len);
     }
 
 pub returns-then-len-clause-cut : goal.returns-then-len-clause-cut
@@ -123,6 +128,6 @@ returns-then-len-clause-cut g c =
           let d = decomposed c.laws_of_reordering.ensures.others c.laws_of_points.ensures.decomposed table pattern old taken handed h in record {
             points = h.points;
             reordered = h.reordered;
-            matched = matched-cut table pattern old.window c.clear.new.self old.matcher c.walk_points-len.new.matcher n h.points handed e.walked.0 c.requires.open is (e.closed d) (e.walked.2 d) h.matched;
+            matched = matched-cut table pattern old.window c.clear.new.self old.matcher c.walk_points-len.new.matcher n h.points handed e.walked.0 c.requires.ready.open_text is (e.closed d) (e.walked.2 d) h.matched;
           },
     )

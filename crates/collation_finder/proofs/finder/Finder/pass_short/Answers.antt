@@ -29,7 +29,7 @@ overflow_add-result g c =
     let count = held.2 in
     let long = c.as_slice-text.ensures.value ∙ held.3 in
     let sum = length-append held.0 c.args.front.piece.now in
-    let passes = c.in-Some.ensures.passes in
+    let passes = c.in-Some.ensures.skips.passes in
     let within = passes.within in
     let order = passes.order in
     omega (arith, few, count, ap length long, sum, within, order, c.requires.fits)
@@ -47,11 +47,14 @@ returns-clause-passes g c =
     let pattern = c.args.query.now.pattern.now in
     let finder = c.args.self.now in
     let held = c.in_ok-held.ensures.joined in
-    let skip = c.in-Some.ensures in
+    let skip = c.in-Some.ensures.skips in
     let limit = c.saturating_add-reach.result in
     let far : limit ≤ c.args.front.reach + c.in_ok-held.held = omega (arith, c.saturating_add-reach.ensures) in
     let idle = c.is_idle.ensures in
     let yes = c.if-not-is_idle.false in
-    passes-short laws table pattern finder c.args.front.piece.now c.as_slice-text.result.now held.0 c.args.front.offset c.args.front.reach limit c.in_ok-held.held (c.args.front.offset - c.in_ok-held.held) c.in_ok-first.first c.letter-letter.result c.in-Some.passed
-    held.1 held.2 (c.as_slice-text.ensures.value ∙ held.3) refl far c.if-passed-held.false (not-false c.letter-letter.result.is_apart c.if-not-letter.false) c.letter-letter.ensures.letter (idle.state yes) (idle.flag yes)
-    skip.begun.0 skip.begun.1 skip.passes skip.apart skip.walked
+    record {
+      passes = passes-short laws table pattern finder c.args.front.piece.now c.as_slice-text.result.now held.0 c.args.front.offset c.args.front.reach limit c.in_ok-held.held (c.args.front.offset - c.in_ok-held.held) c.in_ok-first.first c.letter-letter.result c.in-Some.passed
+          held.1 held.2 (c.as_slice-text.ensures.value ∙ held.3) refl far c.if-passed-held.false (not-false c.letter-letter.result.is_apart c.if-not-letter.false) c.letter-letter.ensures.letter (idle.state yes) (idle.flag yes)
+          skip.begun.0 skip.begun.1 skip.passes skip.apart skip.walked;
+      letter = skip.passes.letter;
+    }

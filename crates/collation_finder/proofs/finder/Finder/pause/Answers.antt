@@ -41,9 +41,9 @@ returns-clause-paused g c =
       folds-append (λ f range t. goal.F-step g f range.0 range.1 tt t) c.args.sink.now cut.0 last c.cut_letters.new.sink c.hand_out.new.sink cut.1 calls,
       λ taken handed h.
           let there = cut.2 taken handed h in record {
-            walked = subst (λ (t : List (ℕ × ℕ)). HasWalked table pattern c.end.new.self.matcher (units table (points taken)) t) (append_assoc handed cut.0 last) (c.end.ensures.walked taken (handed ++ cut.0) there);
+            walked = subst (λ (t : List (ℕ × ℕ)). HasWalked table pattern c.end.new.self.matcher (units table (points taken)) t) (append_assoc handed cut.0 last) (c.end.ensures.ended.walked taken (handed ++ cut.0) there);
             none_waits = c.end.ensures.none_waits;
             none_left = ap (λ w. w.points) c.clear-2.ensures.empty;
-            good = c.end.ensures.good taken (handed ++ cut.0) there;
+            good = c.end.ensures.ended.good taken (handed ++ cut.0) there;
           },
     )

@@ -1,14 +1,18 @@
 use Rattle.std.specs.Str.{chars}
-use Rattle.std.proofs.Common.{◌∙◌, ℕ, List, [], ◌++◌, take, refl, sym, ap, subst, append_assoc}
+use Rattle.std.proofs.Common.{◌≡◌, ◌∙◌, ℕ, true, List, [], ◌++◌, take, refl, sym, ap, subst, arith, append_assoc}
 use Rattle.std.proofs.lemmas.List.{append-nil}
-use Rattle.std.proofs.lemmas.Str.{chars-nil}
-use Rattle.nfd_points.specs.declared.points.Point.{Point}
-use Rattle.collation_table.specs.Table.{TableMap}
-use Rattle.collation_finder.specs.Apart.{IsPausedBefore}
+use Rattle.std.proofs.lemmas.Str.{IsUtf8-nil, chars-nil}
+use Rattle.nfd_points.specs.Points.{byte_len, points_of, begins_with_starter}
 use Rattle.collation_finder.specs.Early.{IsCutUpTo}
 use Rattle.collation_finder.specs.Finding.{FinderStandsFor}
+use Rattle.collation_finder.specs.Taking.{StandsPaused}
 use Rattle.collation_walk.proofs.Folds.{folds-append}
+use Rattle.collation_finder.proofs.finder.Finder.take_to_reach.Given as given
+use Rattle.collation_finder.proofs.finder.Finder.take_to_reach.Goals.{After-go_on}
 use Rattle.collation_finder.proofs.finder.Finder.take_to_reach.Goals as goal
+
+no_more : (taken : List ℕ) → taken ≡ taken ++ chars []
+no_more taken = sym (ap (λ (cs : List ℕ). taken ++ cs) chars-nil ∙ append-nil taken)
 
 pub returns-in_default-first_character-clause-taken : goal.returns-in_default-first_character-clause-taken
 returns-in_default-first_character-clause-taken g c =
@@ -16,9 +20,15 @@ returns-in_default-first_character-clause-taken g c =
     let pattern = c.args.query.now.pattern.now in (
       [],
       refl,
-      λ taken handed h at.
-          subst (λ cs. FinderStandsFor table pattern c.args.self.now cs (handed ++ [])) (sym (ap (λ (cs : List ℕ). taken ++ cs) chars-nil ∙ append-nil taken))
-          (subst (λ (t : List (ℕ × ℕ)). FinderStandsFor table pattern c.args.self.now taken t) (sym (append-nil handed)) h),
+      record {
+        stands = λ taken handed h at.
+            subst (λ cs. FinderStandsFor table pattern c.args.self.now cs (handed ++ [])) (no_more taken)
+            (subst (λ (t : List (ℕ × ℕ)). FinderStandsFor table pattern c.args.self.now taken t) (sym (append-nil handed)) h);
+        left = λ place taken handed h at. subst (λ cs. IsCutUpTo table place cs c.args.self.now.window.points) (no_more taken) h.1.cut;
+        within = omega arith;
+        text = IsUtf8-nil;
+        goes_on = record { open_text = c.requires.ready.open_text; setup = record { longest = refl; pattern_len = refl; select = refl } };
+      },
     )
 
 pub returns-then-not-can_begin-clause-taken : goal.returns-then-not-can_begin-clause-taken
@@ -27,48 +37,72 @@ returns-then-not-can_begin-clause-taken g c =
     let pattern = c.args.query.now.pattern.now in (
       [],
       refl,
-      λ taken handed h at.
-          subst (λ cs. FinderStandsFor table pattern c.args.self.now cs (handed ++ [])) (sym (ap (λ (cs : List ℕ). taken ++ cs) chars-nil ∙ append-nil taken))
-          (subst (λ (t : List (ℕ × ℕ)). FinderStandsFor table pattern c.args.self.now taken t) (sym (append-nil handed)) h),
+      record {
+        stands = λ taken handed h at.
+            subst (λ cs. FinderStandsFor table pattern c.args.self.now cs (handed ++ [])) (no_more taken)
+            (subst (λ (t : List (ℕ × ℕ)). FinderStandsFor table pattern c.args.self.now taken t) (sym (append-nil handed)) h);
+        left = λ place taken handed h at. subst (λ cs. IsCutUpTo table place cs c.args.self.now.window.points) (no_more taken) h.1.cut;
+        within = omega arith;
+        text = IsUtf8-nil;
+        goes_on = record { open_text = c.requires.ready.open_text; setup = record { longest = refl; pattern_len = refl; select = refl } };
+      },
     )
 
-pub go_on-requires-clause-begins : goal.go_on-requires-clause-begins
-go_on-requires-clause-begins g c = (c.can_begin.ensures.begins c.if-not-can_begin.false).starter
+pub go_on-requires-clause-ready : goal.go_on-requires-clause-ready
+go_on-requires-clause-ready g c =
+    let on = c.pause.ensures.goes_on in
+    record {
+      open_text = on.open_text;
+      made = record {
+        longest = on.setup.longest ∙ c.requires.ready.made.longest;
+        pattern_len = on.setup.pattern_len ∙ c.requires.ready.made.pattern_len;
+      };
+    }
+
+pub go_on-requires-clause-first : goal.go_on-requires-clause-first
+go_on-requires-clause-first g c = record {
+  front = c.in-Some-first_character.ensures.some;
+  begins = (c.can_begin.ensures.begins c.if-not-can_begin.false).starter;
+  letter = c.letter-letter.ensures.letter;
+}
+
+-- the pause before the first character
+paused : (g : given.Over) (c : After-go_on g) (taken : List ℕ) (handed : List (ℕ × ℕ)) → FinderStandsFor (g.W.Weights.table c.args.query.now.table.now) c.args.query.now.pattern.now c.args.self.now taken handed →
+    c.args.front.offset ≡ byte_len taken →
+    StandsPaused (g.W.Weights.table c.args.query.now.table.now) c.args.query.now.pattern.now c.pause.new.self.reorder c.pause.new.self.window c.pause.new.self.matcher c.in-Some-first_character.first taken (handed ++ c.pause.ensures.paused.0)
+paused g c taken handed h place =
+    let first = c.can_begin.ensures.begins c.if-not-can_begin.false in
+    record {
+      paused = record { paused = c.pause.ensures.paused.2 taken handed h; ends = first.ends taken place };
+      starter = subst (λ k. begins_with_starter (points_of k c.in-Some-first_character.first) ≡ true) place first.starter;
+    }
 
 pub returns-clause-taken : goal.returns-clause-taken
 returns-clause-taken g c =
+    let here = (goal.at.returns-clause-taken g c).After-go_on in
     let table = g.W.Weights.table c.args.query.now.table.now in
     let pattern = c.args.query.now.pattern.now in
     let held = c.pause.ensures.paused in
     let on = c.go_on.ensures.taken in
-    let before = c.pause.new.self in
+    let more = on.2 in
+    let before = c.pause.ensures.goes_on.setup in
     let now = c.go_on.new.self in (
       held.0 ++ on.0,
       folds-append (λ f range t. goal.F-step g f range.0 range.1 tt t) c.args.sink.now held.0 on.0 c.pause.new.sink c.go_on.new.sink held.1 on.1,
-      λ taken handed h place.
-          let ends = (c.can_begin.ensures.begins c.if-not-can_begin.false).ends taken place in
-          let paused : IsPausedBefore table pattern before.reorder before.window before.matcher taken (handed ++ held.0) c.in-Some-first_character.first = record { paused = held.2 taken handed h; ends = ends } in
-          subst (λ (t : List (ℕ × ℕ)). FinderStandsFor table pattern now (taken ++ chars (take c.go_on.result c.args.front.piece.now)) t) (append_assoc handed held.0 on.0)
-          (on.2 taken (handed ++ held.0) paused place),
+      record {
+        stands = λ taken handed h place.
+            subst (λ (t : List (ℕ × ℕ)). FinderStandsFor table pattern now (taken ++ chars (take c.go_on.result c.args.front.piece.now)) t) (append_assoc handed held.0 on.0)
+            (more.stands taken (handed ++ held.0) (paused g here taken handed h place) place);
+        left = λ at taken handed h place. more.left at taken (handed ++ held.0) (h.0, paused g here taken handed h.1.stands place) place;
+        within = more.within;
+        text = more.text;
+        goes_on = record {
+          open_text = more.goes_on.open_text;
+          setup = record {
+            longest = more.goes_on.setup.longest ∙ before.longest;
+            pattern_len = more.goes_on.setup.pattern_len ∙ before.pattern_len;
+            select = more.goes_on.setup.select ∙ before.select;
+          };
+        };
+      },
     )
-
--- ---- where units were cut early
-
-none-taken : (table : TableMap) (place : ℕ) (taken : List ℕ) (left : List Point) → IsCutUpTo table place taken left → IsCutUpTo table place (taken ++ chars []) left
-none-taken table place taken left h = subst (λ cs. IsCutUpTo table place cs left) (sym (ap (λ (cs : List ℕ). taken ++ cs) chars-nil ∙ append-nil taken)) h
-
-pub returns-in_default-first_character-clause-left : goal.returns-in_default-first_character-clause-left
-returns-in_default-first_character-clause-left g c = λ place taken handed h at reach before. none-taken (g.W.Weights.table c.args.query.now.table.now) place taken c.args.self.now.window.points before
-
-pub returns-then-not-can_begin-clause-left : goal.returns-then-not-can_begin-clause-left
-returns-then-not-can_begin-clause-left g c = λ place taken handed h at reach before. none-taken (g.W.Weights.table c.args.query.now.table.now) place taken c.args.self.now.window.points before
-
-pub returns-clause-left : goal.returns-clause-left
-returns-clause-left g c = λ place taken handed h here reach before.
-    let table = g.W.Weights.table c.args.query.now.table.now in
-    let pattern = c.args.query.now.pattern.now in
-    let held = c.pause.ensures.paused in
-    let paused = c.pause.new.self in
-    let ends = (c.can_begin.ensures.begins c.if-not-can_begin.false).ends taken here in
-    let first : IsPausedBefore table pattern paused.reorder paused.window paused.matcher taken (handed ++ held.0) c.in-Some-first_character.first = record { paused = held.2 taken handed h; ends = ends } in
-    c.go_on.ensures.left place taken (handed ++ held.0) first here reach

@@ -18,7 +18,7 @@ parts-init g c =
     record {
       within = omega arith;
       taken = takes-append c.args.self.now now now 0 0 c.reach-reach.result [] [] (Ok tt) [] [] (λ some. absurd (omega (arith, some))) (λ some. absurd (omega (arith, some)))
-          first (takes-none now 0 (λ f told. none_or_some now.fault f first.none told));
+          first (takes-none now 0 (λ f told. none_or_some now.fault f (first 0).none told));
     }
 
 -- ---- letters
@@ -109,3 +109,20 @@ returns-in-Err-clause-first g c = λ p u later compiled h.
     let here = (goal.at.returns-in-Err-clause-first g c).After-range_or_fault in
     fault-within c.args.self.now c.step_on-stepped.new.self c.reach-reach.result p u c.args.piece.now later ((c.parts.at + c.letters_to_first-len.result.0) + 1) c.step_on-stepped.result c.step_on-stepped.new.found.items c.in-Err.fault
     (byte g here) h compiled (given_by_byte g here ∙ c.in-Err.is)
+
+-- ---- what is sought stays, and no fault was reported so far
+
+pub letters_to_first-len-requires : goal.letters_to_first-len-requires
+letters_to_first-len-requires g c = record { none = (c.parts.invariant.taken 0).none }
+
+pub returns-in-Some-clause-sought : goal.returns-in-Some-clause-sought
+returns-in-Some-clause-sought g c = (letters g (goal.at.returns-in-Some-clause-sought g c).After-letters_to_first-len 0).same_sought
+
+pub returns-then-at-piece-clause-sought : goal.returns-then-at-piece-clause-sought
+returns-then-at-piece-clause-sought g c = (letters g (goal.at.returns-then-at-piece-clause-sought g c).After-letters_to_first-len 0).same_sought
+
+pub returns-in-Ok-Some-clause-sought : goal.returns-in-Ok-Some-clause-sought
+returns-in-Ok-Some-clause-sought g c = (byte g (goal.at.returns-in-Ok-Some-clause-sought g c).After-range_or_fault 0).same_sought
+
+pub returns-in-Err-clause-sought : goal.returns-in-Err-clause-sought
+returns-in-Err-clause-sought g c = (byte g (goal.at.returns-in-Err-clause-sought g c).After-range_or_fault 0).same_sought

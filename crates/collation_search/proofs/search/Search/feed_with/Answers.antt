@@ -35,14 +35,14 @@ returns-in-Err-clause-fed g c =
 
 pub loop-at-init : goal.loop-at-init
 loop-at-init g c =
-    let first = c.take_letters-at.ensures.taken in
+    let first = c.feed_letters-at.ensures.taken in
     record {
-      callable = c.take_letters-at.ensures.callable;
-      within = c.take_letters-at.ensures.within;
+      callable = c.feed_letters-at.ensures.callable;
+      within = c.feed_letters-at.ensures.within;
       taken = (
         first.0,
         first.1,
-        takes-append c.args.self.now c.reach-reach.new.self c.take_letters-at.new.self 0 c.reach-reach.result c.reach-reach.result [] (take c.take_letters-at.result c.args.piece.now) (Ok tt) [] first.0
+        takes-append c.args.self.now c.reach-reach.new.self c.feed_letters-at.new.self 0 c.reach-reach.result c.reach-reach.result [] (take c.feed_letters-at.result c.args.piece.now) (Ok tt) [] first.0
             (λ some. omega arith) (λ some. omega arith) c.reach-reach.ensures.taken first.2,
       );
     }
@@ -58,9 +58,9 @@ loop-at-preserved g c =
     let reach = c.reach-reach.result in
     let now = c.step_on.new.self in
     let later = c.saturating_sub.result in
-    let n = c.take_letters-at-in-loop-at.result in
-    let run = c.take_letters-at-in-loop-at.ensures.taken in
-    let last = c.take_letters-at-in-loop-at.new.self in
+    let n = c.feed_letters-at-in-loop-at.result in
+    let run = c.feed_letters-at-in-loop-at.ensures.taken in
+    let last = c.feed_letters-at-in-loop-at.new.self in
     let others = take_rest piece (i + 1) in
     let taken = subst (λ (t : List ℕ). Takes now later (take n t) (Ok tt) run.0 last) others run.2 in
     let both = subst (λ t. Takes c.args.self.now reach t (Ok tt) (before.0 ++ found) now) (sym (take_more piece i 0 c.loop-at-test.true))
@@ -71,11 +71,11 @@ loop-at-preserved g c =
     let calls = subst (λ (t : List (ℕ × ℕ)). FoldsTo (λ f range t'. goal.F-step g f range.0 range.1 tt t') c.loop-at.sink t c.hand_out.new.sink) c.as_slice.ensures.value c.hand_out.ensures.called in
     let so_far = folds-append (λ f range t. goal.F-step g f range.0 range.1 tt t) c.args.sink.now before.0 found c.loop-at.sink c.hand_out.new.sink before.1 calls in
     record {
-      callable = c.take_letters-at-in-loop-at.ensures.callable;
-      within = let left = ap length others ∙ length-drop (i + 1) piece in let few = c.take_letters-at-in-loop-at.ensures.within in let less = c.loop-at-test.true in omega (arith, left, few, less);
+      callable = c.feed_letters-at-in-loop-at.ensures.callable;
+      within = let left = ap length others ∙ length-drop (i + 1) piece in let few = c.feed_letters-at-in-loop-at.ensures.within in let less = c.loop-at-test.true in omega (arith, left, few, less);
       taken = (
         (before.0 ++ found) ++ run.0,
-        folds-append (λ f range t. goal.F-step g f range.0 range.1 tt t) c.args.sink.now (before.0 ++ found) run.0 c.hand_out.new.sink c.take_letters-at-in-loop-at.new.sink so_far run.1,
+        folds-append (λ f range t. goal.F-step g f range.0 range.1 tt t) c.args.sink.now (before.0 ++ found) run.0 c.hand_out.new.sink c.feed_letters-at-in-loop-at.new.sink so_far run.1,
         subst (λ t. Takes c.args.self.now reach t (Ok tt) ((before.0 ++ found) ++ run.0) last) (sym (take-add (i + 1) n piece)) all,
       );
     }
@@ -90,3 +90,11 @@ returns-clause-fed g c =
       feeds-of (state_laws c.decided_units_stay.ensures.begin c.laws_of_reordering.ensures.last c.laws_of_reordering.ensures.others) c.laws_of_decompositions.ensures.short c.decided_units_stay.ensures.early
           c.args.self.now c.loop-at.self reach c.args.piece.now (Ok tt) before.0 c.reach-reach.ensures.enough (subst (λ t. Takes c.args.self.now reach t (Ok tt) before.0 c.loop-at.self) all before.2),
     )
+
+-- no fault was reported so far
+
+pub feed_letters-at-requires-clause-none : goal.feed_letters-at-requires-clause-none
+feed_letters-at-requires-clause-none g c = (c.reach-reach.ensures.taken 0).none
+
+pub feed_letters-at-requires-in-loop-at-clause-none : goal.feed_letters-at-requires-in-loop-at-clause-none
+feed_letters-at-requires-in-loop-at-clause-none g c = (c.in-Ok.ensures.takes 0).none

@@ -60,7 +60,7 @@ pub returns-clause-first : goal.returns-clause-first
 returns-clause-first g c = λ p compiled.
     let i = c.loop-rest.invariant in
     let text = c.args.text.now in
-    let ended = c.end_text-ended.ensures in
+    let ended = c.end_text-ended.ensures.ended in
     let found = c.end_text-ended.new.found.items in
     let none : c.loop-rest.rest.now ≡ [] = nil_from_length c.loop-rest.rest.now (eqb-true (length c.loop-rest.rest.now) 0 (sym c.is_empty.ensures ∙ c.loop-rest-test.false)) in
     let all : i.taken.0 ≡ text = sym (i.taken.1 ∙ ap (λ t. i.taken.0 ++ t) none ∙ append-nil i.taken.0) in

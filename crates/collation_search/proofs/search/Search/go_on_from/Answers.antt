@@ -11,6 +11,7 @@ use Rattle.collation_states.specs.Reading.{state_in}
 use Rattle.collation_search.specs.Resuming.{IsRestored}
 use Rattle.collation_search.specs.Search.{sought}
 use Rattle.collation_search.proofs.SavedState.{SavedLaws}
+use Rattle.collation_search.proofs.FinderLemmas.{made}
 use Rattle.collation_search.proofs.ResumeLemmas.{new-window, goes-on}
 use Rattle.collation_search.proofs.search.Search.go_on_from.Goals as goal
 
@@ -21,9 +22,9 @@ pub returns-clause-goes_on : goal.returns-clause-goes_on
 returns-clause-goes_on g c = λ words says.
     let s = sought c.args.self.now in
     let old = c.args.self.now in
-    let f = c.go_on_from.ensures in
+    let f = c.go_on_from.ensures.restored in
     let there = c.deref_mut.ensures.value in
-    let room = ap (λ (f : Finder). f.window.capacity) there ∙ old.finder.value.capacity ∙ ap (λ n. n + MOST_GIVEN) (old.longest ∙ old.query.longest) in
+    let room = ap (λ (f : Finder). f.window.capacity) there ∙ (made old).longest in
     let restored : IsRestored s (state_in s.select words) c.go_on_from.new.self = record {
       held = f.held ∙ says.waiting;
       window = f.window ∙ ap₂ (λ (l : List Point) n. let w : Held = record { points = l; capacity = n; has_ended = false } in w) says.window room;
@@ -32,7 +33,7 @@ returns-clause-goes_on g c = λ words says.
       start = f.start ∙ says.start;
       has_keys = f.has_keys ∙ says.has_keys;
       places = f.places ∙ says.places;
-      capacity = f.capacity ∙ ap (λ (x : Finder). x.matcher.walk.places.capacity) there ∙ c.requires.new.found.matched.went.walked.capacity;
+      capacity = f.setup.pattern_len ∙ ap (λ (x : Finder). x.matcher.walk.places.capacity) there ∙ c.requires.new.found.matched.went.walked.capacity;
       select = f.setup.select ∙ ap (λ (x : Finder). x.matcher.walk.select) there;
       last_end = f.last_end ∙ says.last_end;
     } in

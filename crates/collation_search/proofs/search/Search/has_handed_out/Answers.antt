@@ -17,6 +17,7 @@ use Rattle.collation_matches.specs.Selecting.{selected}
 use Rattle.collation_matches.proofs.FewRanges.{answered-rise}
 use Rattle.collation_matches.proofs.LagLaw.{contains-in, in-contains}
 use Rattle.collation_matches.proofs.SelectedInTime.{selected-among, selected-early}
+use Rattle.collation_search.proofs.FinderLemmas.{made}
 use Rattle.collation_search.proofs.StateLemmas.{state_laws, reported-known}
 use Rattle.collation_search.proofs.SearchBegins.{begins-answer, begins-found}
 use Rattle.collation_search.proofs.search.Search.has_handed_out.Goals as goal
@@ -56,7 +57,7 @@ returns-clause-in_time g c = λ text u later handed range compiled h late there.
       goes_on = search.open h.no_fault;
       clusters = λ rest. ap (λ (t : List Item). clusters_from text_begin (t ++ rest)) given ∙ walked.clusters rest;
     } in
-    let few : length search.finder.value.window.points ≤ longest_mapped s.table = omega (arith, search.finder.value.undecided, search.longest, search.query.longest) in
+    let few : length search.finder.value.window.points ≤ longest_mapped s.table = omega (arith, search.finder.value.undecided, (made search).longest) in
     let key = has_key s text compiled h.some_key in
     let raw = (answer s.table s.pattern.strength s.pattern.variable text (u ++ later)).ranges in
     let among = contains-in (selected s.select raw) range there in

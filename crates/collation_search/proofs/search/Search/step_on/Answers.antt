@@ -10,6 +10,7 @@ use Rattle.collation_finder.specs.declared.finder.Finder.{Finder}
 use Rattle.collation_finder.specs.Finding.{FinderStandsFor}
 use Rattle.collation_walk.specs.Walks.{WalksOver}
 use Rattle.collation_search.proofs.FeedLemmas.{takes-byte, takes-good, takes-reported}
+use Rattle.collation_search.proofs.FinderLemmas.{ready}
 use Rattle.collation_search.proofs.SearchAnswers.{answer-at_fault, items_in}
 use Rattle.collation_search.proofs.StateLemmas.{reported-at_fault}
 use Rattle.collation_search.proofs.search.Search.step_on.Goals as goal
@@ -35,7 +36,7 @@ returns-in-Err-clause-takes g c =
     let walked : (place : ℕ) (u : List ℕ) (handed : List (ℕ × ℕ)) → HasTaken c.args.self.now place u handed → WalksOver old.pattern.keys (items_in old (whole u)) (handed ++ c.end.new.found.items) c.end.new.self.matcher.walk =
     λ place u handed h.
     subst (λ (s : Sought). WalksOver s.pattern.keys (items_in s (whole u)) (handed ++ c.end.new.found.items) c.end.new.self.matcher.walk) same
-    (c.end.ensures.ended (chars (whole u)) handed
+    (c.end.ensures.ended.ended (chars (whole u)) handed
     (subst (λ (f : Finder). FinderStandsFor new.table new.pattern f (chars (whole u)) handed) (sym there) (c.in-Err.ensures.kept place u handed h))) in
     takes-byte c.args.self.now _ c.args.byte (Err c.in-Err.fault) c.end.new.found.items
     (λ place u handed h. tt)
@@ -53,6 +54,9 @@ returns-in-Err-clause-takes g c =
     tt
     (search rules)
     (search rules)
+
+pub end-requires-clause-ready : goal.end-requires-clause-ready
+end-requires-clause-ready g c = ready c.take.new.self _ c.deref_mut.ensures.value c.take.ensures.good
 
 pub returns-in-Err-clause-few : goal.returns-in-Err-clause-few
 returns-in-Err-clause-few g c =

@@ -1,5 +1,5 @@
 use Rattle.std.specs.Str.{chars}
-use Rattle.std.proofs.Common.{◌≡◌, ◌<◌, ◌≤◌, ◌∙◌, ℕ, List, [], ◌∷◌, ◌++◌, length, true, Some, sym, ap, subst, arith, refl}
+use Rattle.std.proofs.Common.{◌≡◌, ◌<◌, ◌≤◌, ◌∙◌, ℕ, List, [], ◌∷◌, ◌++◌, length, true, inl, Some, sym, ap, subst, arith, refl}
 use Rattle.std.proofs.lemmas.List.{append-nil}
 use Rattle.utf8_cut.specs.Characters.{characters}
 use Rattle.utf8_cut.specs.State.{StandsFor}
@@ -13,6 +13,7 @@ use Rattle.collation_finder.specs.Finding.{FinderStandsFor}
 use Rattle.collation_search.specs.Early.{IsCutUpTo, Taken}
 use Rattle.collation_matches.proofs.TextCheckLemmas.{fault_by_length, not_open_by_length, open_good, same_codes, still_open, fault_by_code, not_open_by_code, IsIllAfter, ill_after, fault_ill, not_open_ill}
 use Rattle.collation_search.proofs.ByteLemmas.{came, character-at_fault}
+use Rattle.collation_search.proofs.FinderLemmas.{ready}
 use Rattle.collation_search.proofs.search.Search.take.Given.{Over}
 use Rattle.collation_search.proofs.search.Search.take.Goals as goal
 use Rattle.collation_search.proofs.search.Search.take.Goals.{In-Bad}
@@ -82,6 +83,9 @@ returns-in-Bad-clause-closed g c = λ place u more ranges h.
 
 -- ---- a character
 
+pub take-requires-clause-ready : goal.take-requires-clause-ready
+take-requires-clause-ready g c = ready c.args.self.now _ c.deref_mut.ensures.value c.requires.none
+
 pub returns-in-Ok-clause-stands : goal.returns-in-Ok-clause-stands
 returns-in-Ok-clause-stands g c = λ place u ranges h.
     let table = g.W.Weights.table c.args.self.now.query.table.now in
@@ -94,7 +98,7 @@ returns-in-Ok-clause-stands g c = λ place u ranges h.
     let there = sym c.deref_mut.ensures.value in
     let before = subst (λ (f : Finder). FinderStandsFor table pattern f (chars (whole u)) ranges) there h.found in
     let left = subst (λ (f : Finder). IsCutUpTo table place (chars (whole u)) f.window.points) there h.left in
-    let next = c.in-Ok.ensures.stands (chars (whole u)) ranges before known.offset in
+    let next = c.in-Ok.ensures.taken.stands (chars (whole u)) ranges (inl before) known.offset in
     let good = ap point_fault known.codes ∙ next.reordered.good in
     record {
       cut_stands = known.stands;
@@ -102,7 +106,7 @@ returns-in-Ok-clause-stands g c = λ place u ranges h.
       open_bytes = still_open u c.args.byte known.short (sym formed) good;
       no_fault = h.no_fault;
       some_key = h.some_key;
-      left = subst (λ cs. IsCutUpTo table place cs c.take.new.self.window.points) (sym known.codes) (c.in-Ok.ensures.left place (chars (whole u)) ranges before known.offset left);
+      left = subst (λ cs. IsCutUpTo table place cs c.take.new.self.window.points) (sym known.codes) (c.in-Ok.ensures.taken.left place (chars (whole u)) ranges (inl (record { stands = before; cut = left })) known.offset);
     }
 
 pub returns-in-Err-clause-fault : goal.returns-in-Err-clause-fault

@@ -8,7 +8,7 @@ use Rattle.collation_walk.proofs.LetterSteps.{walks-symbols}
 use Rattle.collation_walk.proofs.walk.Walk.take_letter.Goals as goal
 
 pub returns-clause-walks : goal.returns-clause-walks
-returns-clause-walks c = λ items ranges keys k h.
+returns-clause-walks c = λ keys k items ranges h.
     let pattern = c.args.pattern.now.keys in
     let range = option_to_list c.take_start-range.result in
     let begun : List Item = cond (begins_cluster c.args.letter.now.role) (ClusterStart c.args.start ∷ []) [] in

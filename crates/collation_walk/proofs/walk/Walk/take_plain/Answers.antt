@@ -6,7 +6,7 @@ use Rattle.collation_walk.specs.Walks.{WalksOver}
 use Rattle.collation_walk.proofs.walk.Walk.take_plain.Goals as goal
 
 pub returns-clause-walks : goal.returns-clause-walks
-returns-clause-walks c = λ items ranges keys k h.
+returns-clause-walks c = λ keys k items ranges h.
     let found = option_to_list c.take-range.result in
     let begun : List Item = items ++ ClusterStart c.args.start ∷ [] in
     subst (λ (is : List Item). WalksOver c.args.pattern.now.keys is (ranges ++ found) c.take_symbol.new.self)

@@ -8,10 +8,11 @@ use Rattle.collation_finder.specs.Finding.{FinderStandsFor}
 use Rattle.collation_matches.specs.Sought.{Sought}
 use Rattle.collation_search.specs.Early.{IsCutUpTo}
 use Rattle.collation_search.proofs.FeedLemmas.{takes-kept, takes-good}
+use Rattle.collation_search.proofs.FinderLemmas.{ready}
 use Rattle.collation_search.proofs.CharactersTaken.{taken-text, offset-whole}
 use Rattle.collation_search.specs.Feeding.{Takes}
-use Rattle.collation_search.proofs.search.Search.take_letters.Goals as goal
-use Rattle.collation_search.proofs.search.Search.take_letters.Goals.{then-reach-eq0-via-then-reach-eq0, then-reach-eq0-via-else-reach-eq0+then-held_start-count, then-reach-eq0-via-else-reach-eq0+else-held_start-count+then-count-piece}
+use Rattle.collation_search.proofs.search.Search.feed_letters.Goals as goal
+use Rattle.collation_search.proofs.search.Search.feed_letters.Goals.{then-reach-eq0-via-then-reach-eq0, then-reach-eq0-via-else-reach-eq0+then-held_start-count, then-reach-eq0-via-else-reach-eq0+else-held_start-count+then-count-piece}
 
 pub returns-then-reach-eq0-clause-taken : goal.returns-then-reach-eq0-clause-taken
 returns-then-reach-eq0-clause-taken g c =
@@ -23,6 +24,9 @@ returns-then-reach-eq0-clause-taken g c =
     ] in
     ([], refl, same)
 
+pub take_letters-len-requires-clause-ready : goal.take_letters-len-requires-clause-ready
+take_letters-len-requires-clause-ready g c = ready c.args.self.now _ c.deref_mut.ensures.value c.requires.none
+
 pub returns-clause-taken : goal.returns-clause-taken
 returns-clause-taken g c =
     let search = c.args.self.now in
@@ -31,8 +35,9 @@ returns-clause-taken g c =
     let text = take n c.args.piece.now in
     let there = c.deref_mut.ensures.value in
     let taken = c.take_letters-len.ensures.taken in
+    let run = taken.2 in
     let cut = c.take_characters.ensures in
-    let within = c.take_letters-len.ensures.within in
+    let within = run.within in
     let long : n ≡ length text = sym (length-take-le n c.args.piece.now within) in
     let count = c.count-count.ensures.value in
     let some : 0 < c.args.reach = omega (arith, c.if-reach-eq0.false) in
@@ -42,7 +47,7 @@ returns-clause-taken g c =
       taken.0,
       taken.1,
       takes-good search _ c.args.reach text taken.0 c.requires.none c.requires.none
-          (ap (λ select. let s : Sought = record { table = table; pattern = search.query.pattern.now; select = select } in s) (c.take_letters-len.ensures.setup.select ∙ ap (λ (f : Finder). f.matcher.walk.select) there))
+          (ap (λ select. let s : Sought = record { table = table; pattern = search.query.pattern.now; select = select } in s) (run.goes_on.setup.select ∙ ap (λ (f : Finder). f.matcher.walk.select) there))
           (λ place u handed m.
           let h = m.1 in
           let before = subst (λ (f : Finder). FinderStandsFor table search.query.pattern.now f (chars (whole u)) handed) (sym there) h.found in
@@ -51,7 +56,7 @@ returns-clause-taken g c =
           (c.whole_characters_are_the_longest_text.ensures.text u) (c.whole_characters_are_the_longest_text.ensures.within u) in
           taken-text table search.query.pattern.now search.cut c.take_characters.new.self search.finder.value c.take_letters-len.new.self search.fault
           place u text (chars text) n handed taken.0 h long (omega (arith, count, within, c.if-count-piece.false)) cut.state
-          (cut.stands_for u text (characters u) h.cut_stands (sym long) c.take_letters-len.ensures.text)
-          (taken.2 (chars (whole u)) handed before (count ∙ at))
-          (c.take_letters-len.ensures.left place (chars (whole u)) handed before (count ∙ at) (far place u h.cut_stands.count m.0) left)),
+          (cut.stands_for u text (characters u) h.cut_stands (sym long) run.text)
+          (run.stands (chars (whole u)) handed before (count ∙ at))
+          (run.left place (chars (whole u)) handed (subst (λ k. k + c.args.reach ≤ place) (count ∙ at) (far place u h.cut_stands.count m.0), record { stands = before; cut = left }) (count ∙ at))),
     )

@@ -1,0 +1,28 @@
+-- What a finder does before letters.
+use Rattle.std.specs.Prelude.{◌≡◌, ℕ, List, [], ◌∷◌, ◌++◌}
+use Rattle.nfd_points.specs.declared.points.Point.{Point}
+use Rattle.nfd_points.specs.Points.{decomposition, points_from}
+use Rattle.collation_table.specs.Table.{TableMap}
+use Rattle.collation_pattern.specs.Compiled.{Compiled}
+use Rattle.collation_letters.specs.declared.letter.Letter.{Letter}
+use Rattle.collation_letters.specs.declared.letter.Role.TheVariants.{Plain}
+use Rattle.collation_letters.specs.Letters.{IsLetter}
+use Rattle.collation_finder.specs.declared.finder.Finder.{Finder}
+use Rattle.collation_finder.specs.Apart.{IsPaused}
+use Rattle.collation_finder.specs.Finding.{FinderStandsFor}
+
+-- A point is a plain letter, which is that of the point's own code point, all of what that decomposes to.
+pub record IsPlainPoint (table : TableMap) (pattern : Compiled) (point : Point) (l : Letter) : Type 0 where
+  pub alone : decomposition point.cp ≡ point.cp ∷ [] → points_from point.offset (point.cp ∷ []) ≡ point ∷ []
+  pub plain : l.role ≡ Plain
+  pub letter : IsLetter table pattern (point.cp ∷ []) l
+
+-- It pauses behind all that it represents, and the ranges came out.
+abbrev pub Pauses : TableMap → Compiled → Finder → Finder → List (ℕ × ℕ) → Type 0
+Pauses table pattern old new ranges =
+    (taken : List ℕ) (handed : List (ℕ × ℕ)) → FinderStandsFor table pattern old taken handed → IsPaused table pattern new.reorder new.window new.matcher taken (handed ++ ranges)
+
+-- It cuts some units early, and represents what it did.
+abbrev pub CutsSome : TableMap → Compiled → Finder → Finder → List (ℕ × ℕ) → Type 0
+CutsSome table pattern old new ranges =
+    (taken : List ℕ) (handed : List (ℕ × ℕ)) → FinderStandsFor table pattern old taken handed → FinderStandsFor table pattern new taken (handed ++ ranges)
