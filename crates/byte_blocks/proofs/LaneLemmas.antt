@@ -99,7 +99,7 @@ pow-below n k same less = let l = subst (λ j. n < 2 ^ j) same less in omega (ar
 abbrev pub mask_of : List ℕ → ℕ
 mask_of v = mask_l (map (λ x. not (eqb x 0)) v)
 
-pub record HasFirst (v : List ℕ) (first : ℕ) : Type 0 where
+pub record IsFirstNonZero (v : List ℕ) (first : ℕ) : Type 0 where
   pub within : first ≤ 16
   pub zeros : (k : ℕ) → k < first → get_or v k 0 ≡ 0
   pub stop : first < 16 → get_or v first 0 ≢ 0
@@ -111,7 +111,7 @@ unset-lane v k less none =
     ∙ ap (λ b. cond {A = ℕ} b 1 0) (get_or-map (λ x. not (eqb x 0)) v k 0 false less ∙ ap (λ n. not (eqb n 0)) none)
 
 -- the lowest bit of a mask and of one bit behind its lanes
-pub first-lane : (v : List ℕ) → length v ≡ 16 → HasFirst v (trailing_zeros w64 (bit_or (mask_of v) 65536))
+pub first-lane : (v : List ℕ) → length v ≡ 16 → IsFirstNonZero v (trailing_zeros w64 (bit_or (mask_of v) 65536))
 first-lane v long =
     let mask = mask_of v in
     let ms = map (λ x. not (eqb x 0)) v in

@@ -7,7 +7,7 @@ use Rattle.byte_blocks.specs.Lanes.{HasLanes}
 use Rattle.byte_blocks.specs.declared.sets.AsciiSets.{AsciiSets}
 use Rattle.byte_blocks.specs.declared.sets.TheConstants.{COLUMNS}
 use Rattle.byte_blocks.proofs.LaneLemmas.{below-high, below-none, or-left, or-right, or-none}
-use Rattle.byte_blocks.specs.Ascii.{DoesNotPass, EndsAt, HaltsDecide, KeysDecide, MayPass, Passes, PassesBehind}
+use Rattle.byte_blocks.specs.Ascii.{DoesNotPass, PassNoFurther, HaltsDecide, KeysDecide, MayPass, Passes, PassesBehind}
 use Rattle.byte_blocks.specs.Sets.{in_set}
 
 -- A byte that is not in one set is not in another, whose lanes add nothing to those of the first.
@@ -87,7 +87,7 @@ passes-one sets bytes some low going = record {
 }
 
 -- no more bytes pass than those before one that does not
-pub ends : (sets : AsciiSets) (bytes : List ℕ) (m n : ℕ) → 1 ≤ m → m ≤ n → DoesNotPass sets (get_or bytes (m - 1) 0) (get_or bytes m 0) → EndsAt sets bytes n
+pub ends : (sets : AsciiSets) (bytes : List ℕ) (m n : ℕ) → 1 ≤ m → m ≤ n → DoesNotPass sets (get_or bytes (m - 1) 0) (get_or bytes m 0) → PassNoFurther sets bytes n
 ends sets bytes m n some within stop p =
     stop (subst (λ j. PassesBehind sets (get_or bytes (m - 1) 0) (get_or bytes j 0)) (omega (arith, some)) (p.each (m - 1) (omega (arith, some, within))))
 

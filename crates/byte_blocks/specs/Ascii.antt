@@ -27,8 +27,8 @@ pub record Passes (sets : AsciiSets) (bytes : List ℕ) (n : ℕ) : Type 0 where
   pub each : (i : ℕ) → suc i < n → PassesBehind sets (slice_index bytes i) (slice_index bytes (suc i))
 
 -- no more than the first n bytes pass
-abbrev pub EndsAt : AsciiSets → List ℕ → ℕ → Type 0
-EndsAt sets bytes n = Passes sets bytes (suc n) → ⊥
+abbrev pub PassNoFurther : AsciiSets → List ℕ → ℕ → Type 0
+PassNoFurther sets bytes n = Passes sets bytes (suc n) → ⊥
 
 -- keys alone decide which bytes of ASCII pass: none halts, and none may not stand behind one that joins
 pub record KeysDecide (sets : AsciiSets) : Type 0 where

@@ -1,6 +1,6 @@
 //! Text of ASCII sixteen bytes at a time, as long as no two neighbours stop it.
 ghost use Rattle.std.specs.Prelude.{◌≡◌, ◌↔◌, ℕ, ◌+◌, ◌-◌, ◌<◌, ◌≤◌, ◌∷◌, length, true, slice_index};
-ghost use Rattle.byte_blocks.specs.Ascii.{DoesNotPass, EndsAt, HaltsDecide, KeysDecide, MayPass, Passes, PassesBehind};
+ghost use Rattle.byte_blocks.specs.Ascii.{DoesNotPass, PassNoFurther, HaltsDecide, KeysDecide, MayPass, Passes, PassesBehind};
 ghost use Rattle.byte_blocks.specs.Lanes.{HasLanes};
 ghost use Rattle.byte_blocks.specs.Sets.{in_set as in_set_of};
 
@@ -18,7 +18,7 @@ pub fn passed_len(sets: &AsciiSets, piece: &[u8], limit: usize) -> usize
     requires { limit ≤ length piece.now }
     ensures passes { Passes sets.now piece.now result }
     ensures within { result ≤ limit }
-    ensures most { result < limit → EndsAt sets.now piece.now result }
+    ensures most { result < limit → PassNoFurther sets.now piece.now result }
 {
     if limit == 0 || piece[0] >= 128 || in_set(&sets.halt, piece[0]) != 0 {
         return 0;
@@ -44,7 +44,7 @@ fn pass_by_blocks(sets: &AsciiSets, piece: &[u8], from: usize, limit: usize) -> 
     requires passes { Passes sets.now piece.now from }
     ensures passes { Passes sets.now piece.now result }
     ensures within { result ≤ limit }
-    ensures most { result < limit → EndsAt sets.now piece.now result }
+    ensures most { result < limit → PassNoFurther sets.now piece.now result }
 {
     let mut len = from;
     while limit - len >= 16 && block_passes(sets, piece, len) {
@@ -65,7 +65,7 @@ fn pass_by_keys(sets: &AsciiSets, piece: &[u8], limit: usize) -> usize
     requires passes { Passes sets.now piece.now 1 }
     ensures passes { Passes sets.now piece.now result }
     ensures within { (1 ≤ result) × (result ≤ limit) }
-    ensures most { result + 32 ≤ limit → EndsAt sets.now piece.now result }
+    ensures most { result + 32 ≤ limit → PassNoFurther sets.now piece.now result }
 {
     let mut len = 1;
     let mut before = keys_behind(sets, piece[0]);
@@ -88,7 +88,7 @@ fn pass_by_halts(sets: &AsciiSets, piece: &[u8], limit: usize) -> usize
     requires passes { Passes sets.now piece.now 1 }
     ensures passes { Passes sets.now piece.now result }
     ensures within { (1 ≤ result) × (result ≤ limit) }
-    ensures most { result + 32 ≤ limit → EndsAt sets.now piece.now result }
+    ensures most { result + 32 ≤ limit → PassNoFurther sets.now piece.now result }
 {
     let mut len = 1;
     while limit - len >= 32 {
@@ -111,7 +111,7 @@ fn pass_end(sets: &AsciiSets, piece: &[u8], from: usize, limit: usize) -> usize
     requires passes { Passes sets.now piece.now from }
     ensures passes { Passes sets.now piece.now result }
     ensures within { result ≤ limit }
-    ensures most { result < limit → EndsAt sets.now piece.now result }
+    ensures most { result < limit → PassNoFurther sets.now piece.now result }
 {
     if limit < 17 {
         return pass_bytes(sets, piece, from, limit);
@@ -128,7 +128,7 @@ fn pass_bytes(sets: &AsciiSets, piece: &[u8], from: usize, limit: usize) -> usiz
     requires passes { Passes sets.now piece.now from }
     ensures passes { Passes sets.now piece.now result }
     ensures within { result ≤ limit }
-    ensures most { result < limit → EndsAt sets.now piece.now result }
+    ensures most { result < limit → PassNoFurther sets.now piece.now result }
 {
     let mut len = from;
     while len < limit && byte_passes(sets, piece[len - 1], piece[len]) {

@@ -8,7 +8,7 @@ use Rattle.std.proofs.lemmas.List.{drop-drop, get_or-drop, get_or-take}
 use Rattle.std.proofs.lemmas.List.Edits.{between_more, between_none}
 use Rattle.byte_dfa.specs.declared.moves.Cursor.{Cursor}
 use Rattle.byte_dfa.specs.declared.moves.TheConstants.{STOP}
-use Rattle.byte_dfa.specs.Moves.{Accepts, Follows, HasRow, IsCursor, IsSpot, LeadToRows, Leads, row_after}
+use Rattle.byte_dfa.specs.Moves.{Accepts, Follows, HasRow, IsCursor, IsSpot, LeadToRows, MovesLead, row_after}
 
 -- a cell of the column from a byte on
 pub cell-column : (cells : List ℕ) (byte row : ℕ) → row + byte < length cells → slice_index (take (length cells - byte) (drop byte cells)) row ≡ slice_index cells (row + byte)
@@ -50,12 +50,12 @@ joined xs a b c ab bc =
     ap (λ n. take n (drop a xs)) all ∙ take-add (b - a) (c - b) (drop a xs) ∙ ap (λ (l : List ℕ). take (b - a) (drop a xs) ++ take (c - b) l) (drop-drop (b - a) a xs ∙ ap (λ n. drop n xs) mid)
 
 -- no move
-pub leads-none : (cells piece : List ℕ) (at row : ℕ) → IsSpot cells piece at row → Leads cells piece at row at row
+pub leads-none : (cells piece : List ℕ) (at row : ℕ) → IsSpot cells piece at row → MovesLead cells piece at row at row
 leads-none cells piece at row spot = record { on = omega arith; spot = spot; moves = ap (row_after cells row) (between_none piece at) }
 
 -- one move more
-pub leads-more : (cells piece : List ℕ) (at row to mid cell : ℕ) → LeadToRows cells → to < length piece → slice_index piece to < 256 → cell ≡ slice_index cells (mid + slice_index piece to) → cell < STOP → Leads cells piece at row to mid →
-    Leads cells piece at row (to + 1) cell
+pub leads-more : (cells piece : List ℕ) (at row to mid cell : ℕ) → LeadToRows cells → to < length piece → slice_index piece to < 256 → cell ≡ slice_index cells (mid + slice_index piece to) → cell < STOP → MovesLead cells piece at row to mid →
+    MovesLead cells piece at row (to + 1) cell
 leads-more cells piece at row to mid cell rows within byte is below h =
     let on = h.on in
     let here = h.spot.has_row in
@@ -70,11 +70,11 @@ leads-more cells piece at row to mid cell rows within byte is below h =
     }
 
 -- one move
-pub leads-one : (cells piece : List ℕ) (at row cell : ℕ) → LeadToRows cells → at < length piece → slice_index piece at < 256 → cell ≡ slice_index cells (row + slice_index piece at) → cell < STOP → IsSpot cells piece at row → Leads cells piece at row (at + 1) cell
+pub leads-one : (cells piece : List ℕ) (at row cell : ℕ) → LeadToRows cells → at < length piece → slice_index piece at < 256 → cell ≡ slice_index cells (row + slice_index piece at) → cell < STOP → IsSpot cells piece at row → MovesLead cells piece at row (at + 1) cell
 leads-one cells piece at row cell rows within byte is below spot = leads-more cells piece at row at row cell rows within byte is below (leads-none cells piece at row spot)
 
 -- moves after others
-pub leads-on : (cells piece : List ℕ) (at row mid mid_row to to_row : ℕ) → Leads cells piece at row mid mid_row → Leads cells piece mid mid_row to to_row → Leads cells piece at row to to_row
+pub leads-on : (cells piece : List ℕ) (at row mid mid_row to to_row : ℕ) → MovesLead cells piece at row mid mid_row → MovesLead cells piece mid mid_row to to_row → MovesLead cells piece at row to to_row
 leads-on cells piece at row mid mid_row to to_row g h =
     let first = g.on in
     let second = h.on in
@@ -85,13 +85,13 @@ leads-on cells piece at row mid mid_row to to_row g h =
     }
 
 -- the same place and row
-pub leads-same : (cells piece : List ℕ) (at row to to_row other other_row : ℕ) → other ≡ to → other_row ≡ to_row → Leads cells piece at row to to_row → Leads cells piece at row other other_row
-leads-same cells piece at row to to_row other other_row same same_row h = subst (λ n. Leads cells piece at row n other_row) (sym same) (subst (Leads cells piece at row to) (sym same_row) h)
+pub leads-same : (cells piece : List ℕ) (at row to to_row other other_row : ℕ) → other ≡ to → other_row ≡ to_row → MovesLead cells piece at row to to_row → MovesLead cells piece at row other other_row
+leads-same cells piece at row to to_row other other_row same same_row h = subst (λ n. MovesLead cells piece at row n other_row) (sym same) (subst (MovesLead cells piece at row to) (sym same_row) h)
 
 -- the same beginning
-pub leads-from : (cells piece : List ℕ) (at row other other_row to to_row : ℕ) → other ≡ at → other_row ≡ row → Leads cells piece at row to to_row → Leads cells piece other other_row to to_row
+pub leads-from : (cells piece : List ℕ) (at row other other_row to to_row : ℕ) → other ≡ at → other_row ≡ row → MovesLead cells piece at row to to_row → MovesLead cells piece other other_row to to_row
 leads-from cells piece at row other other_row to to_row same same_row h =
-    subst (λ n. Leads cells piece n other_row to to_row) (sym same) (subst (λ n. Leads cells piece at n to to_row) (sym same_row) h)
+    subst (λ n. MovesLead cells piece n other_row to to_row) (sym same) (subst (λ n. MovesLead cells piece at n to to_row) (sym same_row) h)
 
 -- ---- cursors
 
@@ -107,7 +107,7 @@ pub follows-none : (cells piece : List ℕ) (from : Cursor) → IsCursor cells p
 follows-none cells piece from is = record { here = leads-none cells piece from.at from.row is.spot; order = is.order; accepted = inl (refl, refl) }
 
 -- on to a place and row, which are where it last accepted if that changes
-pub follows-moved : (cells piece : List ℕ) (from to : Cursor) (at row : ℕ) → from.accepted_at ≤ from.at → Leads cells piece from.at from.row at row → to.at ≡ at → to.row ≡ row →
+pub follows-moved : (cells piece : List ℕ) (from to : Cursor) (at row : ℕ) → from.accepted_at ≤ from.at → MovesLead cells piece from.at from.row at row → to.at ≡ at → to.row ≡ row →
     (to.accepted_at ≡ from.accepted_at) × (to.accepted_row ≡ from.accepted_row) ⊎ (to.accepted_at ≡ at) × (to.accepted_row ≡ row) × Accepts row → Follows cells piece from to
 follows-moved cells piece from to at row order leads is is_row accepted =
     let on = leads.on in

@@ -28,7 +28,7 @@ pub record IsSpot (cells piece : List ℕ) (at row : ℕ) : Type 0 where
   pub has_row : HasRow cells row
 
 -- moves over the bytes between two places of a piece lead from the one row to the other
-pub record Leads (cells piece : List ℕ) (at row to to_row : ℕ) : Type 0 where
+pub record MovesLead (cells piece : List ℕ) (at row to to_row : ℕ) : Type 0 where
   pub on : at ≤ to
   pub spot : IsSpot cells piece to to_row
   pub moves : row_after cells row (slice_range piece at to) ≡ Some to_row
@@ -45,6 +45,6 @@ HasEnded cells piece cursor =
 
 -- A run came from one cursor to the other by these moves. Where it last accepted is a place on the way, or is as it was.
 pub record Follows (cells piece : List ℕ) (from to : Cursor) : Type 0 where
-  pub here : Leads cells piece from.at from.row to.at to.row
+  pub here : MovesLead cells piece from.at from.row to.at to.row
   pub order : to.accepted_at ≤ to.at
-  pub accepted : (to.accepted_at ≡ from.accepted_at) × (to.accepted_row ≡ from.accepted_row) ⊎ Leads cells piece from.at from.row to.accepted_at to.accepted_row × Accepts to.accepted_row
+  pub accepted : (to.accepted_at ≡ from.accepted_at) × (to.accepted_row ≡ from.accepted_row) ⊎ MovesLead cells piece from.at from.row to.accepted_at to.accepted_row × Accepts to.accepted_row

@@ -2,7 +2,7 @@
 use Rattle.std.specs.Prelude.{ℕ, List}
 use Rattle.byte_dfa.specs.declared.four_runs.Spot.{Spot}
 use Rattle.byte_dfa.specs.declared.four_runs.Spots.{Spots}
-use Rattle.byte_dfa.specs.Moves.{IsSpot, Leads}
+use Rattle.byte_dfa.specs.Moves.{IsSpot, MovesLead}
 
 abbrev pub AreSpots : List ℕ → List ℕ → Spots → Type 0
 AreSpots cells piece spots =
@@ -10,7 +10,7 @@ AreSpots cells piece spots =
     × (IsSpot cells piece spots.second.at spots.second.row × (IsSpot cells piece spots.third.at spots.third.row × IsSpot cells piece spots.fourth.at spots.fourth.row))
 
 abbrev pub HasRun : List ℕ → List ℕ → Spot → Spot → Type 0
-HasRun cells piece from to = Leads cells piece from.at from.row to.at to.row
+HasRun cells piece from to = MovesLead cells piece from.at from.row to.at to.row
 
 abbrev pub HaveRun : List ℕ → List ℕ → Spots → Spots → Type 0
 HaveRun cells piece from to =

@@ -12,7 +12,7 @@ use std::marker::Model;
 pub const ROW: usize = 258;
 
 /// A cell whose move is not known.
-pub const UNKNOWN: u32 = STOP + 1;
+pub const UNKNOWN_CELL: u32 = STOP + 1;
 
 /// Rows of cells, each cell of which is a row of these cells or a stop. Contracts see the list of the cells.
 #[derive(Drop)]
@@ -46,11 +46,11 @@ impl Cells {
 
     /// Adds a row of moves that are not known.
     pub fn add_row(&mut self) -> Result<(), AllocError>
-        ensures ok { OnOk result (self.new ≡ self.old ++ replicate ROW UNKNOWN) }
+        ensures ok { OnOk result (self.new ≡ self.old ++ replicate ROW UNKNOWN_CELL) }
         ensures err { OnErr result (self.new ≡ self.old) }
     {
         let len = self.cells.len() + ROW;
-        self.cells.resize(len, UNKNOWN)
+        self.cells.resize(len, UNKNOWN_CELL)
     }
 
     /// The cell of a byte in a row.

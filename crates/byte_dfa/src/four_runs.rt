@@ -1,6 +1,6 @@
 //! Four runs over a piece at once, three of them begun at a guess (README.md says why, and when what such a run did counts).
 ghost use Rattle.std.specs.Prelude.{◌≡◌, ◌+◌, ◌<◌, ◌≤◌, length, IfSome};
-ghost use Rattle.byte_dfa.specs.Moves.{Follows, HasRow, IsCursor, IsSpot, LeadToRows, Leads};
+ghost use Rattle.byte_dfa.specs.Moves.{Follows, HasRow, IsCursor, IsSpot, LeadToRows, MovesLead};
 ghost use Rattle.byte_dfa.specs.Runs.{AreSpots, HasRun, HaveRun};
 
 use crate::moves::{Cursor, STOP, cell_at, run};
@@ -65,7 +65,7 @@ fn lead_in(cells: &[u32], piece: &[u8], from: Cursor, home: usize) -> Option<Spo
     requires cursor { IsCursor cells.now piece.now from }
     requires home { HasRow cells.now home }
     ensures first { IfSome result (λ to.
-        Leads cells.now piece.now from.at from.row to.first.at to.first.row) }
+        MovesLead cells.now piece.now from.at from.row to.first.at to.first.row) }
     ensures spots { IfSome result (AreSpots cells.now piece.now) }
 {
     let room = piece.len().checked_sub(from.at)?;

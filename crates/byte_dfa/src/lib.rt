@@ -15,6 +15,6 @@ mod four_runs;
 mod moves;
 mod windows;
 
-pub use crate::cells::{Cells, ROW, UNKNOWN};
+pub use crate::cells::{Cells, ROW, UNKNOWN_CELL};
 pub use crate::moves::{Cursor, STOP, come_to};
 pub use crate::windows::Guesses;

@@ -1,6 +1,6 @@
 //! A run by windows of a few bytes, each begun in a guessed row, which counts where the run comes to it (README.md says why).
 ghost use Rattle.std.specs.Prelude.{◌≡◌, ◌⊎◌, ◌+◌, ◌<◌, ◌≤◌, length, slice_index, IfSome};
-ghost use Rattle.byte_dfa.specs.Moves.{Follows, HasEnded, IsCursor, IsSpot, LeadToRows, Leads};
+ghost use Rattle.byte_dfa.specs.Moves.{Follows, HasEnded, IsCursor, IsSpot, LeadToRows, MovesLead};
 
 use crate::moves::{Cursor, STOP, cell_at, come_to, run};
 use std::alloc::Global;
@@ -137,7 +137,7 @@ fn move_window(cells: &[u32], piece: &[u8], at: usize, row: usize) -> Option<usi
     requires cells { LeadToRows cells.now }
     requires spot { IsSpot cells.now piece.now at row }
     requires within { at + WINDOW ≤ length piece.now }
-    ensures leads { IfSome result (Leads cells.now piece.now at row (at + WINDOW)) }
+    ensures leads { IfSome result (MovesLead cells.now piece.now at row (at + WINDOW)) }
     ensures below { IfSome result (λ come. come < STOP) }
 {
     let mut now = row;

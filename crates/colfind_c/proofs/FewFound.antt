@@ -73,14 +73,14 @@ ends_rise all up =
     (rising_minimal all up)
 
 -- what is asked of the ranges of an answer
-abbrev Ends : List (ℕ × ℕ) → ℕ → Type 0
-Ends ranges last = Rising Until ranges × ((r : ℕ × ℕ) → In ranges r → r.1 ≤ last)
+abbrev RiseUpTo : List (ℕ × ℕ) → ℕ → Type 0
+RiseUpTo ranges last = Rising Until ranges × ((r : ℕ × ℕ) → In ranges r → r.1 ≤ last)
 
 module _ (table : TableMap) (strength : Strength) (variable : Variable) (pattern text : List ℕ) where
   abbrev all : List (ℕ × ℕ)
   all = ranges_with_sort_key table strength variable (text_sort_key table strength variable pattern) text
 
-  matches_end : Ends (matches table strength variable pattern text) (length text)
+  matches_end : RiseUpTo (matches table strength variable pattern text) (length text)
   matches_end = (
     ends_rise all (rising_filter Before _ (ranges_among (boundaries table text)) (rising_ranges (boundaries table text) (rising_boundaries table text))),
     λ r h.
@@ -91,14 +91,14 @@ module _ (table : TableMap) (strength : Strength) (variable : Variable) (pattern
         below_offsets (length text) r.1 o.0,
   )
 
-  settled_end : Ends (settled table strength variable pattern text) (length text)
+  settled_end : RiseUpTo (settled table strength variable pattern text) (length text)
   settled_end = (
     rising_filter Until (λ range. nat_lt range.1 (length text)) (matches table strength variable pattern text) matches_end.0,
     λ r h. matches_end.1 r (in_filter (λ range. nat_lt range.1 (length text)) (matches table strength variable pattern text) r h).0,
   )
 
 ends_at : (table : TableMap) (strength : Strength) (variable : Variable) (pattern bytes : List ℕ) (at : Option TextFault) → fault bytes ≡ at →
-    Ends (answer_at table strength variable pattern bytes at).ranges (length bytes)
+    RiseUpTo (answer_at table strength variable pattern bytes at).ranges (length bytes)
 ends_at table strength variable pattern bytes None is = matches_end table strength variable pattern bytes
 ends_at table strength variable pattern bytes (Some at) is =
     let there : good_prefix bytes ≡ take at.offset bytes = ap (prefix_at bytes) is in
@@ -106,7 +106,7 @@ ends_at table strength variable pattern bytes (Some at) is =
     let ends = settled_end table strength variable pattern (good_prefix bytes) in
     (ends.0, λ r h. let le = ends.1 r h in omega (arith, le, short, length-take at.offset bytes))
 
-answer_ends : (table : TableMap) (strength : Strength) (variable : Variable) (pattern bytes : List ℕ) → Ends (answer table strength variable pattern bytes).ranges (length bytes)
+answer_ends : (table : TableMap) (strength : Strength) (variable : Variable) (pattern bytes : List ℕ) → RiseUpTo (answer table strength variable pattern bytes).ranges (length bytes)
 answer_ends table strength variable pattern bytes = ends_at table strength variable pattern bytes (fault bytes) refl
 
 chain_among : (end : ℕ) (ranges : List (ℕ × ℕ)) (range : ℕ × ℕ) → In (chain_after end ranges) range → In ranges range
@@ -135,7 +135,7 @@ selected_rises : (select : Select) (ranges : List (ℕ × ℕ)) → Rising Until
 selected_rises All ranges up = up
 selected_rises Chain ranges up = chain_rises 0 ranges up
 
-answered_ends : (s : Sought) (pattern bytes : List ℕ) → Ends (answer_to s pattern bytes).ranges (length bytes)
+answered_ends : (s : Sought) (pattern bytes : List ℕ) → RiseUpTo (answer_to s pattern bytes).ranges (length bytes)
 answered_ends s pattern bytes =
     let ends = answer_ends s.table s.pattern.strength s.pattern.variable pattern bytes in
     let all = (answer s.table s.pattern.strength s.pattern.variable pattern bytes).ranges in

@@ -17,7 +17,7 @@ use Rattle.collation_search.specs.declared.search.Search.{Search}
 use Rattle.collation_search.specs.Feeding.{Feeds}
 use Rattle.collation_search.specs.Search.{sought, HasSearched, HasReported}
 use Rattle.collation_search.specs.Parking.{HasParked, parked_fault}
-use Rattle.colfind_c.specs.Parkings.{GoesOn, FeedsParked, most_found_late}
+use Rattle.colfind_c.specs.Parkings.{FeedsInParts, FeedsParked, most_found_late}
 use Rattle.colfind_c.proofs.FewFound.{few_found}
 
 -- what follows from a good result
@@ -36,7 +36,7 @@ module _ {W : Type 0} {G : Ghosts W} (s : Sought) (old : Parked) (before : Searc
   taken_up u handed h = into u handed (subst (λ t. HasParked t old u handed) (sym same) h)
 
   pub fed : (new : Parked) (after : Search W G) (piece : List ℕ) (result : Result (Unit {0}) TextFault) (found : List (ℕ × ℕ))
-      → before.fault ≡ parked_fault old → parked_fault new ≡ after.fault → GoesOn before piece result found after
+      → before.fault ≡ parked_fault old → parked_fault new ≡ after.fault → FeedsInParts before piece result found after
       → ((text u : List ℕ) (handed : List (ℕ × ℕ)) → IsCompiledFrom (sought before) text → HasSearched before u handed → length found ≤ length piece + most_found_late)
       → ((u : List ℕ) (handed : List (ℕ × ℕ)) → HasSearched after u handed → HasParked (sought after) new u handed)
       → FeedsParked s old piece result found new
@@ -57,7 +57,7 @@ module _ {W : Type 0} {G : Ghosts W} (before after : Search W G) (short : longes
     → Contains (answer_to (sought before) p (u ++ later)).ranges range → Contains handed range)
     (begins : (p u later : List ℕ) (handed : List (ℕ × ℕ)) → IsCompiledFrom (sought after) p → HasSearched after u handed
     → (rest : List (ℕ × ℕ)) × ((answer_to (sought after) p (u ++ later)).ranges ≡ handed ++ rest)) where
-  pub few_known : (piece : List ℕ) (result : Result (Unit {0}) TextFault) (found : List (ℕ × ℕ)) → GoesOn before piece result found after
+  pub few_known : (piece : List ℕ) (result : Result (Unit {0}) TextFault) (found : List (ℕ × ℕ)) → FeedsInParts before piece result found after
       → (p u : List ℕ) (handed : List (ℕ × ℕ)) → IsCompiledFrom (sought before) p → HasSearched before u handed → length found ≤ length piece + most_found_late
   few_known piece (Ok done) found feeds p u handed compiled h =
       let rest = begins p (u ++ piece) [] (handed ++ found) (subst (λ t. IsCompiledFrom t p) (sym feeds.same_sought) compiled) (feeds.stands u handed h) in
@@ -113,7 +113,7 @@ module _ {W : Type 0} {G : Ghosts W} (old here new : Search W G) (done chunk : L
       (fed.answer text (u ++ done) (later ++ more) (handed ++ found1) (subst (λ t. IsCompiledFrom t text) (sym before.same_sought) compiled) (before.stands u handed h))))
 
   -- a fault ends the piece
-  pub goes_wrong : (f : TextFault) (later piece : List ℕ) → piece ≡ done ++ (chunk ++ later) → Feeds here chunk (Err f) found2 new → GoesOn old piece (Err f) (found1 ++ found2) new
+  pub goes_wrong : (f : TextFault) (later piece : List ℕ) → piece ≡ done ++ (chunk ++ later) → Feeds here chunk (Err f) found2 new → FeedsInParts old piece (Err f) (found1 ++ found2) new
   goes_wrong f later piece is fed = record {
     stands = λ u handed h. tt;
     answer = λ text u more handed compiled h.
@@ -124,7 +124,7 @@ module _ {W : Type 0} {G : Ghosts W} (old here new : Search W G) (done chunk : L
   }
 
   -- the last part ends it
-  pub goes_to_the_end : (result : Result (Unit {0}) TextFault) (piece : List ℕ) → piece ≡ done ++ chunk → Feeds here chunk result found2 new → GoesOn old piece result (found1 ++ found2) new
+  pub goes_to_the_end : (result : Result (Unit {0}) TextFault) (piece : List ℕ) → piece ≡ done ++ chunk → Feeds here chunk result found2 new → FeedsInParts old piece result (found1 ++ found2) new
   goes_to_the_end (Ok a) piece is fed = let gone = goes_further a fed in record {
     stands = λ u handed h. subst (λ xs. HasSearched new (u ++ xs) (handed ++ (found1 ++ found2))) (sym is) (gone.stands u handed h);
     answer = λ text u more handed compiled h. tt;

@@ -5,7 +5,7 @@ use Rattle.std.proofs.lemmas.List.{take-append-drop, drop-drop, length-map, leng
 use Rattle.std.proofs.Math.ListN.{drop_of_length-le}
 use Rattle.colfind_c.specs.declared.queue.Range.{Range}
 use Rattle.colfind_c.specs.declared.queue.Queue.{Queue}
-use Rattle.colfind_c.specs.Queues.{pairs, Waits, HasRoom, Gets}
+use Rattle.colfind_c.specs.Queues.{pairs, Waits, HasRoomFor, Gets}
 
 pub taken_and_left : (items out written : List Range) (at n : ℕ) → length written ≡ n → written ≡ take n (drop at items)
     → pairs (drop at items) ≡ pairs (take n (written ++ drop n out)) ++ pairs (drop (at + n) items)
@@ -40,7 +40,7 @@ all_taken xs ys out n room k size le most fits is =
 pub gets_none : (q : Queue) → Gets q [] q
 gets_none q = record {
   waits = λ before w. subst (Waits q) (sym (append-nil before)) w;
-  room = λ count r. let all : 0 + count ≡ count = omega arith in subst (HasRoom q) all r;
+  room = λ count r. let all : 0 + count ≡ count = omega arith in subst (HasRoomFor q) all r;
 }
 
 pub gets_more : (a b c : Queue) (xs ys : List (ℕ × ℕ)) → Gets a xs b → Gets b ys c → Gets a (xs ++ ys) c
@@ -48,5 +48,5 @@ gets_more a b c xs ys first more = record {
   waits = λ before w. subst (Waits c) (append_assoc before xs ys) (more.waits (before ++ xs) (first.waits before w));
   room = λ count r.
       let all : length (xs ++ ys) + count ≡ length xs + (length ys + count) = omega (arith, length-append xs ys) in
-      more.room count (first.room (length ys + count) (subst (HasRoom a) all r));
+      more.room count (first.room (length ys + count) (subst (HasRoomFor a) all r));
 }

@@ -20,7 +20,7 @@ use Rattle.colfind_c.specs.declared.queue.Range.{Range}
 use Rattle.colfind_c.specs.declared.outcome.Outcome.{Outcome}
 use Rattle.colfind_c.specs.declared.outcome.Outcome.TheVariants.{Good, Table as TableFile, Pattern, Text, State, NoMemory, Partly, WrongHandle, Ended, Short, BadArgument}
 use Rattle.colfind_c.specs.Queries.{table_of, sought_with}
-use Rattle.colfind_c.specs.Queues.{pairs, waiting, HasRoom, Gets}
+use Rattle.colfind_c.specs.Queues.{pairs, waiting, HasRoomFor, Gets}
 use Rattle.colfind_c.specs.Parkings.{FeedsParked, FinishesParked, SearchesPart, most_found_late}
 use Rattle.collation_matches.specs.Answer.{Answer}
 use Rattle.collation_matches.specs.Offsets.{answer_from}
@@ -159,14 +159,14 @@ module _ (s : Session) (p : Parked) (q : Query) (t : Table) (is : s.parked ≡ S
   module _ (queue1 queue2 : Queue) (found : List (ℕ × ℕ)) (kept : (queue1.lost ≡ s.queue.lost) × (waiting queue1 ≡ waiting s.queue))
       (gets : Gets queue1 found queue2) where
     -- all found room
-    pub all_kept : (count : ℕ) → (s.queue.lost ≡ false → HasRoom queue1 count) → length found ≤ count → queue2.lost ≡ false
+    pub all_kept : (count : ℕ) → (s.queue.lost ≡ false → HasRoomFor queue1 count) → length found ≤ count → queue2.lost ≡ false
     all_kept count room few =
         let all : count ≡ length found + (count - length found) = omega (arith, few) in
-        (gets.room (count - length found) (subst (HasRoom queue1) all (room (s.kept p is)))).kept
+        (gets.room (count - length found) (subst (HasRoomFor queue1) all (room (s.kept p is)))).kept
 
     -- a range that found none is one of no text
     pub session_lost : (part : List ℕ) (before : ℕ) (r : Result (Unit {0}) TextFault) (p2 : Parked) (f : StateFault) (new : Session) → FeedsParked seen p part r found p2
-        → (s.queue.lost ≡ false → HasRoom queue1 (length part + most_found_late)) → queue2.lost ≡ true → f.kind ≡ 51
+        → (s.queue.lost ≡ false → HasRoomFor queue1 (length part + most_found_late)) → queue2.lost ≡ true → f.kind ≡ 51
         → new.query ≡ s.query → new.select ≡ s.select → new.parked ≡ None → FeedsPart s part before (State f) new
     session_lost part before r p2 f new fed room lost kind eq es ep = record {
       fed = (

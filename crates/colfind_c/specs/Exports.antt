@@ -45,8 +45,8 @@ use Rattle.colfind_c.specs.Sessions.{sought_of, HasFed, ResumesSession, TakesRan
 use Rattle.colfind_c.specs.Statuses.{status_of}
 
 -- the status says that the call has ended so
-abbrev pub Says : Status → (Outcome → Type 0) → Type 0
-Says status C = (outcome : Outcome) × (status ≡ status_of outcome) × C outcome
+abbrev pub StatusSays : Status → (Outcome → Type 0) → Type 0
+StatusSays status C = (outcome : Outcome) × (status ≡ status_of outcome) × C outcome
 
 -- what C gets says that the call has ended so, and what it answers
 abbrev pub Tells : {A T : Type 0} → (Outcome → A → T) → T → (Outcome → A → Type 0) → Type 0

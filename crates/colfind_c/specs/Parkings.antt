@@ -19,7 +19,7 @@ abbrev pub most_found_late : ℕ
 most_found_late = 383
 
 -- A search took a piece, in any parts: what FeedsParked says, but for how many ranges there are.
-pub record GoesOn {W : Type 0} {G : Ghosts W} (old : Search W G) (piece : List ℕ) (result : Result (Unit {0}) TextFault) (found : List (ℕ × ℕ)) (new : Search W G) : Type 0 where
+pub record FeedsInParts {W : Type 0} {G : Ghosts W} (old : Search W G) (piece : List ℕ) (result : Result (Unit {0}) TextFault) (found : List (ℕ × ℕ)) (new : Search W G) : Type 0 where
   pub stands : (u : List ℕ) (handed : List (ℕ × ℕ)) → HasSearched old u handed → OnOk result (HasSearched new (u ++ piece) (handed ++ found))
   pub answer : (text u more : List ℕ) (handed : List (ℕ × ℕ)) → IsCompiledFrom (sought old) text → HasSearched old u handed
       → IfErr result (λ f. answer_to (sought old) text ((u ++ piece) ++ more) ≡ record { ranges = handed ++ found; fault = Some f })

@@ -15,11 +15,11 @@ pub record Waits (q : Queue) (ranges : List (ℕ × ℕ)) : Type 0 where
   pub kept : q.lost ≡ false → waiting q ≡ ranges
 
 -- none was lost, and so many more find room
-pub record HasRoom (q : Queue) (count : ℕ) : Type 0 where
+pub record HasRoomFor (q : Queue) (count : ℕ) : Type 0 where
   pub kept : q.lost ≡ false
   pub room : vec_len q.ranges + count ≤ vec_capacity q.ranges
 
 -- These ranges were put at the end, and none of them is lost where there was room for all.
 pub record Gets (old : Queue) (ranges : List (ℕ × ℕ)) (new : Queue) : Type 0 where
   pub waits : (before : List (ℕ × ℕ)) → Waits old before → Waits new (before ++ ranges)
-  pub room : (count : ℕ) → HasRoom old (length ranges + count) → HasRoom new count
+  pub room : (count : ℕ) → HasRoomFor old (length ranges + count) → HasRoomFor new count

@@ -4,7 +4,7 @@ ghost use Rattle.std.specs.Prelude.{◌≡◌, ℕ, Option, Some, false, None, I
 ghost use Rattle.std.specs.Arc.{arc_value};
 ghost use Rattle.std.specs.Option.{ForSome};
 ghost use Rattle.collation_anchored.specs.Answers.{no_memory};
-ghost use Rattle.collation_anchored.specs.Parking.{IsFor};
+ghost use Rattle.collation_anchored.specs.Parking.{IsForTable};
 ghost use Rattle.colfind_c.specs.Exports.{Tells, AsksQuery, AnswersEqual, AnswersBegins, KeepsAll, equality_of, first_of, up_to};
 ghost use Rattle.colfind_c.specs.Queries.{table_of};
 
@@ -32,7 +32,7 @@ fn asking<'a>(
     query: &'a Query,
     room: Option<Parked>,
 ) -> Result<Anchored<'a, Table>, AllocError>
-    requires fits { ForSome room (λ r. IsFor (table_of query.now) r) }
+    requires fits { ForSome room (λ r. IsForTable (table_of query.now) r) }
     ensures table { IfOk result (λ asks. asks.table.now ≡ arc_value query.now.table) }
     ensures pattern { IfOk result (λ asks. asks.pattern.now ≡ query.now.pattern) }
 {
@@ -59,9 +59,9 @@ fn equal_to(
     text: &[u8],
     room: Option<Parked>,
 ) -> (Outcome, bool, Option<Parked>)
-    requires fits { ForSome room (λ r. IsFor (table_of query.now) r) }
+    requires fits { ForSome room (λ r. IsForTable (table_of query.now) r) }
     ensures answer { AnswersEqual query.now text.now result.1 result.0 }
-    ensures fits { ForSome result.2 (λ r. IsFor (table_of query.now) r) }
+    ensures fits { ForSome result.2 (λ r. IsForTable (table_of query.now) r) }
 {
     let Ok(mut asks) = asking(alloc, query, room) else {
         return (Outcome::Text(refused()), false, None);
@@ -142,9 +142,9 @@ fn begun_by(
     text: &[u8],
     room: Option<Parked>,
 ) -> (Outcome, Option<(u64, u64)>, Option<Parked>)
-    requires fits { ForSome room (λ r. IsFor (table_of query.now) r) }
+    requires fits { ForSome room (λ r. IsForTable (table_of query.now) r) }
     ensures answer { AnswersBegins query.now text.now result.1 result.0 }
-    ensures fits { ForSome result.2 (λ r. IsFor (table_of query.now) r) }
+    ensures fits { ForSome result.2 (λ r. IsForTable (table_of query.now) r) }
 {
     let Ok(mut asks) = asking(alloc, query, room) else {
         return (Outcome::Text(refused()), None, None);

@@ -3,7 +3,7 @@
 ghost use Rattle.std.specs.Prelude.{◌≡◌, ℕ, Option, length, None, Some, IfSome, IfNone};
 ghost use Rattle.std.specs.Arc.{arc_value};
 ghost use Rattle.std.specs.Str.{IsUtf8};
-ghost use Rattle.colfind_c.specs.Exports.{Says, Tells, OfTable, OfPattern, OfSearch, AsksPattern, AsksSearch, untouched, MakesTable, MakesPattern, StartsSearch, GoesOnFrom, AnswersFirst, AnswersFirstFrom, TakesOldest, SavesInto, SharesTable, SharesQuery, SharesOwned, SharesInto, IsGiven, GivesTable, GivesPattern, IsCompiled, strength_for, variable_for, select_for, pending, first_of, number_of};
+ghost use Rattle.colfind_c.specs.Exports.{StatusSays, Tells, OfTable, OfPattern, OfSearch, AsksPattern, AsksSearch, untouched, MakesTable, MakesPattern, StartsSearch, GoesOnFrom, AnswersFirst, AnswersFirstFrom, TakesOldest, SavesInto, SharesTable, SharesQuery, SharesOwned, SharesInto, IsGiven, GivesTable, GivesPattern, IsCompiled, strength_for, variable_for, select_for, pending, first_of, number_of};
 ghost use Rattle.colfind_c.specs.Messages.{as_text, message};
 ghost use Rattle.colfind_c.specs.Sessions.{FeedsSession, FinishesSession, StopsSession, FirstInSession, AllInSession};
 
@@ -61,7 +61,7 @@ pub extern "C" fn colfind_table(
     base: &[u8],
     tailor: &[u8],
 ) -> Status
-    ensures made { Says result
+    ensures made { StatusSays result
         (λ outcome. MakesTable base.now tailor.now outcome out.old.value out.new.value) }
 {
     make_table(alloc, out, base, tailor).status()
@@ -213,7 +213,7 @@ pub extern "C" fn colfind_pattern(
     strength: u8,
     variable: u8,
 ) -> Status
-    ensures made { Says result
+    ensures made { StatusSays result
         (λ outcome. OfTable
         (λ t how. MakesPattern t text.now strength variable how out.old.value out.new.value)
         table.old.value outcome) }
@@ -267,7 +267,7 @@ fn share_of(alloc: Global, handle: &mut Handle) -> Result<Owned, Outcome>
 /// A second handle for a table or a pattern, which may be used in another thread than the first.
 #[unsafe(no_mangle)]
 pub extern "C" fn colfind_share(alloc: Global, handle: &mut Handle, out: &mut Handle) -> Status
-    ensures shared { Says result
+    ensures shared { StatusSays result
         (λ outcome. SharesInto handle.old.value outcome out.old.value out.new.value) }
     ensures same { handle.new.value ≡ handle.old.value }
 {
@@ -313,7 +313,7 @@ pub extern "C" fn colfind_search(
     out: &mut Handle,
     select: u8,
 ) -> Status
-    ensures made { Says result
+    ensures made { StatusSays result
         (λ outcome. OfPattern
         (λ q how. StartsSearch q select how out.old.value out.new.value)
         pattern.old.value outcome) }
@@ -348,7 +348,7 @@ pub extern "C" fn colfind_resume(
     select: u8,
     words: &[u64],
 ) -> Status
-    ensures made { Says result
+    ensures made { StatusSays result
         (λ outcome. OfPattern
         (λ q how. GoesOnFrom q select words.now how out.old.value out.new.value)
         pattern.old.value outcome) }
@@ -374,7 +374,7 @@ fn feed_owned(owned: &mut Owned, piece: &[u8]) -> Outcome
 /// Takes a piece of the text.
 #[unsafe(no_mangle)]
 pub extern "C" fn colfind_feed(alloc: Global, search: &mut Handle, piece: &[u8]) -> Status
-    ensures fed { Says result
+    ensures fed { StatusSays result
         (λ outcome. OfSearch
         (λ old how new. FeedsSession old piece.now how new)
         search.old.value outcome search.new.value) }
@@ -402,7 +402,7 @@ fn finish_owned(owned: &mut Owned) -> Outcome
 /// Ends the text.
 #[unsafe(no_mangle)]
 pub extern "C" fn colfind_finish(alloc: Global, search: &mut Handle) -> Status
-    ensures finished { Says result
+    ensures finished { StatusSays result
         (λ outcome. OfSearch FinishesSession search.old.value outcome search.new.value) }
 {
     match take(alloc, search) {
@@ -428,7 +428,7 @@ fn stop_owned(owned: &mut Owned) -> Outcome
 /// Gives the text up.
 #[unsafe(no_mangle)]
 pub extern "C" fn colfind_stop(alloc: Global, search: &mut Handle) -> Status
-    ensures stopped { Says result
+    ensures stopped { StatusSays result
         (λ outcome. OfSearch StopsSession search.old.value outcome search.new.value) }
 {
     match take(alloc, search) {
@@ -534,7 +534,7 @@ pub struct Saved {
 /// Writes the search as words, from which another one goes on.
 #[unsafe(no_mangle)]
 pub extern "C" fn colfind_save(alloc: Global, search: &mut Handle, out: &mut [u64]) -> Saved
-    ensures saved { Says result.status
+    ensures saved { StatusSays result.status
         (λ outcome. AsksSearch (untouched out.old)
         (λ old given how new. SavesInto out.old given.1 given.0 old how new)
         search.old.value (result.words, out.new) outcome search.new.value) }
@@ -748,7 +748,7 @@ pub extern "C" fn colfind_all_in(
     text: &[u8],
     out: &mut [Range],
 ) -> AllIn
-    ensures all { Says result.status
+    ensures all { StatusSays result.status
         (λ outcome. AsksSearch (untouched out.old)
         (λ old given how new. AllInSession old text.now given.1 given.0 how new)
         search.old.value (result.count, out.new) outcome search.new.value) }

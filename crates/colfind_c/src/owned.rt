@@ -4,7 +4,7 @@ ghost use Rattle.std.specs.Prelude.{◌≡◌, false};
 ghost use Rattle.std.specs.Arc.{arc_value};
 ghost use Rattle.std.specs.Option.{ForSome};
 ghost use Rattle.colfind_c.specs.Queries.{table_of};
-ghost use Rattle.collation_anchored.specs.Parking.{IsFor as IsAskingFor};
+ghost use Rattle.collation_anchored.specs.Parking.{IsForTable};
 ghost use Rattle.collation_search.specs.Parking.{IsFor, parked_select};
 
 use crate::queue::Queue;
@@ -33,7 +33,7 @@ pub struct Session {
     pub(crate) found: Box<Found>,
     /// What asks whole texts for the pattern, between two of them: none before the first.
     pub(crate) asking: Option<Asking>,
-    ghost asks: { ForSome asking (λ a. IsAskingFor (table_of (arc_value query)) a) },
+    ghost asks: { ForSome asking (λ a. IsForTable (table_of (arc_value query)) a) },
     ghost fits: { ForSome parked (λ p.
         IsFor (table_of (arc_value query)) (arc_value query).pattern p
         × (parked_select p ≡ select)) },

@@ -8,7 +8,7 @@ ghost use Rattle.collation_search.specs.Feeding.{Feeds};
 ghost use Rattle.collation_search.specs.Saving.{HasRecords, most_records};
 ghost use Rattle.collation_search.specs.Parking.{IsFor, HasParked, parked_select, parked_words};
 ghost use Rattle.collation_search.specs.Search.{HasSearched, sought};
-ghost use Rattle.colfind_c.specs.Parkings.{FeedsParked, FinishesParked, IsFirstFrom, GoesOn, SearchesPart};
+ghost use Rattle.colfind_c.specs.Parkings.{FeedsParked, FinishesParked, IsFirstFrom, FeedsInParts, SearchesPart};
 ghost use Rattle.colfind_c.specs.Queues.{Gets};
 
 use crate::queue::Queue;
@@ -43,7 +43,7 @@ fn search_piece<'a, W: Weights>(
     found: &mut Found,
     queue: &mut Queue,
 ) -> Result<(), TextFault>
-    ensures fed { (ranges : List (ℕ × ℕ)) × GoesOn search.old piece.now result ranges search.new
+    ensures fed { (ranges : List (ℕ × ℕ)) × FeedsInParts search.old piece.now result ranges search.new
         × Gets queue.old ranges queue.new }
 {
     let mut rest = piece;

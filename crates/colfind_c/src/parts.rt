@@ -1,7 +1,7 @@
 //! What C asks of one part of a text: its ranges, which wait until C takes them.
 
 ghost use Rattle.std.specs.Prelude.{Some};
-ghost use Rattle.colfind_c.specs.Exports.{Says, OfSearch};
+ghost use Rattle.colfind_c.specs.Exports.{StatusSays, OfSearch};
 ghost use Rattle.colfind_c.specs.Sessions.{PartInSession};
 
 use crate::handle::{Handle, put, take};
@@ -29,7 +29,7 @@ pub extern "C" fn colfind_search_part(
     from: usize,
     to: usize,
 ) -> Status
-    ensures part { Says result
+    ensures part { StatusSays result
         (λ outcome. OfSearch
         (λ old how new. PartInSession old text.now from to how new)
         search.old.value outcome search.new.value) }

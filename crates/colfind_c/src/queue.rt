@@ -24,7 +24,7 @@ pub struct Queue {
 
 impl Queue {
     ghost use Rattle.std.specs.Prelude.{◌≡◌, ◌+◌, ◌-◌, ◌≤◌, ℕ, List, ◌∷◌, [], ◌++◌, length, take, drop, min, OnOk, false};
-    ghost use Rattle.colfind_c.specs.Queues.{Waits, HasRoom, Gets, waiting, pairs};
+    ghost use Rattle.colfind_c.specs.Queues.{Waits, HasRoomFor, Gets, waiting, pairs};
 
     /// An empty queue.
     pub(crate) fn new(alloc: Global) -> Queue
@@ -63,7 +63,7 @@ impl Queue {
     /// Where memory was refused.
     pub(crate) fn reserve(&mut self, count: usize) -> Result<(), AllocError>
         ensures same { (self.new.lost ≡ self.old.lost) × (waiting self.new ≡ waiting self.old) }
-        ensures room { OnOk result (self.old.lost ≡ false → HasRoom self.new count) }
+        ensures room { OnOk result (self.old.lost ≡ false → HasRoomFor self.new count) }
     {
         self.ranges.reserve(count)
     }

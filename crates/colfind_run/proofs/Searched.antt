@@ -13,8 +13,8 @@ use Rattle.collation_search.specs.Search.{HasSearched, sought}
 use Rattle.collation_matches.specs.Sought.{IsCompiledFrom, Sought, answer_to}
 
 -- the ranges are the first ones of the answer to the bytes
-abbrev pub Begins : Sought → List ℕ → List ℕ → List (ℕ × ℕ) → Type 0
-Begins s text bytes handed = (rest : List (ℕ × ℕ)) × ((answer_to s text bytes).ranges ≡ handed ++ rest)
+abbrev pub AreFirstOfTheAnswer : Sought → List ℕ → List ℕ → List (ℕ × ℕ) → Type 0
+AreFirstOfTheAnswer s text bytes handed = (rest : List (ℕ × ℕ)) × ((answer_to s text bytes).ranges ≡ handed ++ rest)
 
 pub open_short : (bytes : List ℕ) → is_good_so_far bytes ≡ true → length bytes ≤ 2 ^ 62
 open_short bytes h = leb-true _ _ (and_parts _ _ (and_parts _ _ h).0).0
@@ -31,8 +31,8 @@ module _ {W : Type 0} {G : Ghosts W} (old new : Search W G) (piece bytes : List 
       ∙ fed.answer text bytes [] handed (subst (λ (s : Sought). IsCompiledFrom s text) fed.same_sought compiled) stands
 
   pub begun : (r : Result (Unit {0}) TextFault) → Feeds old piece r found new →
-      ((text u later : List ℕ) (given : List (ℕ × ℕ)) → IsCompiledFrom (sought new) text → HasSearched new u given → Begins (sought new) text (u ++ later) given) →
-      (text : List ℕ) → IsCompiledFrom (sought new) text → Begins (sought new) text (bytes ++ piece) (handed ++ found)
+      ((text u later : List ℕ) (given : List (ℕ × ℕ)) → IsCompiledFrom (sought new) text → HasSearched new u given → AreFirstOfTheAnswer (sought new) text (u ++ later) given) →
+      (text : List ℕ) → IsCompiledFrom (sought new) text → AreFirstOfTheAnswer (sought new) text (bytes ++ piece) (handed ++ found)
   begun (Ok a) fed law text compiled =
       let b = law text (bytes ++ piece) [] (handed ++ found) compiled (fed.stands bytes handed stands) in
       (b.0, ap (λ t. (answer_to (sought new) text t).ranges) (sym (append-nil (bytes ++ piece))) ∙ b.1)

@@ -42,12 +42,12 @@ failures_at (ending.Unread _) = 1
 failures_at _ = 0
 
 -- what the search has taken and handed out when the reading of a text ended
-abbrev pub EndsBy : {W : Type 0} {G : Ghosts W} → Search W G → Ending → List ℕ → List (ℕ × ℕ) → Option (List ℕ) → Type 0
-EndsBy search ending.End bytes handed left = IsAtEnd left × HasSearched search bytes handed
-EndsBy search (ending.Closed fault) bytes handed left =
+abbrev pub HasSearchedUntil : {W : Type 0} {G : Ghosts W} → Search W G → Ending → List ℕ → List (ℕ × ℕ) → Option (List ℕ) → Type 0
+HasSearchedUntil search ending.End bytes handed left = IsAtEnd left × HasSearched search bytes handed
+HasSearchedUntil search (ending.Closed fault) bytes handed left =
     (is_good_so_far bytes ≡ false)
     × ((text : List ℕ) → IsCompiledFrom (sought search) text → answer_to (sought search) text bytes ≡ record { ranges = handed; fault = Some fault })
-EndsBy search (ending.Unread count) bytes handed left = (count ≡ length bytes) × HasSearched search bytes handed
+HasSearchedUntil search (ending.Unread count) bytes handed left = (count ≡ length bytes) × HasSearched search bytes handed
 
 -- The bytes were read, and the ranges handed out, whose lines were printed or wait. Where a write failed these ranges begin
 -- those of the answer to the bytes.
@@ -58,7 +58,7 @@ pub record Searches {W : Type 0} {G : Ghosts W} (search : Search W G) (form : Ou
   pub from_reader : left_before ≡ after_piece bytes left_after
   pub prints : Prints form lines handed held_before held_after failures failures_after
   pub few : length bytes ≤ 2 ^ 62 + 4096
-  pub ended : IfOk result (λ end. EndsBy search end bytes handed left_after)
+  pub ended : IfOk result (λ end. HasSearchedUntil search end bytes handed left_after)
   pub begun : OnErr result ((text : List ℕ) → IsCompiledFrom (sought search) text
       → (rest : List (ℕ × ℕ)) × ((answer_to (sought search) text bytes).ranges ≡ handed ++ rest))
   pub failed : lines.failed ≡ is_err result

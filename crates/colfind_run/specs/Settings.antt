@@ -55,7 +55,7 @@ pub record IsTakenAs (words : List Text) (s : Settings) : Type 0 where
   pub read : IsReadFrom (matches_of (command strengths variables outputs selections) words) s
 
 -- the command does not take the words
-pub record IsRefused (words : List Text) : Type 0 where
+pub record IsCommandLineRefused (words : List Text) : Type 0 where
   pub strengths : ValueParser
   pub variables : ValueParser
   pub outputs : ValueParser

@@ -19,7 +19,7 @@ use Rattle.colfind_run.specs.declared.run.Outcome.TheVariants as outcome
 use Rattle.colfind_run.specs.Patterns.{answer_by, settled_by}
 use Rattle.colfind_run.specs.Running.{PrintsToFault, PrintsSettled, PrintsPrefix, reported_ranges, FailsAs}
 use Rattle.colfind_run.specs.Searching.{FileBytes, IfAt, IsTailor, IsTableOf, left_of}
-use Rattle.colfind_run.specs.Settings.{IsTakenAs, IsRefused}
+use Rattle.colfind_run.specs.Settings.{IsTakenAs, IsCommandLineRefused}
 
 -- what a contract sees of the input and of the output
 pub record Seen : Type 0 where
@@ -112,7 +112,7 @@ StopsSearch files table asked stop before after =
 -- settings, and the table comes, of one file or of two, and then the search with that table. Where
 -- the text is a file, `Unasked` holds, by which a clause says that the input is as it was.
 abbrev pub IsReason : FileBytes → List Word → Type 0 → Stop → Seen → Seen → Type 0
-IsReason files words Unasked (Words fault) before after = fault ≡ of_words.Usage → IsRefused words
+IsReason files words Unasked (Words fault) before after = fault ≡ of_words.Usage → IsCommandLineRefused words
 IsReason files words Unasked (File fault) before after = (asked : Settings) × IsTakenAs words asked
 IsReason files words Unasked (Tailor fault) before after =
     (asked : Settings) × IsTakenAs words asked × StopsAtTable files asked (Tailor fault)

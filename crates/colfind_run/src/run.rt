@@ -2,7 +2,7 @@
 ghost use Rattle.std.specs.Prelude.{ℕ, List, Option, ◌≡◌, ◌≢◌, ◌<◌, ◌^◌, ◌++◌, nat_lt};
 ghost use Rattle.collation_matches.specs.declared.select.Select.TheVariants.{All};
 ghost use Rattle.colfind_run.specs.Patterns.{IsCompiledWith, answer_to, settled_in};
-ghost use Rattle.colfind_run.specs.Finding.{IsFoundIn, EndsBy, failures_of, failures_at};
+ghost use Rattle.colfind_run.specs.Finding.{IsFoundIn, HasSearchedUntil, failures_of, failures_at};
 ghost use Rattle.collation_matches.specs.GoodPrefix.{whole};
 ghost use Rattle.collation_search.specs.Search.{sought};
 ghost use Rattle.collation_matches.specs.Sought.{IsCompiledFrom, answer_to as search_answer, settled_in as search_settled};
@@ -47,7 +47,7 @@ enum TextEnd {
 fn close<'a, W: Weights>(search: Search<'a, W>, ending: Ending, rest: &mut Ranges) -> TextEnd
     ensures found { (p bytes : List ℕ) (handed : List (ℕ × ℕ)) (left : Option (List ℕ))
         → IsCompiledFrom (sought search.entry) p
-        → EndsBy search.entry ending bytes handed left
+        → HasSearchedUntil search.entry ending bytes handed left
         → IsFoundIn (λ b. search_answer (sought search.entry) p b)
         (λ b. search_settled (sought search.entry) p (whole b)) result
         (handed ++ rest.new.items) bytes left }

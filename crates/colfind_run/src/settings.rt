@@ -3,7 +3,7 @@ ghost use Rattle.std.specs.Prelude.{◌≡◌, map, option_map, IfOk, false};
 ghost use Rattle.clap.specs.Words.{app_of, first_of, found_of, rows_of, rule_of};
 ghost use Rattle.colfind_run.specs.Command.{command, TakesNames, strength_names, variable_names, output_names, select_names};
 ghost use Rattle.colfind_run.specs.Command.{table_rule, tailor_rule, strength_rule, variable_rule, output_rule, select_rule, pattern_rule, text_rule};
-ghost use Rattle.colfind_run.specs.Settings.{IsReadFrom, IsTakenAs, IsRefused, entry, strength_of, variable_of, output_of, select_of};
+ghost use Rattle.colfind_run.specs.Settings.{IsReadFrom, IsTakenAs, IsCommandLineRefused, entry, strength_of, variable_of, output_of, select_of};
 
 use crate::words::{Settings, SettingsFault};
 use clap::error::ErrorKind;
@@ -201,7 +201,7 @@ fn read_from<'a>(matches: &ArgMatches<'a>) -> Settings<'a>
 pub fn settings<'a>(alloc: Global, words: &'a [&'a str]) -> Result<Settings<'a>, SettingsFault>
     ensures taken { IfOk result (IsTakenAs (map (λ word. word.now) words.entry.now)) }
     ensures usage { result ≡ Err SettingsFault.Usage
-        → IsRefused (map (λ word. word.now) words.entry.now) }
+        → IsCommandLineRefused (map (λ word. word.now) words.entry.now) }
 {
     let Ok(command) = command_line(alloc) else {
         return Err(SettingsFault::Memory);

@@ -8,7 +8,7 @@ use Rattle.collation_elements.specs.declared.keys.Key.{Key}
 use Rattle.collation_elements.specs.declared.keys.Item.{Item}
 use Rattle.collation_elements.specs.ItemParts.{keys_in, item_keys}
 use Rattle.collation_pattern.specs.Border.{same_keys}
-use Rattle.collation_pattern.specs.Borders.{IsNext}
+use Rattle.collation_pattern.specs.Borders.{IsNextKey}
 use Rattle.collation_pattern.proofs.KeyEquality.{same_keys-true, same_keys-same}
 use Rattle.collation_anchored.specs.Anchored.{is_begun}
 
@@ -36,7 +36,7 @@ never_begun pattern ks more h = elim (cases_Bool (is_begun pattern (ks ++ more))
 ]
 
 -- another key than the pattern's next
-pub other_key : (pattern : List Key) (n : ℕ) (key : Key) → n ≤ length pattern → (IsNext pattern n key → ⊥) → is_begun pattern (take n pattern ++ key ∷ []) ≡ false
+pub other_key : (pattern : List Key) (n : ℕ) (key : Key) → n ≤ length pattern → (IsNextKey pattern n key → ⊥) → is_begun pattern (take n pattern ++ key ∷ []) ≡ false
 other_key pattern n key within other = elim (cases_Bool (is_begun pattern (take n pattern ++ key ∷ []))) [
   | inr not ↦ not
   | inl is ↦

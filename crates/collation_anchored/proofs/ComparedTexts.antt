@@ -11,7 +11,7 @@ use Rattle.collation_matches.specs.GoodPrefix.{fault, good_prefix, prefix_at, wh
 use Rattle.collation_matches.proofs.LagTexts.{TextLaws}
 use Rattle.collation_anchored.specs.declared.comparison.Comparison.{Comparison}
 use Rattle.collation_anchored.specs.Compared.{completed}
-use Rattle.collation_anchored.specs.Comparing.{HasTaken}
+use Rattle.collation_anchored.specs.Comparing.{HasComparedBytes}
 use Rattle.collation_anchored.proofs.GoodTexts.{codes_go_on}
 use Rattle.collation_anchored.proofs.KeysSoFar.{completed_stays}
 
@@ -21,7 +21,7 @@ good_at_fault text u rest f parts within faulty offset =
     ap (prefix_at text) faulty ∙ ap (λ n. take n text) offset ∙ ap (take (characters_end u)) parts ∙ take-append-le (characters_end u) u rest within
 
 -- once the pattern's keys are completed, they are so in the text, however it goes on
-pub completed_text : TextLaws → (table : TableMap) (pattern : Compiled) (comparison : Comparison) (u later : List ℕ) → HasTaken table pattern comparison u → comparison.window.has_ended ≡ false →
+pub completed_text : TextLaws → (table : TableMap) (pattern : Compiled) (comparison : Comparison) (u later : List ℕ) → HasComparedBytes table pattern comparison u → comparison.window.has_ended ≡ false →
     is_some comparison.progress.completed ≡ true → comparison.progress.completed ≡ completed table pattern (points (chars (good_prefix (u ++ later))))
 completed_text laws table pattern comparison u later h open_window found = go comparison.progress.completed refl found
   where

@@ -81,7 +81,7 @@ came_on table pattern window next weigher after old new points unit its h cut we
 
 -- Where the keys of the units so far, and of the next one, are not the first of the pattern's, those of all points are not; and the
 -- pattern's keys were completed among these units, or not at all.
-pub record Apart (table : TableMap) (pattern : Compiled) (found : Option ℕ) (points : List Point) : Type 0 where
+pub record KeysDiffer (table : TableMap) (pattern : Compiled) (found : Option ℕ) (points : List Point) : Type 0 where
   pub keys : is_begun pattern.keys (keys table pattern.strength pattern.variable points) ≡ false
   pub completed : found ≡ completed table pattern points
 
@@ -89,7 +89,7 @@ pub came_apart : (table : TableMap) (pattern : Compiled) (window next : Held) (w
     (h : KeysCame table pattern window weigher old points) → WindowStandsFor table next points (h.units ++ unit ∷ []) → WeigherStandsFor table after (h.units ++ unit ∷ []) (h.items ++ its) →
     after.strength ≡ weigher.strength → after.variable ≡ weigher.variable → (next.has_ended ≡ true → more ≡ []) →
     is_begun pattern.keys (take old.matched pattern.keys ++ item_keys its) ≡ false → new.completed ≡ completed_among pattern.keys [] (h.items ++ its) →
-    Apart table pattern new.completed (points ++ more)
+    KeysDiffer table pattern new.completed (points ++ more)
 came_apart table pattern window next weigher after old new points more unit its h cut weighed strength variable ends other found =
     let all = items_go_on table pattern next after points more (h.units ++ unit ∷ []) (h.items ++ its) cut weighed (strength ∙ h.strength) (variable ∙ h.variable) ends in
     let here : item_keys (h.items ++ its) ≡ take old.matched pattern.keys ++ item_keys its = flat_map-append keys_in h.items its ∙ ap (λ (ks : List Key). ks ++ item_keys its) h.keys in

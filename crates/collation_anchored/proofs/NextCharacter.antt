@@ -6,13 +6,13 @@ use Rattle.utf8_cut.specs.State.{StandsFor, IsPrefix}
 use Rattle.utf8_cut.specs.Value.{CutState}
 use Rattle.nfd_points.specs.Points.{byte_len}
 use Rattle.collation_matches.specs.GoodPrefix.{whole}
-use Rattle.collation_matches.proofs.TextCheckLemmas.{next_code, next_offset, Begins}
+use Rattle.collation_matches.proofs.TextCheckLemmas.{next_code, next_offset, CharactersGoOn}
 
 -- after the bytes u, the byte b gave the character c, which stands at an offset; the cutter is the one after it
 pub record NextCharacter (u : List ℕ) (b c at : ℕ) (cut : CutState) : Type 0 where
   pub codes : chars (whole (u ++ b ∷ [])) ≡ chars (whole u) ++ c ∷ []
   pub offset : at ≡ byte_len (chars (whole u))
-  pub begins : Begins (u ++ b ∷ [])
+  pub begins : CharactersGoOn (u ++ b ∷ [])
   pub stands : StandsFor cut (u ++ b ∷ []) (characters (u ++ b ∷ []))
 
 pub next_character : (u : List ℕ) (b c at : ℕ) (old new : CutState) → StandsFor old u (characters u) → StandsFor new (u ++ b ∷ []) (characters u ++ (c, at) ∷ []) →

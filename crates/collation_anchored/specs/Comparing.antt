@@ -18,7 +18,7 @@ pub record HasCompared (table : TableMap) (pattern : Compiled) (comparison : Com
   pub came : KeysCame table pattern comparison.window comparison.weigher comparison.progress points
 
 -- the bytes went in, which a longer text may begin with
-pub record HasTaken (table : TableMap) (pattern : Compiled) (comparison : Comparison) (taken : List ℕ) : Type 0 where
+pub record HasComparedBytes (table : TableMap) (pattern : Compiled) (comparison : Comparison) (taken : List ℕ) : Type 0 where
   pub cut_stands : StandsFor comparison.cut taken (characters taken)
   pub compared : HasCompared table pattern comparison (chars (whole taken))
   pub open_bytes : is_good_so_far taken ≡ true

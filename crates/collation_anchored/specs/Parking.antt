@@ -4,5 +4,5 @@ use Rattle.collation_table.specs.Table.{TableMap, longest_mapped}
 use Rattle.collation_anchored.specs.declared.parking.Parked.{Parked}
 
 -- it was put away by what had this table, or has room for it
-abbrev pub IsFor : TableMap → Parked → Type 0
-IsFor table parked = parked.comparison.value.longest_key ≡ longest_mapped table
+abbrev pub IsForTable : TableMap → Parked → Type 0
+IsForTable table parked = parked.comparison.value.longest_key ≡ longest_mapped table

@@ -17,7 +17,7 @@ use std::alloc::{AllocError, Global};
 use utf8_cut::{Cut, Cutting, any_bytes_may_follow, whole_characters_are_the_longest_text};
 
 /// How many bytes a text may have.
-const MOST_BYTES: u64 = 1 << 62;
+const MOST_BYTES_COMPARED: u64 = 1 << 62;
 
 /// What is asked of a text.
 #[derive(Clone, Copy, PartialEq)]
@@ -69,7 +69,7 @@ impl Comparison {
     ghost use Rattle.collation_anchored.specs.Anchored.{is_begun};
     ghost use Rattle.collation_anchored.specs.Answers.{begun_by};
     ghost use Rattle.collation_anchored.specs.Compared.{completed};
-    ghost use Rattle.collation_anchored.specs.Comparing.{HasCompared, HasTaken};
+    ghost use Rattle.collation_anchored.specs.Comparing.{HasCompared, HasComparedBytes};
     ghost use Rattle.collation_matches.specs.declared.faults.TextFault.{TextFault};
     ghost use Rattle.collation_anchored.specs.declared.comparison.Asked.TheVariants.{Whole};
     ghost use Rattle.collation_anchored.specs.declared.comparison.Reading.TheVariants.{Decided, Ended};
@@ -98,7 +98,7 @@ impl Comparison {
 
     /// Goes to the beginning of a text.
     fn begin(&mut self, pattern: &Pattern)
-        ensures taken { (table : TableMap) → HasTaken table pattern.now self.new [] }
+        ensures taken { (table : TableMap) → HasComparedBytes table pattern.now self.new [] }
         ensures longest { self.new.longest_key ≡ self.old.longest_key }
     {
         self.cut = Cut::new();
@@ -180,33 +180,33 @@ impl Comparison {
         byte: u8,
     ) -> Result<bool, TextFault>
         requires longest { self.old.longest_key ≡ longest_mapped (W.table table.now) }
-        ensures stands { (u : List ℕ) → HasTaken (W.table table.now) pattern.now self.old u
+        ensures stands { (u : List ℕ) → HasComparedBytes (W.table table.now) pattern.now self.old u
             → result ≡ Ok true
-            → HasTaken (W.table table.now) pattern.now self.new (u ++ byte ∷ []) }
-        ensures differs { (u more : List ℕ) → HasTaken (W.table table.now) pattern.now self.old u
+            → HasComparedBytes (W.table table.now) pattern.now self.new (u ++ byte ∷ []) }
+        ensures differs { (u more : List ℕ) → HasComparedBytes (W.table table.now) pattern.now self.old u
             → result ≡ Ok false
             → is_begun pattern.now.keys
             (text_keys (W.table table.now) pattern.now.strength pattern.now.variable
             (good_prefix (u ++ byte ∷ more)))
             ≡ false }
         ensures completed { (u more : List ℕ)
-            → HasTaken (W.table table.now) pattern.now self.old u → result ≡ Ok false
+            → HasComparedBytes (W.table table.now) pattern.now self.old u → result ≡ Ok false
             → self.new.progress.completed
             ≡ completed (W.table table.now) pattern.now
             (points (chars (good_prefix (u ++ byte ∷ more)))) }
-        ensures kept { (u : List ℕ) → HasTaken (W.table table.now) pattern.now self.old u
+        ensures kept { (u : List ℕ) → HasComparedBytes (W.table table.now) pattern.now self.old u
             → OnErr result
             (HasCompared (W.table table.now) pattern.now self.new (chars (whole u))) }
-        ensures fault { (u more : List ℕ) → HasTaken (W.table table.now) pattern.now self.old u
+        ensures fault { (u more : List ℕ) → HasComparedBytes (W.table table.now) pattern.now self.old u
             → IfErr result (λ f. fault_of (u ++ byte ∷ more) ≡ Some f) }
-        ensures offset { (u : List ℕ) → HasTaken (W.table table.now) pattern.now self.old u
+        ensures offset { (u : List ℕ) → HasComparedBytes (W.table table.now) pattern.now self.old u
             → IfErr result (λ f. f.offset ≡ characters_end u) }
         ensures longest { self.new.longest_key ≡ self.old.longest_key }
     {
         any_bytes_may_follow();
         whole_characters_are_the_longest_text();
         laws_of_faults();
-        if self.cut.count() >= MOST_BYTES {
+        if self.cut.count() >= MOST_BYTES_COMPARED {
             let offset = self.cut.held_start();
             return Err(TextFault {
                 kind: TextFault::TOO_LONG,

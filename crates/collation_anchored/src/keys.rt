@@ -1,7 +1,7 @@
 //! The keys of a text, one after the other, compared with those of a pattern.
 
 ghost use Rattle.std.specs.Prelude.{◌+◌, ◌≤◌, ◌↔◌, length, IsTrue};
-ghost use Rattle.collation_pattern.specs.Borders.{IsNext};
+ghost use Rattle.collation_pattern.specs.Borders.{IsNextKey};
 
 use collation_elements::{Item, Key};
 
@@ -91,7 +91,7 @@ impl Progress {
 /// Whether a key stands after the first `len` of some keys.
 #[inline(always)]
 fn is_next(keys: &[Key], len: usize, key: &Key) -> bool
-    ensures next { IsTrue result ↔ IsNext keys.now len key.now }
+    ensures next { IsTrue result ↔ IsNextKey keys.now len key.now }
     ensures within { IsTrue result → len + 1 ≤ length keys.now }
 {
     len < keys.len() && keys[len] == *key

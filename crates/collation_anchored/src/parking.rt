@@ -1,7 +1,7 @@
 //! What asks texts, put away between two of them without its table and its pattern, and taken up again. A program that can't keep a value
 //! which borrows from another, as a library for C, keeps the three apart.
 
-ghost use Rattle.collation_anchored.specs.Parking.{IsFor};
+ghost use Rattle.collation_anchored.specs.Parking.{IsForTable};
 
 use crate::anchored::Anchored;
 use crate::comparison::Comparison;
@@ -15,11 +15,11 @@ pub struct Parked {
 }
 
 impl<'a, W: Weights> Anchored<'a, W> {
-    ghost use Rattle.collation_anchored.specs.Parking.{IsFor};
+    ghost use Rattle.collation_anchored.specs.Parking.{IsForTable};
 
     /// Puts away what it keeps from text to text. It asks for no memory.
     pub fn park(self) -> Parked
-        ensures fits { IsFor (W.table self.entry.table.now) result }
+        ensures fits { IsForTable (W.table self.entry.table.now) result }
     {
         let Anchored {
             table: _,
@@ -32,12 +32,12 @@ impl<'a, W: Weights> Anchored<'a, W> {
 
 impl Parked {
     ghost use Rattle.std.specs.Prelude.{◌≡◌};
-    ghost use Rattle.collation_anchored.specs.Parking.{IsFor};
+    ghost use Rattle.collation_anchored.specs.Parking.{IsForTable};
 
     /// Takes it up again, with the table that it had, and with that pattern or another one that was compiled with the table. It asks for no
     /// memory.
     pub fn unpark<'a, W: Weights>(self, table: &'a W, pattern: &'a Pattern) -> Anchored<'a, W>
-        requires fits { IsFor (W.table table.now) self }
+        requires fits { IsForTable (W.table table.now) self }
         ensures table { result.table.now ≡ table.now }
         ensures pattern { result.pattern.now ≡ pattern.now }
     {

@@ -29,17 +29,17 @@ use Rattle.collation_backward.proofs.Ranges.{up-to-in, up-to-more, up-to-late}
 
 -- ---- the ends of minimal ranges rise
 
-abbrev EndsBefore : ℕ × ℕ → ℕ × ℕ → Type 0
-EndsBefore r s = r.1 < s.1
+abbrev EndsEarlier : ℕ × ℕ → ℕ × ℕ → Type 0
+EndsEarlier r s = r.1 < s.1
 
 among : {A : Type 0} (R S : A → A → Type 0) (xs : List A) → ((x y : A) → In xs x → In xs y → R x y → S x y) → Rising R xs → Rising S xs
 among R S [] h r = tt
 among R S (x ∷ xs) h r = (λ y k. h x y (inl refl) (inr k) (r.0 y k), among R S xs (λ a b ha hb. h a b (inr ha) (inr hb)) r.1)
 
 -- a range that begins later and does not end later lies within
-ends-rise : (all : List (ℕ × ℕ)) → Rising Before all → Rising EndsBefore (minimal all)
+ends-rise : (all : List (ℕ × ℕ)) → Rising Before all → Rising EndsEarlier (minimal all)
 ends-rise all up =
-    among Before EndsBefore (minimal all)
+    among Before EndsEarlier (minimal all)
     (λ r s hr hs before.
     let mr = in_minimal all r hr in
     let ms = in_minimal all s hs in
@@ -53,19 +53,19 @@ ends-rise all up =
     (rising_minimal all up)
 
 module _ (table : TableMap) (strength : Strength) (variable : Variable) (pattern : List ℕ) where
-  match-ends-rise : (text : List ℕ) → Rising EndsBefore (matches table strength variable pattern text)
+  match-ends-rise : (text : List ℕ) → Rising EndsEarlier (matches table strength variable pattern text)
   match-ends-rise text =
       let bounds = boundaries table text in
       let all = ranges_with_sort_key table strength variable (text_sort_key table strength variable pattern) text in
       ends-rise all (rising_filter Before _ (ranges_among bounds) (rising_ranges bounds (rising_boundaries table text)))
 
-  ends-rise-at : (bytes : List ℕ) (at : Option TextFault) → Rising EndsBefore (answer_at table strength variable pattern bytes at).ranges
+  ends-rise-at : (bytes : List ℕ) (at : Option TextFault) → Rising EndsEarlier (answer_at table strength variable pattern bytes at).ranges
   ends-rise-at bytes None = match-ends-rise bytes
   ends-rise-at bytes (Some at) =
       let text = good_prefix bytes in
-      rising_filter EndsBefore (λ range. nat_lt range.1 (length text)) (matches table strength variable pattern text) (match-ends-rise text)
+      rising_filter EndsEarlier (λ range. nat_lt range.1 (length text)) (matches table strength variable pattern text) (match-ends-rise text)
 
-  answer-ends-rise : (bytes : List ℕ) → Rising EndsBefore (answer table strength variable pattern bytes).ranges
+  answer-ends-rise : (bytes : List ℕ) → Rising EndsEarlier (answer table strength variable pattern bytes).ranges
   answer-ends-rise bytes = ends-rise-at bytes (fault bytes)
 
 -- ---- calls over a list
@@ -93,7 +93,7 @@ later-passed (suc n) rs r at less = passed-by n at rs r less (later-passed n rs 
 
 -- ends fall, and none is 0
 abbrev Falls : List (ℕ × ℕ) → Type 0
-Falls rs = Rising (λ r s. EndsBefore s r) rs × ((r : ℕ × ℕ) → In rs r → 0 < r.1)
+Falls rs = Rising (λ r s. EndsEarlier s r) rs × ((r : ℕ × ℕ) → In rs r → 0 < r.1)
 
 none-found : (n at : ℕ) → found_backward n [] at ≡ []
 none-found zero at = refl
@@ -128,11 +128,11 @@ falls-reversed R (x ∷ xs) up =
     (rising_append (λ x y. R y x) (reverse xs) (x ∷ []) (falls-reversed R xs up.1) (λ y never. absurd never, tt)
     (λ y z hy hz. elim hz [ inl e ↦ subst (λ w. R w y) e (up.0 y (in-reverse xs y hy)) | inr never ↦ absurd never ]))
 
-found-all : (n at : ℕ) (rs : List (ℕ × ℕ)) → Rising EndsBefore rs → AreLong rs → ((r : ℕ × ℕ) → In rs r → r.1 ≤ at) → found_backward n rs at ≡ take n (reverse rs)
+found-all : (n at : ℕ) (rs : List (ℕ × ℕ)) → Rising EndsEarlier rs → AreLong rs → ((r : ℕ × ℕ) → In rs r → r.1 ≤ at) → found_backward n rs at ≡ take n (reverse rs)
 found-all n at rs up long within =
     ap (λ (l : List (ℕ × ℕ)). found_backward n l at) (sym (reverse-reverse rs))
     ∙ found-reversed n at (reverse rs)
-    (falls-reversed EndsBefore rs up, λ r h. let less = long r (in-reverse rs r h) in omega (arith, less))
+    (falls-reversed EndsEarlier rs up, λ r h. let less = long r (in-reverse rs r h) in omega (arith, less))
     (λ r h. within r (in-reverse rs r h))
 
 -- ---- the law

@@ -73,15 +73,15 @@ EndsLater {W} {G} search end = (text u more : List ℕ) (handed : List (ℕ × �
     Contains (drop (length handed) (answer_to (sought search) text (u ++ more)).ranges) range → end < range.1
 
 -- what was handed out begins the answer
-abbrev pub Begins : {W : Type 0} {G : Ghosts W} → Search W G → Type 0
-Begins {W} {G} search = (text u later : List ℕ) (handed : List (ℕ × ℕ)) → IsCompiledFrom (sought search) text → HasSearched search u handed →
+abbrev pub HandedOutBeginsTheAnswer : {W : Type 0} {G : Ghosts W} → Search W G → Type 0
+HandedOutBeginsTheAnswer {W} {G} search = (text u later : List ℕ) (handed : List (ℕ × ℕ)) → IsCompiledFrom (sought search) text → HasSearched search u handed →
     (rest : List (ℕ × ℕ)) × ((answer_to (sought search) text (u ++ later)).ranges ≡ handed ++ rest)
 
 abbrev pub FaultsLater : {W : Type 0} {G : Ghosts W} → Search W G → ℕ → Type 0
 FaultsLater {W} {G} search end = (u more : List ℕ) (handed : List (ℕ × ℕ)) → HasSearched search u handed → ForSome (fault (u ++ more)) (λ f. end ≤ f.offset)
 
 pub stop-told : {W : Type 0} {G : Ghosts W} (search : Search W G) (s : Sought) (p u later : List ℕ) (to end : ℕ) (handed : List (ℕ × ℕ)) →
-    sought search ≡ s → IsCompiledFrom s p → HasSearched search u handed → to ≤ end → Begins search → EndsLater search end → FaultsLater search end →
+    sought search ≡ s → IsCompiledFrom s p → HasSearched search u handed → to ≤ end → HandedOutBeginsTheAnswer search → EndsLater search end → FaultsLater search end →
     Ok (last_up_to to handed) ≡ said_up_to to (answer_to s p (u ++ later))
 stop-told search s p u later to end handed same compiled h enough begins ends faults =
     let here = subst (λ (t : Sought). IsCompiledFrom t p) (sym same) compiled in

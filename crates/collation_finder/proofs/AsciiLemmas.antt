@@ -20,7 +20,7 @@ use Rattle.nfd_points.proofs.PointsLemmas.{points_of-ascii}
 use Rattle.nfd_points.proofs.PushLemmas.{plain-pushed}
 use Rattle.nfd_points.proofs.ReorderingLemmas.{IsHeld-nil, is_closed-end, take-starter}
 use Rattle.nfd_points.proofs.RunLemmas.{run_after-nil, run_after-starter, short-starter}
-use Rattle.collation_finder.proofs.ApartLemmas.{from_first, from_none, from_one}
+use Rattle.collation_finder.proofs.TakenAtOnceLemmas.{from_first, from_none, from_one}
 
 pub ascii-len : (bs : List ℕ) → IsAscii bs → byte_len bs ≡ length bs
 unfolding byte_len

@@ -9,8 +9,8 @@ use Rattle.collation_letters.specs.Laws.{LetterLaws}
 use Rattle.collation_letters.specs.Letters.{IsLetter}
 use Rattle.collation_letters.specs.declared.letter.Letter.{Letter}
 use Rattle.collation_letters.proofs.ApartLemmas.{ordered_none}
-use Rattle.collation_finder.specs.Apart.{BeginsUnit}
-use Rattle.collation_finder.proofs.ApartLemmas.{begun, begins_anywhere, from_none, from_one}
+use Rattle.collation_finder.specs.TakenAtOnce.{BeginsUnit}
+use Rattle.collation_finder.proofs.TakenAtOnceLemmas.{begun, begins_anywhere, from_none, from_one}
 use Rattle.collation_finder.proofs.CharacterLemmas.{apart-at}
 use Rattle.collation_finder.proofs.Untaken.{UnitsEndBefore, no-bytes}
 

@@ -7,7 +7,7 @@ use Rattle.nfd_points.specs.Laws.{GivenAreFinal}
 use Rattle.collation_table.specs.Table.{TableMap}
 use Rattle.collation_elements.specs.Decided.{left_points, DecidedUnitsStay}
 use Rattle.collation_finder.specs.Early.{IsCutUpTo, final_points}
-use Rattle.collation_finder.proofs.ApartLemmas.{Splits}
+use Rattle.collation_finder.proofs.TakenAtOnceLemmas.{UnitsSplitAt}
 
 -- what a reorderer gives comes after the points that were final
 pub final-more : GivenAreFinal → (old new : Waiting) (taken more : List ℕ) (given out : List Point) → HasReordered old taken given → HasReordered new (taken ++ more) (given ++ out) →
@@ -33,7 +33,7 @@ cut-pushed stay table place taken more out left now final is (inr e) = inr (reco
 
 -- after a pause
 pub cut-afresh : GivenAreFinal → (table : TableMap) (new : Waiting) (before more : List ℕ) (out later now : List Point) (first : Point) →
-    HasReordered new (before ++ more) (points before ++ out) → out ≡ first ∷ later → is_starter first ≡ true → Splits table (points before) first → now ≡ left_points table out →
+    HasReordered new (before ++ more) (points before ++ out) → out ≡ first ∷ later → is_starter first ≡ true → UnitsSplitAt table (points before) first → now ≡ left_points table out →
     IsCutUpTo table (byte_len before) (before ++ more) now
 cut-afresh law table new before more out later now first after begun starter ends is = inr (record {
   before = before;

@@ -1,6 +1,6 @@
 pub mod MatchingLemmas
 pub mod CharacterLemmas
-pub mod ApartLemmas
+pub mod TakenAtOnceLemmas
 pub mod AsciiLemmas
 pub mod PauseLemmas
 pub mod PointLetters

@@ -13,11 +13,11 @@ use Rattle.collation_letters.specs.Apart.{IsNext}
 use Rattle.collation_walk.specs.declared.matching.Matcher.{Matcher}
 use Rattle.collation_elements.specs.Windows.{Held}
 use Rattle.nfd_points.specs.Reordering.{Waiting}
-use Rattle.collation_finder.specs.Apart.{AreApart, IsPausedBefore}
+use Rattle.collation_finder.specs.TakenAtOnce.{CanBeTakenAtOnce, IsPausedBefore}
 use Rattle.collation_walk.specs.Walked.{HasWalkedOn}
 use Rattle.collation_finder.specs.LetterRun.{AreNext, HasComeTo}
 use Rattle.collation_letters.specs.Laws.{LetterLaws}
-use Rattle.collation_finder.proofs.ApartLemmas.{apart-none, apart-more, units-apart, from_none}
+use Rattle.collation_finder.proofs.TakenAtOnceLemmas.{apart-none, apart-more, units-apart, from_none}
 use Rattle.collation_finder.proofs.CharacterLemmas.{on-none, on-more, text-part, chars-len, chars-more, one_char, spells-after}
 use Rattle.collation_finder.proofs.PauseLemmas.{paused-on}
 
@@ -32,7 +32,7 @@ come-none laws table pattern piece offset reach first matcher within spelled beg
       next = spelled;
       text = IsUtf8-nil;
       begun = ([], ap (λ (cs : List ℕ). cs ++ first ∷ []) chars-nil);
-      apart = subst (λ (cs : List ℕ). AreApart table offset cs first) (sym chars-nil) (apart-none laws table offset first begins);
+      apart = subst (λ (cs : List ℕ). CanBeTakenAtOnce table offset cs first) (sym chars-nil) (apart-none laws table offset first begins);
       walked = on-none table pattern matcher (units table (points_from offset (chars (take 0 piece)))) (ap (units table) none);
     }
 
@@ -62,7 +62,7 @@ come-further laws table pattern piece offset reach first at to c next m m₁ m�
         h.begun.0 ++ (n.first.0 ++ next ∷ []),
         ap (λ (t : List ℕ). t ++ next ∷ []) (upto.1 ∙ ap (λ (t : List ℕ). cs ++ t) n.first.1) ∙ joined cs n.first.0 c next ∙ ap (λ (t : List ℕ). t ++ (n.first.0 ++ next ∷ [])) h.begun.1,
       );
-      apart = subst (λ (t : List ℕ). AreApart table offset t next) (sym upto.1) (apart-more laws table offset c next cs n.first.0 more n.first.1 h.apart ends);
+      apart = subst (λ (t : List ℕ). CanBeTakenAtOnce table offset t next) (sym upto.1) (apart-more laws table offset c next cs n.first.0 more n.first.1 h.apart ends);
       walked = on-more table pattern m m₁ m₂
           (units table (points_from offset cs)) (units table (points_from (offset + at) more)) (units table (points_from offset (chars (take to piece)))) ranges found cut h.walked goes;
     }
@@ -92,7 +92,7 @@ pub come-paused : LetterLaws → (table : TableMap) (pattern : Compiled) (piece 
     offset ≡ byte_len taken → IsPausedBefore table pattern waiting window m' (taken ++ chars (take at piece)) (ranges ++ found) next
 come-paused laws table pattern piece offset reach first at next m m' found waiting window taken ranges e paused place =
     let cs = chars (take at piece) in
-    let run : AreApart table (byte_len taken) cs next = subst (λ k. AreApart table k cs next) place e.apart in
+    let run : CanBeTakenAtOnce table (byte_len taken) cs next = subst (λ k. CanBeTakenAtOnce table k cs next) place e.apart in
     let on : HasWalkedOn table pattern m m' (units table (points_from (byte_len taken) cs)) found =
     subst (λ k. HasWalkedOn table pattern m m' (units table (points_from k cs)) found) place e.walked in
     paused-on laws table pattern waiting window m m' taken cs first next e.begun.0 ranges found e.begun.1 paused run on

@@ -14,12 +14,12 @@ use Rattle.collation_elements.specs.declared.keys.Item.{Item}
 use Rattle.collation_elements.specs.Windows.{Held}
 use Rattle.collation_pattern.specs.Compiled.{Compiled}
 use Rattle.collation_walk.specs.declared.matching.Matcher.{Matcher}
-use Rattle.collation_finder.specs.Apart.{EndsBefore, AreApart, IsPausedBefore}
+use Rattle.collation_finder.specs.TakenAtOnce.{EndsBefore, CanBeTakenAtOnce, IsPausedBefore}
 use Rattle.collation_finder.specs.Matching.{HasMatched}
 use Rattle.collation_walk.specs.Walked.{HasWalked, HasWalkedOn}
 use Rattle.collation_walk.specs.Walks.{WalksOver}
 use Rattle.collation_letters.specs.Laws.{LetterLaws}
-use Rattle.collation_finder.proofs.ApartLemmas.{Splits, begun, begins_anywhere, from_first, from_none, len_none, units-more, splits-more, ends_here, ends_there}
+use Rattle.collation_finder.proofs.TakenAtOnceLemmas.{UnitsSplitAt, begun, begins_anywhere, from_first, from_none, len_none, units-more, splits-more, ends_here, ends_there}
 
 not_both : (b rest : Bool) → b ≡ true → (not b && rest) ≡ true → ⊥
 not_both true rest starter h = cc
@@ -40,7 +40,7 @@ begins-prefix (p ∷ ps) qs h = h
 head-same : (x y : ℕ) (xs ys : List ℕ) → x ∷ xs ≡ y ∷ ys → x ≡ y
 head-same x y xs ys h = cc
 
-run_begins : LetterLaws → (table : TableMap) (start : ℕ) (cs : List ℕ) (next : ℕ) → AreApart table start cs next → begins_with_starter (points_from start cs) ≡ true
+run_begins : LetterLaws → (table : TableMap) (start : ℕ) (cs : List ℕ) (next : ℕ) → CanBeTakenAtOnce table start cs next → begins_with_starter (points_from start cs) ≡ true
 run_begins laws table start cs next h =
     begins-prefix (points_from start cs) (points_from (start + byte_len cs) (next ∷ [])) (ap begins_with_starter (sym (laws.parts start cs (next ∷ []))) ∙ h.begins)
 
@@ -53,7 +53,7 @@ run_begins_anywhere laws start other (c ∷ cs) h =
     ap begins_with_starter (from_first other c cs) ∙ ap (λ (t : List Point). begins_with_starter (t ++ points_from (other + len_utf8 c) cs)) here.is
     ∙ ap begins_with_starter (sym here.is) ∙ begins_anywhere start other c one
 
-pub points-on : LetterLaws → (table : TableMap) (taken cs : List ℕ) (next : ℕ) → AreApart table (byte_len taken) cs next →
+pub points-on : LetterLaws → (table : TableMap) (taken cs : List ℕ) (next : ℕ) → CanBeTakenAtOnce table (byte_len taken) cs next →
     points (taken ++ cs) ≡ points taken ++ points_from (byte_len taken) cs
 points-on laws table taken cs next h =
     let same : 0 + byte_len taken ≡ byte_len taken = omega arith in
@@ -76,7 +76,7 @@ units-on laws table ps start first others (c ∷ cs) next same ends =
     (from_first start c cs ∙ ap (λ (t : List Point). t ++ points_from (start + len_utf8 c) cs) b.is) (ends_here table ps start c b here)
 
 ends-on : LetterLaws → (table : TableMap) (ps : List Point) (start first : ℕ) (others cs : List ℕ) (next : ℕ) → cs ++ next ∷ [] ≡ first ∷ others → EndsBefore table ps start first →
-    AreApart table start cs next → EndsBefore table (ps ++ points_from start cs) (start + byte_len cs) next
+    CanBeTakenAtOnce table start cs next → EndsBefore table (ps ++ points_from start cs) (start + byte_len cs) next
 ends-on laws table ps start first others [] next same ends h =
     let nothing = from_none start in
     let here : start ≡ start + byte_len [] = let none = len_none in omega (arith, none) in
@@ -97,7 +97,7 @@ ends-on laws table ps start first others (c ∷ cs) next same ends h =
 
 pub paused-on : LetterLaws → (table : TableMap) (pattern : Compiled) (waiting : Waiting) (window : Held) (matcher matcher' : Matcher) (taken cs : List ℕ) (first next : ℕ)
     (others : List ℕ) (ranges found : List (ℕ × ℕ)) → cs ++ next ∷ [] ≡ first ∷ others → IsPausedBefore table pattern waiting window matcher taken ranges first →
-    AreApart table (byte_len taken) cs next → HasWalkedOn table pattern matcher matcher' (units table (points_from (byte_len taken) cs)) found →
+    CanBeTakenAtOnce table (byte_len taken) cs next → HasWalkedOn table pattern matcher matcher' (units table (points_from (byte_len taken) cs)) found →
     IsPausedBefore table pattern waiting window matcher' (taken ++ cs) (ranges ++ found) next
 paused-on laws table pattern waiting window matcher matcher' taken cs first next others ranges found same h run walked =
     let all = points-on laws table taken cs next run in
@@ -143,7 +143,7 @@ first_given [] held tail x all starter others =
 first_given (p ∷ out) held tail x all starter others = (out, cons-first p x (out ++ held) tail out all)
 
 pub matched-afresh : (table : TableMap) (pattern : Compiled) (window : Held) (matcher : Matcher) (ps out later : List Point) (x : Point) (ranges : List (ℕ × ℕ)) →
-    out ≡ x ∷ later → Splits table ps x → HasWalked table pattern matcher (units table ps) ranges → window.points ≡ out → HasMatched table pattern window matcher (ps ++ out) ranges
+    out ≡ x ∷ later → UnitsSplitAt table ps x → HasWalked table pattern matcher (units table ps) ranges → window.points ≡ out → HasMatched table pattern window matcher (ps ++ out) ranges
 matched-afresh table pattern window matcher ps out later x ranges begun splits h held = record {
   units = units table ps;
   cut = record {

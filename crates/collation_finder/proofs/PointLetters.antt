@@ -16,9 +16,9 @@ use Rattle.collation_letters.specs.declared.letter.Role.TheVariants.{Plain}
 use Rattle.collation_letters.specs.Letters.{IsLetter}
 use Rattle.collation_walk.specs.declared.matching.Matcher.{Matcher}
 use Rattle.collation_walk.specs.Walked.{HasWalkedOn}
-use Rattle.collation_finder.specs.Apart.{AreClosedHere}
+use Rattle.collation_finder.specs.TakenAtOnce.{AreClosedHere}
 use Rattle.collation_finder.specs.Matching.{HasMatched}
-use Rattle.collation_finder.proofs.ApartLemmas.{from_one}
+use Rattle.collation_finder.proofs.TakenAtOnceLemmas.{from_one}
 use Rattle.collation_finder.proofs.CharacterLemmas.{points_are_shifted}
 
 -- the points of one character, where it stands

@@ -29,14 +29,14 @@ use Rattle.collation_walk.specs.Walked.{HasWalkedOn}
 use Rattle.collation_walk.specs.Walks.{WalksOver, passed_to, place_of}
 use Rattle.collation_matches.specs.ByClusters.{placed}
 use Rattle.collation_matches.specs.Selecting.{selected, remembered}
-use Rattle.collation_finder.proofs.ApartLemmas.{from_none}
+use Rattle.collation_finder.proofs.TakenAtOnceLemmas.{from_none}
 use Rattle.collation_finder.proofs.CharacterLemmas.{chars-len, chars-more, one_char}
-use Rattle.collation_walk.proofs.LetterApart.{GoesOnLaw}
+use Rattle.collation_letters.proofs.WeigherLaw.{WeighersGoOn}
 use Rattle.collation_walk.proofs.LetterSteps.{none_kept, walks-begin_none, walks-none}
 use Rattle.collation_walk.proofs.WalkSteps.{border_none, found_before, walks-key}
 
 -- what is known of borders and symbols
-pub record Laws : Type 0 where
+pub record BorderAndSymbolLaws : Type 0 where
   pub go_on : BordersGoOn
   pub foreign : NothingWaitsBehindForeignKeys
   pub one : OneSymbolIsOfTheLastKey
@@ -126,7 +126,7 @@ any-places pattern items ranges u w h none now at some select last_end capacity 
       last_end = sym last_end ∙ h.last_end ∙ ap (λ t. remembered t ranges) select;
     }
 
-pub walks-passed : Laws → (pattern keys : List Key) (more items : List Item) (ranges : List (ℕ × ℕ)) (start last : ℕ) (w : Walk) → w.state ≡ 0 → 1 ≤ start → start ≤ last → StartFrom start more →
+pub walks-passed : BorderAndSymbolLaws → (pattern keys : List Key) (more items : List Item) (ranges : List (ℕ × ℕ)) (start last : ℕ) (w : Walk) → w.state ≡ 0 → 1 ≤ start → start ≤ last → StartFrom start more →
     IsQuiet pattern (more ++ ClusterStart last ∷ []) → AreLastSymbols pattern keys (0 ∷ []) → WalksOver pattern items ranges w →
     WalksOver pattern (items ++ (more ++ ClusterStart last ∷ map (λ key. Element key) keys)) ranges (passed_to w last)
 walks-passed laws pattern keys more items ranges start last w none some after from quiet symbols h =
@@ -149,7 +149,7 @@ walks-passed laws pattern keys more items ranges start last w none some after fr
     (subst (λ (is : List Item). WalksOver pattern is ranges u) all ended) refl refl refl refl over.select over.last_end h.capacity h.few
 
 -- where no key waits and the last element that was variable or primary was not variable: behind the text that is passed the same
-pub goes-on : Laws → GoesOnLaw → (table : TableMap) (pattern : Compiled) (m : Matcher) (start last : ℕ) (cs : List ℕ) (next : ℕ) → m.weigher.after_variable ≡ false → m.walk.state ≡ 0 → 1 ≤ start →
+pub goes-on : BorderAndSymbolLaws → WeighersGoOn → (table : TableMap) (pattern : Compiled) (m : Matcher) (start last : ℕ) (cs : List ℕ) (next : ℕ) → m.weigher.after_variable ≡ false → m.walk.state ≡ 0 → 1 ≤ start →
     IsPassed table pattern start last cs next → HasWalkedOn table pattern m (record m { walk = passed_to m.walk last }) (units table (points_from start cs)) []
 goes-on laws law table pattern m start last cs next plain none some p = λ before ranges on.
     let w = m.weigher in

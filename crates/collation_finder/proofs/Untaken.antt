@@ -30,10 +30,10 @@ use Rattle.collation_walk.specs.declared.matching.Matcher.{Matcher}
 use Rattle.collation_walk.specs.Walked.{HasWalked, HasWalkedOn}
 use Rattle.collation_walk.specs.Walks.{passed_to}
 use Rattle.collation_finder.specs.declared.finder.Finder.{Finder}
-use Rattle.collation_finder.specs.Apart.{AreApart, IsPausedBefore}
+use Rattle.collation_finder.specs.TakenAtOnce.{CanBeTakenAtOnce, IsPausedBefore}
 use Rattle.collation_finder.specs.Finding.{FinderStandsFor}
 use Rattle.collation_finder.specs.ShortPiece.{HoldsAscii, PassesShort}
-use Rattle.collation_finder.proofs.ApartLemmas.{apart-none, apart-more, from_first, from_none, from_one, len_none}
+use Rattle.collation_finder.proofs.TakenAtOnceLemmas.{apart-none, apart-more, from_first, from_none, from_one, len_none}
 use Rattle.collation_finder.proofs.AsciiLemmas.{points-more}
 use Rattle.collation_finder.proofs.CharacterLemmas.{apart-at, chars-len}
 use Rattle.collation_finder.proofs.PauseLemmas.{paused-on}
@@ -42,7 +42,7 @@ use Rattle.collation_finder.proofs.PauseLemmas.{paused-on}
 abbrev pub UnitsEndBefore : Type 0
 UnitsEndBefore = (table : TableMap) (ps : List Point) (d : Point) (more : List Point) → is_starter d ≡ true → ContinuesNoString table d.cp → units table (ps ++ d ∷ more) ≡ units table ps ++ units table (d ∷ more)
 
-pub record Laws : Type 0 where
+pub record ShortPassLaws : Type 0 where
   pub letters : LetterLaws
   pub cuts : TextsAreCut
   pub others : WaitingAreOthers
@@ -101,7 +101,7 @@ split-at ps s i less is =
     sym (take-append-drop i ps) ∙ ap (λ (t : List Point). take i ps ++ t) (drop-cons ps i s less ∙ ap (λ (p : Point). p ∷ drop (suc i) ps) is)
 
 -- a point of ASCII at the last byte is the last character's
-ends-with : Laws → (taken : List ℕ) (at b : ℕ) → at + 1 ≡ byte_len taken → Contains (points taken) (ascii_point at b) → EndsWith taken at b
+ends-with : ShortPassLaws → (taken : List ℕ) (at b : ℕ) → at + 1 ≡ byte_len taken → Contains (points taken) (ascii_point at b) → EndsWith taken at b
 ends-with laws taken at b last there =
     let s = ascii_point at b in
     let ps = points taken in
@@ -175,7 +175,7 @@ all-earlier laws start bytes ascii (suc n) few =
     last b (suc k) d less = absurd (omega (arith, less))
 
 -- each of the last characters is cut off, the last one first
-untaken : Laws → (start : ℕ) (bytes : List ℕ) → IsAscii bytes → (n : ℕ) (taken : List ℕ) → n ≤ length bytes → start + n ≡ byte_len taken →
+untaken : ShortPassLaws → (start : ℕ) (bytes : List ℕ) → IsAscii bytes → (n : ℕ) (taken : List ℕ) → n ≤ length bytes → start + n ≡ byte_len taken →
     All (Contains (points taken)) (points_from start (take n bytes)) → IsUntaken taken start (take n bytes)
 untaken laws start bytes ascii zero taken few place among = record {
   before = taken;
@@ -224,7 +224,7 @@ pub record IsPausable (table : TableMap) (pattern : Compiled) (finder : Finder) 
   pub offset : byte_len before ≡ start
   pub paused : (window : Held) → window.points ≡ [] → IsPausedBefore table pattern finder.reorder window finder.matcher before handed first
 
-pub pausable : Laws → (table : TableMap) (pattern : Compiled) (finder : Finder) (taken : List ℕ) (handed : List (ℕ × ℕ)) (b : ℕ) (others bytes : List ℕ) (letter : Letter) → bytes ≡ b ∷ others →
+pub pausable : ShortPassLaws → (table : TableMap) (pattern : Compiled) (finder : Finder) (taken : List ℕ) (handed : List (ℕ × ℕ)) (b : ℕ) (others bytes : List ℕ) (letter : Letter) → bytes ≡ b ∷ others →
     letter.is_apart ≡ true → IsLetter table pattern (b ∷ []) letter → HoldsAscii finder (byte_len taken) bytes → FinderStandsFor table pattern finder taken handed →
     IsPausable table pattern finder taken handed (byte_len taken - length bytes) b bytes
 pausable laws table pattern finder taken handed b others bytes letter begun apart is held h =
@@ -286,7 +286,7 @@ first-of : (bytes more others : List ℕ) (first : ℕ) → 1 ≤ length bytes �
 first-of [] more others first some all = absurd (omega (arith, some))
 first-of (b ∷ bytes) more others first some all = (bytes, ap (λ (c : ℕ). c ∷ bytes) (same-head b first (bytes ++ more) others all))
 
-module _ (laws : Laws) (table : TableMap) (pattern : Compiled) (finder : Finder) (piece text bytes : List ℕ) (offset reach limit held start first : ℕ) (letter : Letter) (s : Passed)
+module _ (laws : ShortPassLaws) (table : TableMap) (pattern : Compiled) (finder : Finder) (piece text bytes : List ℕ) (offset reach limit held start first : ℕ) (letter : Letter) (s : Passed)
     (holds : HoldsAscii finder offset bytes) (count : length bytes ≡ held) (joined : text ≡ bytes ++ piece) (begin : start ≡ offset - held) (far : limit ≤ reach + held) (forth : held ≤ s.end)
     (apart : letter.is_apart ≡ true) (is : IsLetter table pattern (first ∷ []) letter) (state : finder.matcher.walk.state ≡ 0) (flag : is_after_variable finder.matcher.weigher ≡ false)
     (others : List ℕ) (begun : chars (take s.end text) ≡ first ∷ others) (passes : PassesTo table pattern text limit s) (next : IsNext table start (chars (take s.end text)) s.next)
@@ -315,7 +315,7 @@ module _ (laws : Laws) (table : TableMap) (pattern : Compiled) (finder : Finder)
       let small : first < 128 = let f = holds.ascii 0 in let same = ap (λ (bs : List ℕ). get_or bs 0 0) bytes-begin.1 in omega (arith, f, same) in
       ap begins_with_starter (laws.letters.ascii start first small)
 
-  run : AreApart table start (chars (take s.end text)) s.next
+  run : CanBeTakenAtOnce table start (chars (take s.end text)) s.next
   run =
       let here : start ≡ start + byte_len [] = let none = len_none in omega (arith, none) in
       apart-more laws.letters table start first s.next [] others (chars (take s.end text)) begun (apart-none laws.letters table start first first-begins)
@@ -331,7 +331,7 @@ module _ (laws : Laws) (table : TableMap) (pattern : Compiled) (finder : Finder)
       let on : HasWalkedOn table pattern finder.matcher now (units table (points_from (byte_len p.before) cs)) [] =
       subst (λ k. HasWalkedOn table pattern finder.matcher now (units table (points_from k cs)) []) at (walked finder.matcher flag state) in
       let there = paused-on laws.letters table pattern finder.reorder window finder.matcher now p.before cs first s.next (others ++ s.next ∷ []) handed []
-      (ap (λ (t : List ℕ). t ++ s.next ∷ []) begun) (p.paused window none) (subst (λ k. AreApart table k cs s.next) at run) on in
+      (ap (λ (t : List ℕ). t ++ s.next ∷ []) begun) (p.paused window none) (subst (λ k. CanBeTakenAtOnce table k cs s.next) at run) on in
       let all : p.before ++ cs ≡ taken ++ chars (take (s.end - held) piece) =
       ap (λ (t : List ℕ). p.before ++ t) codes ∙ sym (append_assoc p.before bytes (chars (take (s.end - held) piece))) ∙ ap (λ (t : List ℕ). t ++ chars (take (s.end - held) piece)) (sym p.text) in
       subst (λ (t : List ℕ). IsPausedBefore table pattern finder.reorder window now t handed s.next) all

@@ -18,8 +18,8 @@ use Rattle.collation_walk.specs.Walks.{passed_to}
 use Rattle.collation_finder.specs.declared.cache.Cache.{Cache}
 
 -- it holds of this table and this pattern
-abbrev pub AreRight : TableMap → Compiled → Cache → Type 0
-AreRight table pattern cache = AreLetters table pattern cache.letters × IsSkipRight table pattern cache.skip
+abbrev pub IsCacheRight : TableMap → Compiled → Cache → Type 0
+IsCacheRight table pattern cache = AreLetters table pattern cache.letters × IsSkipRight table pattern cache.skip
 
 -- Text at the front of a piece, which begins with this character and stands at an offset, may be passed by where no key waits.
 pub record SkipsText (table : TableMap) (pattern : Compiled) (piece : List ℕ) (first reach offset : ℕ) (passed : Passed) : Type 0 where

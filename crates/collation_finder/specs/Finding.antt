@@ -45,7 +45,7 @@ pub record StaysOpen (old new : Finder) : Type 0 where
   pub open_text : new.window.has_ended ≡ false
   pub setup : KeepsSetup old new
 
--- the text ended: all its units were cut, and the ranges before the last cluster came out
+-- all units of the text were cut, as at its end, and the ranges before the last cluster came out
 pub record EndsText (table : TableMap) (pattern : Compiled) (old new : Finder) (found : List (ℕ × ℕ)) : Type 0 where
   pub walked : (taken : List ℕ) (ranges : List (ℕ × ℕ)) → FinderStandsFor table pattern old taken ranges →
       HasWalked table pattern new.matcher (units table (points taken)) (ranges ++ found)

@@ -14,14 +14,14 @@ use Rattle.collation_walk.specs.declared.matching.Matcher.{Matcher}
 use Rattle.collation_walk.specs.Walked.{HasWalkedOn}
 use Rattle.collation_finder.specs.declared.letter_loop.Front.{Front}
 use Rattle.collation_finder.specs.declared.letter_loop.Walked.{Walked}
-use Rattle.collation_finder.specs.Apart.{AreApart}
+use Rattle.collation_finder.specs.TakenAtOnce.{CanBeTakenAtOnce}
 
 -- a character stands at the front of a piece
 abbrev pub StandsInFront : List ℕ → ℕ → Type 0
 StandsInFront piece c = (len_utf8 c ≤ length piece) × SpellsCharacter (take (len_utf8 c) piece) c
 
 -- This character stands there, which begins with a starter, and has this letter; the piece stands at an offset.
-pub record IsFirst (table : TableMap) (pattern : Compiled) (piece : List ℕ) (offset c : ℕ) (l : Letter) : Type 0 where
+pub record IsFirstLetter (table : TableMap) (pattern : Compiled) (piece : List ℕ) (offset c : ℕ) (l : Letter) : Type 0 where
   pub front : StandsInFront piece c
   pub begins : begins_with_starter (points_of offset c) ≡ true
   pub letter : IsLetter table pattern (c ∷ []) l
@@ -47,7 +47,7 @@ pub record HasComeTo (table : TableMap) (pattern : Compiled) (piece : List ℕ) 
   pub next : SpellsCharacter (take (len_utf8 c) (drop at piece)) c
   pub text : IsUtf8 (take at piece)
   pub begun : (others : List ℕ) × (chars (take at piece) ++ c ∷ [] ≡ first ∷ others)
-  pub apart : AreApart table offset (chars (take at piece)) c
+  pub apart : CanBeTakenAtOnce table offset (chars (take at piece)) c
   pub walked : HasWalkedOn table pattern matcher now (units table (points_from offset (chars (take at piece)))) ranges
 
 -- The next characters of the piece, up to a place, which begin with c: no unit reaches from them to the character that follows.

@@ -8,10 +8,10 @@ use Rattle.collation_letters.specs.declared.letter.Letter.{Letter}
 use Rattle.collation_letters.specs.declared.letter.Role.TheVariants.{Plain}
 use Rattle.collation_letters.specs.Letters.{IsLetter}
 use Rattle.collation_finder.specs.declared.finder.Finder.{Finder}
-use Rattle.collation_finder.specs.Apart.{IsPaused}
+use Rattle.collation_finder.specs.TakenAtOnce.{IsPaused}
 use Rattle.collation_finder.specs.Finding.{FinderStandsFor}
 
--- A point is a plain letter, which is that of the point's own code point, all of what that decomposes to.
+-- The code point of a point has a plain letter; where it is its own decomposition, it gives this point alone.
 pub record IsPlainPoint (table : TableMap) (pattern : Compiled) (point : Point) (l : Letter) : Type 0 where
   pub alone : decomposition point.cp ≡ point.cp ∷ [] → points_from point.offset (point.cp ∷ []) ≡ point ∷ []
   pub plain : l.role ≡ Plain

@@ -12,7 +12,7 @@ use Rattle.collation_walk.specs.Walks.{passed_to}
 use Rattle.collation_finder.specs.declared.finder.Finder.{Finder}
 use Rattle.collation_finder.specs.declared.letter_loop.Front.{Front}
 use Rattle.collation_finder.specs.declared.short_piece.PassedShort.{PassedShort}
-use Rattle.collation_finder.specs.Apart.{IsPausedBefore}
+use Rattle.collation_finder.specs.TakenAtOnce.{IsPausedBefore}
 use Rattle.collation_finder.specs.Finding.{FinderStandsFor}
 
 -- The points of the window are those of these bytes of ASCII, one at least, which end at a byte offset, and no point waits.
@@ -36,6 +36,6 @@ pub record PassesShort (table : TableMap) (pattern : Compiled) (finder : Finder)
       IsPausedBefore table pattern finder.reorder window (record finder.matcher { walk = passed_to finder.matcher.walk start }) (taken ++ chars (take len piece)) handed next
 
 -- What may be passed by at the front of a piece, with the letter of the character that follows.
-pub record MayPass (table : TableMap) (pattern : Compiled) (finder : Finder) (front : Front) (passed : PassedShort) : Type 0 where
+pub record MayPassShort (table : TableMap) (pattern : Compiled) (finder : Finder) (front : Front) (passed : PassedShort) : Type 0 where
   pub passes : PassesShort table pattern finder front.piece.now front.offset front.reach passed.start passed.end.len passed.end.next
   pub letter : IsLetter table pattern (passed.end.next ∷ []) passed.end.letter

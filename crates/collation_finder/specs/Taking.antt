@@ -9,7 +9,7 @@ use Rattle.collation_pattern.specs.Compiled.{Compiled}
 use Rattle.collation_walk.specs.declared.matching.Matcher.{Matcher}
 use Rattle.collation_finder.specs.declared.finder.Finder.{Finder}
 use Rattle.collation_finder.specs.declared.letter_loop.Front.{Front}
-use Rattle.collation_finder.specs.Apart.{IsPausedBefore}
+use Rattle.collation_finder.specs.TakenAtOnce.{IsPausedBefore}
 use Rattle.collation_finder.specs.Early.{IsCutUpTo}
 use Rattle.collation_finder.specs.Finding.{FinderStandsFor, StaysOpen}
 
@@ -32,7 +32,7 @@ StandsBefore table pattern finder first taken handed = FinderStandsFor table pat
 
 -- ---- and up to which byte offset, at most, units were cut early, or are to be
 
--- It represents what was taken.
+-- It represents what was taken, and units were cut early up to `place` at most.
 pub record StandsCut (table : TableMap) (pattern : Compiled) (finder : Finder) (place : ℕ) (taken : List ℕ) (handed : List (ℕ × ℕ)) : Type 0 where
   pub stands : FinderStandsFor table pattern finder taken handed
   pub cut : IsCutUpTo table place taken finder.window.points

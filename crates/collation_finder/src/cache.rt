@@ -13,16 +13,16 @@ use std::alloc::{AllocError, Global};
 const MOST_HELD: usize = 256;
 
 /// How many bytes that were passed by are so much that none are walked over next.
-const MUCH: usize = 24;
+const MUCH_PASSED: usize = 24;
 
 /// The most keys of a pattern for which letters are found, and text is passed by, from the first piece on.
-const MOST_KEYS: usize = 1_024;
+const MOST_KEYS_AT_ONCE: usize = 1_024;
 
 /// The most bytes of a short text that go by steps alone where the pattern has more keys: of a script of many letters few come again.
 const BY_STEPS: usize = 3_072;
 
 /// How many bytes of a piece tell what its characters are.
-const FRONT: usize = 512;
+const TELLING_FRONT: usize = 512;
 
 /// How many bytes are walked over first where the pattern has more keys: only a longer text gives back what it costs to find out what
 /// passes it by.
@@ -49,8 +49,8 @@ impl Cache {
     ghost use Rattle.nfd_points.specs.Points.{points_of, begins_with_starter};
     ghost use Rattle.collation_table.specs.Table.{TableMap};
     ghost use Rattle.collation_pattern.specs.Compiled.{Compiled};
-    ghost use Rattle.collation_finder.specs.declared.cache.TheConstants.{MOST_KEYS};
-    ghost use Rattle.collation_finder.specs.Caches.{AreRight, SkipsText};
+    ghost use Rattle.collation_finder.specs.declared.cache.TheConstants.{MOST_KEYS_AT_ONCE};
+    ghost use Rattle.collation_finder.specs.Caches.{IsCacheRight, SkipsText};
     ghost use Rattle.collation_finder.specs.LetterRun.{StandsInFront};
 
     /// Nothing is known yet.
@@ -60,11 +60,11 @@ impl Cache {
     /// Only where memory was refused.
     pub fn new<W: Weights>(alloc: Global, table: &W, pattern: &Pattern) -> Result<Cache, AllocError>
         ensures right { IfOk result (λ cache. (table : TableMap) (pattern : Compiled)
-            → AreRight table pattern cache) }
-        ensures at_once { length pattern.now.keys ≤ MOST_KEYS
+            → IsCacheRight table pattern cache) }
+        ensures at_once { length pattern.now.keys ≤ MOST_KEYS_AT_ONCE
             → IfOk result (λ cache. cache.by_steps ≡ 0) }
     {
-        let (by_steps, due) = if pattern.len() > MOST_KEYS {
+        let (by_steps, due) = if pattern.len() > MOST_KEYS_AT_ONCE {
             (BY_STEPS, WALKED_FIRST)
         } else {
             (0, 0)
@@ -83,7 +83,7 @@ impl Cache {
     /// `due` are walked over before any are passed by.
     pub fn prepare(&mut self, by_steps: usize, due: usize, len: usize)
         ensures { (table : TableMap) (pattern : Compiled)
-            → AreRight table pattern self.old → AreRight table pattern self.new }
+            → IsCacheRight table pattern self.old → IsCacheRight table pattern self.new }
     {
         self.by_steps = self.by_steps.max(by_steps);
         self.due = self.due.max(due);
@@ -94,8 +94,8 @@ impl Cache {
     /// its front says how many letters its script has.
     pub fn leaves_to_steps(&self, piece: &[u8]) -> bool {
         let gone = BY_STEPS.saturating_sub(self.by_steps);
-        let front = &piece[..piece.len().min(FRONT)];
-        gone.saturating_mul(front.len()) <= FRONT.saturating_mul(most_by_steps(front))
+        let front = &piece[..piece.len().min(TELLING_FRONT)];
+        gone.saturating_mul(front.len()) <= TELLING_FRONT.saturating_mul(most_by_steps(front))
     }
 
     /// Passes by text at the front of a piece, which stands at a byte offset, where no key waits. It ends at `reach` or before it.
@@ -111,11 +111,11 @@ impl Cache {
         requires first { StandsInFront piece.now first }
         requires begins { begins_with_starter (points_of offset first) ≡ true }
         requires later { 0 < offset }
-        requires right { AreRight (W.table query.now.table.now) query.now.pattern.now self.old }
+        requires right { IsCacheRight (W.table query.now.table.now) query.now.pattern.now self.old }
         ensures skips { IfSome result
             (SkipsText (W.table query.now.table.now) query.now.pattern.now
             piece.now first reach offset) }
-        ensures right { AreRight (W.table query.now.table.now) query.now.pattern.now self.new }
+        ensures right { IsCacheRight (W.table query.now.table.now) query.now.pattern.now self.new }
     {
         laws_of_symbols();
         laws_of_borders();
@@ -156,7 +156,7 @@ fn most_by_steps(front: &[u8]) -> usize {
 /// How many bytes are walked over before text is passed by again, where so many were before, and so many were passed by then: none where
 /// these are much, a quarter as many where they were worth it, else twice as many.
 fn held_after(hold: usize, passed: usize, was_worth_it: bool) -> usize {
-    if passed >= MUCH {
+    if passed >= MUCH_PASSED {
         return 0;
     }
     let held = if was_worth_it { hold / 4 } else { twice(hold) };

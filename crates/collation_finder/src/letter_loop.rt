@@ -4,8 +4,8 @@ ghost use Rattle.std.specs.Char.{len_utf8};
 ghost use Rattle.collation_letters.specs.Letters.{IsLetter};
 ghost use Rattle.collation_letters.specs.Store.{AreLetters};
 ghost use Rattle.collation_matches.specs.GoodPrefix.{most_bytes};
-ghost use Rattle.collation_finder.specs.Caches.{AreRight};
-ghost use Rattle.collation_finder.specs.LetterRun.{IsFirst, HasComeTo, PassesOn};
+ghost use Rattle.collation_finder.specs.Caches.{IsCacheRight};
+ghost use Rattle.collation_finder.specs.LetterRun.{IsFirstLetter, HasComeTo, PassesOn};
 ghost use Rattle.collation_elements.specs.Weighing.{is_after_variable};
 ghost use Rattle.collation_walk.specs.HandingOut.{HandsOut};
 ghost use Rattle.collation_walk.specs.Walks.{KeepsWalk};
@@ -52,9 +52,9 @@ pub(crate) fn walk_letters<W: Weights, F: FnMut(u64, u64)>(
     from: Walked,
     sink: &mut F,
 ) -> Walked
-    requires first { IsFirst (W.table query.now.table.now) query.now.pattern.now
+    requires first { IsFirstLetter (W.table query.now.table.now) query.now.pattern.now
         front.piece.now front.offset from.next from.letter }
-    requires right { AreRight (W.table query.now.table.now) query.now.pattern.now cache.old }
+    requires right { IsCacheRight (W.table query.now.table.now) query.now.pattern.now cache.old }
     requires fits { front.offset + length front.piece.now ≤ most_bytes }
     requires state { matcher.old.walk.state ≤ length query.now.pattern.now.keys }
     requires callable { F.IsAlwaysCallable sink.old }
@@ -62,7 +62,7 @@ pub(crate) fn walk_letters<W: Weights, F: FnMut(u64, u64)>(
         (HasComeTo (W.table query.now.table.now) query.now.pattern.now
         front.entry.piece.now front.entry.offset front.entry.reach from.next matcher.old matcher.new
         result.len result.next) }
-    ensures right { AreRight (W.table query.now.table.now) query.now.pattern.now cache.new }
+    ensures right { IsCacheRight (W.table query.now.table.now) query.now.pattern.now cache.new }
     ensures keeps { KeepsWalk query.now.pattern.now matcher.old.walk matcher.new.walk }
     ensures callable { F.IsAlwaysCallable sink.new }
 {
@@ -159,16 +159,16 @@ fn pass_by<W: Weights>(
     from: Walked,
 ) -> Walked
     requires near { from.len ≤ front.reach }
-    requires first { IsFirst (W.table query.now.table.now) query.now.pattern.now
+    requires first { IsFirstLetter (W.table query.now.table.now) query.now.pattern.now
         (drop from.len front.piece.now) (front.offset + from.len) from.next from.letter }
     requires later { 0 < front.offset + from.len }
     requires fits { front.offset + length front.piece.now ≤ most_bytes }
-    requires right { AreRight (W.table query.now.table.now) query.now.pattern.now cache.old }
+    requires right { IsCacheRight (W.table query.now.table.now) query.now.pattern.now cache.old }
     requires state { matcher.old.walk.state ≡ 0 }
     requires flag { is_after_variable matcher.old.weigher ≡ false }
     ensures passes { PassesOn (W.table query.now.table.now) query.now.pattern.now front.entry
         matcher.old matcher.new from result }
-    ensures right { AreRight (W.table query.now.table.now) query.now.pattern.now cache.new }
+    ensures right { IsCacheRight (W.table query.now.table.now) query.now.pattern.now cache.new }
     ensures keeps { KeepsWalk query.now.pattern.now matcher.old.walk matcher.new.walk }
 {
     laws_of_characters();

@@ -7,13 +7,13 @@ ghost use Rattle.collation_table.specs.Table.{TableMap};
 ghost use Rattle.collation_pattern.specs.Compiled.{Compiled};
 ghost use Rattle.collation_letters.specs.Letters.{IsLetter};
 ghost use Rattle.collation_letters.specs.Store.{AreLetters};
-ghost use Rattle.collation_finder.specs.Apart.{BeginsUnit};
+ghost use Rattle.collation_finder.specs.TakenAtOnce.{BeginsUnit};
 ghost use Rattle.collation_finder.specs.LetterRun.{IsFollowed, ReadsLetter, StandsInFront};
 
 use crate::cache::Cache;
 use crate::finder::Finder;
 use crate::letter_loop::{Front, Walked, walk_letters};
-use crate::short_piece::SHORT;
+use crate::short_piece::MOST_OF_SHORT_PIECE;
 use collation_elements::units_stay_apart;
 use collation_letters::{Letter, Letters, is_next, laws_of_characters};
 use collation_table::Weights;
@@ -178,20 +178,20 @@ fn joins_next<W: Weights>(
 }
 
 /// The most bytes over which letters go at once: text that can't be passed by may be looked over to their end in vain.
-const MOST: usize = 65_536;
+const MOST_IN_A_RUN: usize = 65_536;
 
 impl Finder {
     ghost use Rattle.std.specs.Prelude.{◌≡◌, ◌+◌, ◌≤◌, [], length};
     ghost use Rattle.collation_walk.specs.HandingOut.{HandsOut};
-    ghost use Rattle.collation_finder.specs.LetterRun.{IsFirst};
-    ghost use Rattle.collation_finder.specs.Caches.{AreRight};
+    ghost use Rattle.collation_finder.specs.LetterRun.{IsFirstLetter};
+    ghost use Rattle.collation_finder.specs.Caches.{IsCacheRight};
     ghost use Rattle.collation_matches.specs.GoodPrefix.{most_bytes};
     ghost use Rattle.collation_finder.specs.Finding.{IsReady};
     ghost use Rattle.collation_finder.specs.Taking.{TakesPaused, TakesText};
 
     /// Takes characters at the front of a piece, which stands at a byte offset, and calls the sink once for each range that became
     /// known, in order. It answers how many bytes it took: those up to the first character that it can't take so, or that begins
-    /// after `reach`, or after `MOST` bytes; none where that is the first one. Behind a character that ends after `reach` it also
+    /// after `reach`, or after `MOST_IN_A_RUN` bytes; none where that is the first one. Behind a character that ends after `reach` it also
     /// takes characters of ASCII, as many as there is room for. `found` is room that it uses.
     pub fn take_letters<W: Weights, F: FnMut(u64, u64)>(
         &mut self,
@@ -202,18 +202,18 @@ impl Finder {
         sink: &mut F,
     ) -> usize
         requires ready { IsReady (W.table query.now.table.now) query.now.pattern.now self.old }
-        requires right { AreRight (W.table query.now.table.now) query.now.pattern.now cache.old }
+        requires right { IsCacheRight (W.table query.now.table.now) query.now.pattern.now cache.old }
         requires fits { front.offset + length front.piece.now ≤ most_bytes }
         requires callable { F.IsAlwaysCallable sink.old }
         ensures taken { HandsOut F.step sink.old sink.new
             (TakesText (W.table query.now.table.now) query.now.pattern.now self.old self.new
             front.entry result) }
-        ensures right { AreRight (W.table query.now.table.now) query.now.pattern.now cache.new }
+        ensures right { IsCacheRight (W.table query.now.table.now) query.now.pattern.now cache.new }
         ensures callable { F.IsAlwaysCallable sink.new }
     {
         laws_of_points();
         let near = Front {
-            reach: front.reach.min(MOST),
+            reach: front.reach.min(MOST_IN_A_RUN),
             ..front
         };
         let len = self.take_to_reach(query, cache, near, found, sink);
@@ -236,17 +236,17 @@ impl Finder {
         sink: &mut F,
     ) -> usize
         requires ready { IsReady (W.table query.now.table.now) query.now.pattern.now self.old }
-        requires right { AreRight (W.table query.now.table.now) query.now.pattern.now cache.old }
+        requires right { IsCacheRight (W.table query.now.table.now) query.now.pattern.now cache.old }
         requires fits { front.offset + length front.piece.now ≤ most_bytes }
         requires callable { F.IsAlwaysCallable sink.old }
         ensures taken { HandsOut F.step sink.old sink.new
             (TakesText (W.table query.now.table.now) query.now.pattern.now self.old self.new
             front.entry result) }
-        ensures right { AreRight (W.table query.now.table.now) query.now.pattern.now cache.new }
+        ensures right { IsCacheRight (W.table query.now.table.now) query.now.pattern.now cache.new }
         ensures callable { F.IsAlwaysCallable sink.new }
     {
         // that is seen here, for most pieces are long, and a call costs more
-        if front.piece.len() <= SHORT {
+        if front.piece.len() <= MOST_OF_SHORT_PIECE {
             if let Some(passed) = self.pass_short(query, cache, front) {
                 return self.take_short_piece(query, cache, front, passed, found, sink);
             }
@@ -279,16 +279,16 @@ impl Finder {
         sink: &mut F,
     ) -> usize
         requires ready { IsReady (W.table query.now.table.now) query.now.pattern.now self.old }
-        requires right { AreRight (W.table query.now.table.now) query.now.pattern.now cache.old }
+        requires right { IsCacheRight (W.table query.now.table.now) query.now.pattern.now cache.old }
         requires fits { front.offset + length front.piece.now ≤ most_bytes }
         requires callable { F.IsAlwaysCallable sink.old }
         requires none_waits { self.old.reorder.held ≡ [] }
-        requires first { IsFirst (W.table query.now.table.now) query.now.pattern.now
+        requires first { IsFirstLetter (W.table query.now.table.now) query.now.pattern.now
             front.piece.now front.offset from.next from.letter }
         ensures taken { HandsOut F.step sink.old sink.new
             (TakesPaused (W.table query.now.table.now) query.now.pattern.now self.old self.new
             from.next front.entry result) }
-        ensures right { AreRight (W.table query.now.table.now) query.now.pattern.now cache.new }
+        ensures right { IsCacheRight (W.table query.now.table.now) query.now.pattern.now cache.new }
         ensures callable { F.IsAlwaysCallable sink.new }
     {
         laws_of_characters();

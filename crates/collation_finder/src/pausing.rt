@@ -2,7 +2,7 @@
 //! walked over as letters up to the first one that is no plain letter, and the rest as units.
 ghost use Rattle.std.specs.Prelude.{◌≡◌, ◌≤◌, All, [], length, take, false, IfSome};
 ghost use Rattle.nfd_points.specs.Reordering.{IsSoundPoint};
-ghost use Rattle.collation_finder.specs.Apart.{AreClosedHere, AreDecomposed};
+ghost use Rattle.collation_finder.specs.TakenAtOnce.{AreClosedHere, AreDecomposed};
 ghost use Rattle.collation_finder.specs.Pausing.{IsPlainPoint};
 ghost use Rattle.collation_elements.specs.Units.{units};
 ghost use Rattle.collation_letters.specs.Store.{AreLetters};

@@ -24,10 +24,10 @@ const ROOM: usize = 160;
 
 /// The most bytes of such a piece. A window between two pieces holds no more points than a table's
 /// longest string may have; within a piece it may hold more, and then there is no room.
-pub(crate) const SHORT: usize = ROOM - MOST_STRING_POINTS;
+pub(crate) const MOST_OF_SHORT_PIECE: usize = ROOM - MOST_STRING_POINTS;
 
 /// The fewest bytes that letters may be taken of in such a piece: fewer are sooner walked over.
-const FEWEST: usize = 24;
+const FEWEST_OF_SHORT_PIECE: usize = 24;
 
 /// The code points below this one are ASCII.
 const ASCII_END: u32 = 128;
@@ -58,9 +58,9 @@ impl Finder {
     ghost use Rattle.collation_elements.specs.Weighing.{is_after_variable};
     ghost use Rattle.collation_walk.specs.HandingOut.{HandsOut};
     ghost use Rattle.collation_matches.specs.GoodPrefix.{most_bytes};
-    ghost use Rattle.collation_finder.specs.Caches.{AreRight};
+    ghost use Rattle.collation_finder.specs.Caches.{IsCacheRight};
     ghost use Rattle.collation_finder.specs.Finding.{IsReady};
-    ghost use Rattle.collation_finder.specs.ShortPiece.{HoldsAscii, MayPass};
+    ghost use Rattle.collation_finder.specs.ShortPiece.{HoldsAscii, MayPassShort};
     ghost use Rattle.collation_finder.specs.Taking.{TakesText};
 
     /// Whether no key waits, and the last element that was variable or primary was not variable.
@@ -133,17 +133,17 @@ impl Finder {
         front: Front<'_>,
     ) -> Option<PassedShort>
         requires fits { front.offset + length front.piece.now ≤ most_bytes }
-        requires right { AreRight (W.table query.now.table.now) query.now.pattern.now cache.old }
+        requires right { IsCacheRight (W.table query.now.table.now) query.now.pattern.now cache.old }
         ensures passes { IfSome result
-            (MayPass (W.table query.now.table.now) query.now.pattern.now self.now front.entry) }
-        ensures right { AreRight (W.table query.now.table.now) query.now.pattern.now cache.new }
+            (MayPassShort (W.table query.now.table.now) query.now.pattern.now self.now front.entry) }
+        ensures right { IsCacheRight (W.table query.now.table.now) query.now.pattern.now cache.new }
     {
         laws_of_characters();
         laws_of_faults();
         laws_of_points();
         laws_of_reordering();
         units_stay_apart();
-        if front.reach < FEWEST || cache.due > 0 || !self.begins_with_ascii() {
+        if front.reach < FEWEST_OF_SHORT_PIECE || cache.due > 0 || !self.begins_with_ascii() {
             return None;
         }
         if !self.is_idle() {
@@ -191,15 +191,15 @@ impl Finder {
         sink: &mut F,
     ) -> usize
         requires ready { IsReady (W.table query.now.table.now) query.now.pattern.now self.old }
-        requires right { AreRight (W.table query.now.table.now) query.now.pattern.now cache.old }
+        requires right { IsCacheRight (W.table query.now.table.now) query.now.pattern.now cache.old }
         requires fits { front.offset + length front.piece.now ≤ most_bytes }
         requires callable { F.IsAlwaysCallable sink.old }
-        requires passes { MayPass (W.table query.now.table.now) query.now.pattern.now self.old
+        requires passes { MayPassShort (W.table query.now.table.now) query.now.pattern.now self.old
             front passed }
         ensures taken { HandsOut F.step sink.old sink.new
             (TakesText (W.table query.now.table.now) query.now.pattern.now self.old self.new
             front.entry result) }
-        ensures right { AreRight (W.table query.now.table.now) query.now.pattern.now cache.new }
+        ensures right { IsCacheRight (W.table query.now.table.now) query.now.pattern.now cache.new }
         ensures callable { F.IsAlwaysCallable sink.new }
     {
         laws_of_points();

@@ -14,14 +14,14 @@ use Rattle.collation_letters.specs.Laws.{LetterLaws}
 
 -- ---- where units end
 
-abbrev pub Splits : TableMap → List Point → Point → Type 0
-Splits table ps x = (more : List Point) → units table (ps ++ x ∷ more) ≡ units table ps ++ units table (x ∷ more)
+abbrev pub UnitsSplitAt : TableMap → List Point → Point → Type 0
+UnitsSplitAt table ps x = (more : List Point) → units table (ps ++ x ∷ more) ≡ units table ps ++ units table (x ∷ more)
 
-pub units-more : (table : TableMap) (ps qs tail : List Point) (x : Point) → qs ≡ x ∷ tail → Splits table ps x → units table (ps ++ qs) ≡ units table ps ++ units table qs
+pub units-more : (table : TableMap) (ps qs tail : List Point) (x : Point) → qs ≡ x ∷ tail → UnitsSplitAt table ps x → units table (ps ++ qs) ≡ units table ps ++ units table qs
 units-more table ps qs tail x begun ends =
     ap (λ (t : List Point). units table (ps ++ t)) begun ∙ ends tail ∙ ap (λ (t : List Point). units table ps ++ units table t) (sym begun)
 
-pub splits-more : (table : TableMap) (ps qs tail : List Point) (x y : Point) → qs ≡ x ∷ tail → Splits table ps x → Splits table qs y → Splits table (ps ++ qs) y
+pub splits-more : (table : TableMap) (ps qs tail : List Point) (x y : Point) → qs ≡ x ∷ tail → UnitsSplitAt table ps x → UnitsSplitAt table qs y → UnitsSplitAt table (ps ++ qs) y
 splits-more table ps qs tail x y begun first second = λ more.
     let U = units table in
     let later = ap (λ (t : List Point). t ++ y ∷ more) begun in
@@ -84,11 +84,11 @@ len_none = refl
 
 -- ---- one character more
 
-pub ends_here : (table : TableMap) (ps : List Point) (at c : ℕ) (b : IsBegun (points_of at c)) → EndsBefore table ps at c → Splits table ps b.first
+pub ends_here : (table : TableMap) (ps : List Point) (at c : ℕ) (b : IsBegun (points_of at c)) → EndsBefore table ps at c → UnitsSplitAt table ps b.first
 ends_here table ps at c b ends = ends b.first (ap (λ t. slice_get t 0) b.is)
 
-pub ends_there : (table : TableMap) (ps : List Point) (at c : ℕ) (b : IsBegun (points_of at c)) → Splits table ps b.first → EndsBefore table ps at c
-ends_there table ps at c b splits = λ x is. subst (Splits table ps) (same_Some b.first x (sym (ap (λ t. slice_get t 0) b.is) ∙ is)) splits
+pub ends_there : (table : TableMap) (ps : List Point) (at c : ℕ) (b : IsBegun (points_of at c)) → UnitsSplitAt table ps b.first → EndsBefore table ps at c
+ends_there table ps at c b splits = λ x is. subst (UnitsSplitAt table ps) (same_Some b.first x (sym (ap (λ t. slice_get t 0) b.is) ∙ is)) splits
 
 one_good : LetterLaws → (c : ℕ) → point_fault (c ∷ []) ≡ None
 one_good laws c =
@@ -118,7 +118,7 @@ begun_from laws at c cs all same =
       is = ap (points_from at) same ∙ from_first at c cs ∙ ap (λ (t : List Point). t ++ points_from (at + len_utf8 c) cs) b.is;
     }
 
-pub ends_first : (laws : LetterLaws) (table : TableMap) (ps : List Point) (at c : ℕ) (cs all : List ℕ) (same : all ≡ c ∷ cs) → EndsBefore table ps at c → Splits table ps (begun_from laws at c cs all same).first
+pub ends_first : (laws : LetterLaws) (table : TableMap) (ps : List Point) (at c : ℕ) (cs all : List ℕ) (same : all ≡ c ∷ cs) → EndsBefore table ps at c → UnitsSplitAt table ps (begun_from laws at c cs all same).first
 unfolding begun_from begun
 ends_first laws table ps at c cs all same ends = ends_here table ps at c (begun laws.short at c) ends
 

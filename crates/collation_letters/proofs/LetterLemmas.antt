@@ -23,7 +23,7 @@ use Rattle.collation_letters.specs.declared.letter.Role.{Role}
 use Rattle.collation_letters.specs.declared.letter.Role.TheVariants.{Steps, Plain, Base, VariableBase, Silent, PrimaryMark, Mark}
 use Rattle.collation_letters.specs.Symbols.{AreLastSymbols, listed}
 use Rattle.std.proofs.lemmas.Bool.{false≢true}
-use Rattle.collation_letters.specs.Letters.{begins_cluster, is_mark, flag_after, counted, here, keys_alone, AreClosed, AreApart, IsPossible, HaveItems, IsKnown, IsPlain, IsLetter}
+use Rattle.collation_letters.specs.Letters.{begins_cluster, is_mark, flag_after, counted, here, keys_alone, AreClosed, AreApart, IsPossible, HaveItems, IsKnown, IsPlainLetter, IsLetter}
 use Rattle.collation_letters.specs.Finding.{IsLastClass, IsAs, HasRole}
 use Rattle.collation_letters.proofs.SymbolLemmas.{last-nil}
 
@@ -166,7 +166,7 @@ plain-known table pattern ps l base k =
           subst (λ r. HaveItems table pattern ps after (begins_cluster r) (counted r after (listed l.symbols)) (flag_after r after)) base (k.items after possible);
     }
 
-pub letter-plain : (table : TableMap) (pattern : Compiled) (cs : List ℕ) (l : Letter) → l.role ≡ Base → IsPlain l → IsLetter table pattern cs l → IsLetter table pattern cs (record l { role = Plain })
+pub letter-plain : (table : TableMap) (pattern : Compiled) (cs : List ℕ) (l : Letter) → l.role ≡ Base → IsPlainLetter l → IsLetter table pattern cs l → IsLetter table pattern cs (record l { role = Plain })
 letter-plain table pattern cs l base plain h =
     record {
       closed = h.closed;

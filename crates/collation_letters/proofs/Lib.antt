@@ -5,3 +5,4 @@ pub mod PairLemmas
 pub mod ApartLemmas
 pub mod CharacterLemmas
 pub mod LetterApart
+pub mod WeigherLaw

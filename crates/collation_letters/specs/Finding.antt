@@ -22,10 +22,10 @@ IsAs plain role after it =
     (it.begins_cluster ≡ begins_cluster role) × ((it.after_variable ≡ flag_after role after) × (character_keys it ≡ counted role after (character_keys plain)))
 
 -- the items where the last element that was variable or primary was not variable and, if that may be, where it was
-abbrev pub Follows : CharacterItems → Option CharacterItems → Role → Type 0
-Follows plain after role = IsAs plain role false plain × ForSome after (IsAs plain role true)
+abbrev pub AreItemsOfRole : CharacterItems → Option CharacterItems → Role → Type 0
+AreItemsOfRole plain after role = IsAs plain role false plain × ForSome after (IsAs plain role true)
 
 -- points of these items have the role
 abbrev pub HasRole : List Point → CharacterItems → Option CharacterItems → Role → Type 0
 HasRole ps plain after role =
-    (is_mark role ≡ false → begins_with_starter ps ≡ true) × ((is_mark role ≡ true → length ps ≡ 1) × Follows plain after role)
+    (is_mark role ≡ false → begins_with_starter ps ≡ true) × ((is_mark role ≡ true → length ps ≡ 1) × AreItemsOfRole plain after role)

@@ -104,15 +104,15 @@ pub record IsKnown (table : TableMap) (pattern : Compiled) (ps : List Point) (l 
       → HaveItems table pattern ps after (begins_cluster l.role) (counted l.role after (listed l.symbols)) (flag_after l.role after)
 
 -- the role of most letters says besides that no unit reaches out of the characters, and that they have one symbol or none
-abbrev pub IsPlain : Letter → Type 0
-IsPlain l = (l.is_closed ≡ true) × ((l.symbols.first ≡ NO_SYMBOL) × (l.symbols.second ≡ NO_SYMBOL))
+abbrev pub IsPlainLetter : Letter → Type 0
+IsPlainLetter l = (l.is_closed ≡ true) × ((l.symbols.first ≡ NO_SYMBOL) × (l.symbols.second ≡ NO_SYMBOL))
 
 -- The letter of some characters.
 pub record IsLetter (table : TableMap) (pattern : Compiled) (cs : List ℕ) (l : Letter) : Type 0 where
   pub closed : l.is_closed ≡ true → AreClosed table (points_from 0 cs)
   pub apart : l.is_apart ≡ true → AreApart table (points_from 0 cs)
   pub known : l.role ≢ Steps → IsKnown table pattern (points_from 0 cs) l
-  pub plain : l.role ≡ Plain → IsPlain l
+  pub plain : l.role ≡ Plain → IsPlainLetter l
 
 -- the letter is a cluster out of which no unit reaches, with a last key that the pattern does not have
 abbrev pub IsClean : Letter → Type 0

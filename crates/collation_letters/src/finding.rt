@@ -8,7 +8,7 @@ ghost use Rattle.collation_table.specs.Table.{BeginsNoLongerString};
 ghost use Rattle.collation_elements.specs.declared.keys.Key.{Key as KeyValue};
 ghost use Rattle.collation_elements.specs.CharacterItems.{AreItemsOfPoints, character_keys};
 ghost use Rattle.collation_elements.specs.Weighing.{weigher};
-ghost use Rattle.collation_letters.specs.Finding.{Follows, HasRole, IsLastClass, IsSilent};
+ghost use Rattle.collation_letters.specs.Finding.{AreItemsOfRole, HasRole, IsLastClass, IsSilent};
 ghost use Rattle.collation_letters.specs.Letters.{AreApart, IsLetter, IsPossible, is_mark};
 ghost use Rattle.collation_letters.specs.Symbols.{AreLastSymbols, listed};
 ghost use Rattle.collation_letters.specs.declared.letter.Role.TheVariants.{Steps as LeftToSteps, Plain};
@@ -186,7 +186,7 @@ fn role_of(
 fn role_of_starter(plain: &CharacterItems, after: &Option<CharacterItems>) -> Role
     ensures other { result ≢ Plain }
     ensures role { result ≢ LeftToSteps → (is_mark result ≡ false)
-        × Follows plain.now after.now result }
+        × AreItemsOfRole plain.now after.now result }
 {
     if plain.begins_cluster {
         return match (is_as(plain, after), plain.after_variable) {
@@ -205,7 +205,7 @@ fn role_of_starter(plain: &CharacterItems, after: &Option<CharacterItems>) -> Ro
 fn role_of_mark(plain: &CharacterItems, after: &Option<CharacterItems>) -> Role
     ensures other { result ≢ Plain }
     ensures role { result ≢ LeftToSteps → (is_mark result ≡ true)
-        × Follows plain.now after.now result }
+        × AreItemsOfRole plain.now after.now result }
 {
     if plain.begins_cluster || plain.after_variable {
         return Role::Steps;

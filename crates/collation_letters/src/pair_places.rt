@@ -16,7 +16,7 @@ pub(crate) struct KeptPair {
 }
 
 /// Of a place where no pair came.
-const NO_PAIR: KeptPair = KeptPair {
+const NO_KEPT_PAIR: KeptPair = KeptPair {
     first: u32::MAX,
     second: u32::MAX,
     letter: UNKNOWN,
@@ -99,7 +99,7 @@ fn empty_places(alloc: Global) -> Result<Vec<KeptPair>, AllocError>
         → ArePairsKept table pattern (record { kept = kept })) }
     ensures none { IfOk result (λ kept. All IsOfNoPair kept.items) }
 {
-    vec![in alloc; NO_PAIR; LAST_PLACE + 1]
+    vec![in alloc; NO_KEPT_PAIR; LAST_PLACE + 1]
 }
 
 /// The place of two characters. The vowels and the consonants of Thai have places of their own, and so have those of Lao.

@@ -31,13 +31,13 @@ use Rattle.collation_matches.proofs.BridgeMinimal.{Tests, minimal-found}
 
 -- ---- the clusters between two places
 
-pub record Split (cs : List Cluster) (i j : ℕ) : Type 0 where
+pub record IsSplitInside (cs : List Cluster) (i j : ℕ) : Type 0 where
   pub inside : List Cluster
   pub whole : cs ≡ take i cs ++ (inside ++ drop j cs)
   pub rest : inside ++ drop j cs ≡ drop i cs
   pub keys : prefix cs j ≡ prefix cs i ++ joined inside
 
-pub split : (cs : List Cluster) (i j : ℕ) → i ≤ j → Split cs i j
+pub split : (cs : List Cluster) (i j : ℕ) → i ≤ j → IsSplitInside cs i j
 split cs zero j h = record { inside = take j cs; whole = sym (take-append-drop j cs); rest = take-append-drop j cs; keys = refl }
 split [] (suc i) zero h = absurd (omega arith)
 split [] (suc i) (suc j) h = record { inside = []; whole = refl; rest = refl; keys = refl }

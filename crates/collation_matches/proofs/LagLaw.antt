@@ -28,7 +28,7 @@ use Rattle.collation_matches.specs.GoodPrefix.{whole}
 use Rattle.collation_matches.specs.Matches.{matches}
 use Rattle.collation_matches.specs.ByClusters.{text_begin, found, found_within, found_before_last}
 use Rattle.collation_matches.specs.ByClustersLaws.{matches_are_found}
-use Rattle.collation_matches.specs.Lag.{code_points_from, IsUnderWay, ranges_are_found_in_time, settled_ranges_are_found_in_time, matches_are_found_in_time, answers_are_found_in_time}
+use Rattle.collation_matches.specs.Lag.{code_points_from, HasReadClusters, ranges_are_found_in_time, settled_ranges_are_found_in_time, matches_are_found_in_time, answers_are_found_in_time}
 use Rattle.collation_matches.proofs.BridgeLists.{In, Rising, in_append, in_left}
 use Rattle.collation_matches.proofs.BridgeRanges.{Below}
 use Rattle.collation_matches.proofs.BridgeMatches.{rising_boundaries}
@@ -96,12 +96,12 @@ none_after laws taken more text utf8 same =
 
 -- ---- the clusters of the text
 
-pub record Splits {A : Type 0} (xs : List A) (x : A) : Type 0 where
+pub record IsSplitAround {A : Type 0} (xs : List A) (x : A) : Type 0 where
   pub before : List A
   pub after : List A
   pub are : xs ≡ before ++ x ∷ after
 
-pub splits : {A : Type 0} (xs : List A) (x : A) → In xs x → Splits xs x
+pub splits : {A : Type 0} (xs : List A) (x : A) → In xs x → IsSplitAround xs x
 splits [] x h = absurd h
 splits (y ∷ ys) x (inl e) = record { before = []; after = ys; are = ap (λ z. z ∷ ys) e }
 splits (y ∷ ys) x (inr h) = let s = splits ys x h in record { before = y ∷ s.before; after = s.after; are = ap (λ zs. y ∷ zs) s.are }
@@ -110,7 +110,7 @@ splits (y ∷ ys) x (inr h) = let s = splits ys x h in record { before = y ∷ s
 
 -- an offset at which a unit of the text begins a cluster, and after which enough was taken, is at most the start of the current cluster
 in_time : LagLaws → (table : TableMap) (strength : Strength) (variable : Variable) (taken more : List ℕ) (waiting : Waiting) (window : Held) (ended : List Cluster) (current : Cluster) (c : Cluster) (following : List Cluster) (vs : List (List Point)) (at end : ℕ) →
-    (w : IsUnderWay table strength variable taken waiting window ended current) → units table (points (taken ++ more)) ≡ w.units ++ vs →
+    (w : HasReadClusters table strength variable taken waiting window ended current) → units table (points (taken ++ more)) ≡ w.units ++ vs →
     current.start ≡ c.start → Rising Below (starts (ended ++ c ∷ following) ++ end ∷ []) →
     length window.points + (MOST_WAITING + 1) ≤ code_points_from at taken → 0 < at → BeginsAt table (units table (points (taken ++ more))) at → at ≤ c.start
 in_time laws table strength variable taken more waiting window ended current c following vs at end w all_units same up enough some b =
@@ -132,7 +132,7 @@ in_time laws table strength variable taken more waiting window ended current c f
     ]
 
 some_text : LagLaws → (table : TableMap) (strength : Strength) (variable : Variable) (pattern : List Key) (b : ℕ) (bs taken more : List ℕ) (waiting : Waiting) (window : Held) (ended : List Cluster) (current : Cluster) (range : ℕ × ℕ) →
-    IsUtf8 (b ∷ bs) → chars (b ∷ bs) ≡ taken ++ more → IsUnderWay table strength variable taken waiting window ended current →
+    IsUtf8 (b ∷ bs) → chars (b ∷ bs) ≡ taken ++ more → HasReadClusters table strength variable taken waiting window ended current →
     length window.points + (MOST_WAITING + 1) ≤ code_points_from range.1 taken →
     In (found pattern (clusters table strength variable (b ∷ bs)) (length (b ∷ bs))) range → In (found pattern ended current.start) range
 some_text laws table strength variable pattern b bs taken more waiting window ended current range utf8 same w enough h =

@@ -134,17 +134,17 @@ in_either true cs ds at h k = h refl
 in_either false cs ds at h k = k refl
 
 -- the first of the clusters starts where the one that has begun does
-pub record BeginsWith (begun : Cluster) (cs : List Cluster) : Type 0 where
+pub record StartsWhereBegun (begun : Cluster) (cs : List Cluster) : Type 0 where
   pub first : Cluster
   pub following : List Cluster
   pub are : cs ≡ first ∷ following
   pub start : first.start ≡ begun.start
 
-begins_either : (begun : Cluster) (b : Bool) (cs ds : List Cluster) → BeginsWith begun cs → BeginsWith begun ds → BeginsWith begun (cond b cs ds)
+begins_either : (begun : Cluster) (b : Bool) (cs ds : List Cluster) → StartsWhereBegun begun cs → StartsWhereBegun begun ds → StartsWhereBegun begun (cond b cs ds)
 begins_either begun true cs ds h k = h
 begins_either begun false cs ds h k = k
 
-pub begins-with : (begun : Cluster) (is : List Item) → BeginsWith begun (clusters_from begun is)
+pub begins-with : (begun : Cluster) (is : List Item) → StartsWhereBegun begun (clusters_from begun is)
 begins-with begun [] = record { first = begun; following = []; are = refl; start = refl }
 begins-with begun (Element k ∷ is) =
     let b = begins-with (record { start = begun.start; keys = begun.keys ++ k ∷ [] }) is in

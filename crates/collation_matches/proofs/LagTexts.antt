@@ -30,17 +30,17 @@ pub record TextLaws : Type 0 where
 
 -- ---- texts that the whole characters of some bytes begin
 
-abbrev pub BeginsWith : List ℕ → List ℕ → Type 0
-BeginsWith taken good = take (characters_end taken) good ≡ whole taken
+abbrev pub BeginsWithWhole : List ℕ → List ℕ → Type 0
+BeginsWithWhole taken good = take (characters_end taken) good ≡ whole taken
 
-pub begins-append : TextLaws → (taken later : List ℕ) → BeginsWith taken (taken ++ later)
+pub begins-append : TextLaws → (taken later : List ℕ) → BeginsWithWhole taken (taken ++ later)
 begins-append laws taken later = take-append-le (characters_end taken) taken later (laws.within taken)
 
-pub begins-take : (taken bytes : List ℕ) (n : ℕ) → characters_end taken ≤ n → BeginsWith taken bytes → BeginsWith taken (take n bytes)
+pub begins-take : (taken bytes : List ℕ) (n : ℕ) → characters_end taken ≤ n → BeginsWithWhole taken bytes → BeginsWithWhole taken (take n bytes)
 begins-take taken bytes n h begins = take-take (characters_end taken) n bytes h ∙ begins
 
 -- their code points go on from those of the whole characters
-pub begins-chars : TextLaws → (taken good : List ℕ) → BeginsWith taken good →
+pub begins-chars : TextLaws → (taken good : List ℕ) → BeginsWithWhole taken good →
     chars good ≡ chars (whole taken) ++ chars (drop (characters_end taken) good)
 begins-chars laws taken good begins =
     let n = characters_end taken in
@@ -51,12 +51,12 @@ begins-chars laws taken good begins =
 
 -- the whole characters of the bytes are among those of any that go on
 end_grows : TextLaws → (taken later : List ℕ) → is_good_so_far taken ≡ true →
-    (characters_end taken ≤ characters_end (seen (taken ++ later))) × BeginsWith taken (seen (taken ++ later))
+    (characters_end taken ≤ characters_end (seen (taken ++ later))) × BeginsWithWhole taken (seen (taken ++ later))
 end_grows laws taken later goes_on =
     let n = characters_end taken in
     let tail = take (most_bytes - length taken) later in
     let here : seen (taken ++ later) ≡ taken ++ tail = seen_prefix taken later (open_short taken goes_on) in
-    let begins : BeginsWith taken (seen (taken ++ later)) = ap (take n) here ∙ begins-append laws taken tail in
+    let begins : BeginsWithWhole taken (seen (taken ++ later)) = ap (take n) here ∙ begins-append laws taken tail in
     let text : IsUtf8 (take n (seen (taken ++ later))) = subst IsUtf8 (sym begins) (laws.text taken) in
     let len = ap length here ∙ length-append taken tail in
     let inside = laws.within taken in
@@ -130,7 +130,7 @@ no_fault_text laws bytes h =
 pub record Answers (table : TableMap) (strength : Strength) (variable : Variable) (pattern taken bytes : List ℕ) : Type 0 where
   pub good : List ℕ
   pub text : IsUtf8 good
-  pub begins : BeginsWith taken good
+  pub begins : BeginsWithWhole taken good
   pub ranges : (r : ℕ × ℕ) → In (answer table strength variable pattern bytes).ranges r → In (matches table strength variable pattern good) r
 
 pub answers : TextLaws → (table : TableMap) (strength : Strength) (variable : Variable) (pattern taken later : List ℕ) → is_good_so_far taken ≡ true →

@@ -22,7 +22,7 @@ use Rattle.collation_matches.specs.GoodPrefix.{most_bytes, seen, whole, byte_fau
 use Rattle.collation_matches.proofs.TextCheckLemmas.{byte_len_encoded}
 
 -- the code points before the one at fault
-pub record Before (start run : ℕ) (cs : List ℕ) (at : ℕ × ℕ) : Type 0 where
+pub record HasGoodPrefix (start run : ℕ) (cs : List ℕ) (at : ℕ × ℕ) : Type 0 where
   pub good_prefix : List ℕ
   pub rest : List ℕ
   pub parts : cs ≡ good_prefix ++ rest
@@ -37,7 +37,7 @@ pub fault_later : (start run c : ℕ) (cs : List ℕ) → fault_of_code_point ru
 unfolding fault_from
 fault_later start run c cs e = rw (e, fault_from) refl
 
-before_next : (start run c : ℕ) (cs : List ℕ) (at : ℕ × ℕ) → fault_of_code_point run c ≡ None → Before (start + len_utf8 c) (run_after run (decomposition c)) cs at → Before start run (c ∷ cs) at
+before_next : (start run c : ℕ) (cs : List ℕ) (at : ℕ × ℕ) → fault_of_code_point run c ≡ None → HasGoodPrefix (start + len_utf8 c) (run_after run (decomposition c)) cs at → HasGoodPrefix start run (c ∷ cs) at
 unfolding byte_len
 before_next start run c cs at e b = record {
   good_prefix = c ∷ b.good_prefix;
@@ -59,7 +59,7 @@ pub either : {X : Type 0} → (o : Option X) → (o ≡ None) ⊎ ((x : X) × (o
 either None = inl refl
 either (Some x) = inr (x, refl)
 
-pub before_fault : (start run : ℕ) (cs : List ℕ) (at : ℕ × ℕ) → fault_from start run cs ≡ Some at → Before start run cs at
+pub before_fault : (start run : ℕ) (cs : List ℕ) (at : ℕ × ℕ) → fault_from start run cs ≡ Some at → HasGoodPrefix start run cs at
 before_fault start run [] at h = let none = no_fault start run in cc
 before_fault start run (c ∷ cs) at h =
     elim (either (fault_of_code_point run c)) [

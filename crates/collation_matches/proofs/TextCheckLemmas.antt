@@ -114,11 +114,11 @@ not_open_by_code x at h = elim (cases_Bool (is_good_so_far x)) [
 ]
 
 -- what begins the characters of the bytes, whatever follows
-abbrev pub Begins : List ℕ → Type 0
-Begins x = (more : List ℕ) → (rest : List (ℕ × ℕ)) × (characters (x ++ more) ≡ characters x ++ rest)
+abbrev pub CharactersGoOn : List ℕ → Type 0
+CharactersGoOn x = (more : List ℕ) → (rest : List (ℕ × ℕ)) × (characters (x ++ more) ≡ characters x ++ rest)
 
 -- a code point at fault
-pub code_at_fault : (u : List ℕ) (b c : ℕ) (more : List ℕ) (at : ℕ × ℕ) → length u < most_bytes → chars (whole (u ++ b ∷ [])) ≡ chars (whole u) ++ c ∷ [] → Begins (u ++ b ∷ []) →
+pub code_at_fault : (u : List ℕ) (b c : ℕ) (more : List ℕ) (at : ℕ × ℕ) → length u < most_bytes → chars (whole (u ++ b ∷ [])) ≡ chars (whole u) ++ c ∷ [] → CharactersGoOn (u ++ b ∷ []) →
     ((rest : List ℕ) → point_fault (chars (whole u) ++ c ∷ rest) ≡ Some at) → point_fault (chars (whole (seen (u ++ b ∷ more)))) ≡ Some at
 code_at_fault u b c more at short codes begins bad =
     let x = u ++ b ∷ [] in

@@ -25,7 +25,7 @@ code_points_from offset cs = length (filter (λ c. nat_le offset c.1) (with_offs
 
 -- A search that is under way: the code points `taken` went into a reorderer, the points that it gave into a window, and the
 -- units that were cut from there, whatever items follow, make the clusters `ended` and then those from the current one on.
-pub record IsUnderWay (table : TableMap) (strength : Strength) (variable : Variable) (taken : List ℕ) (waiting : Waiting) (window : Held) (ended : List Cluster) (current : Cluster) : Type 0 where
+pub record HasReadClusters (table : TableMap) (strength : Strength) (variable : Variable) (taken : List ℕ) (waiting : Waiting) (window : Held) (ended : List Cluster) (current : Cluster) : Type 0 where
   pub given : List Point
   pub units : List (List Point)
   pub reordered : HasReordered waiting taken given
@@ -40,7 +40,7 @@ ranges_are_found_in_time =
     (table : TableMap) (strength : Strength) (variable : Variable) (pattern : List Key) (text taken more : List ℕ)
     (waiting : Waiting) (window : Held) (ended : List Cluster) (current : Cluster) (range : ℕ × ℕ) →
     IsUtf8 text → chars text ≡ taken ++ more →
-    IsUnderWay table strength variable taken waiting window ended current →
+    HasReadClusters table strength variable taken waiting window ended current →
     length window.points + (MOST_WAITING + 1) ≤ code_points_from range.1 taken →
     Contains (found pattern (clusters table strength variable text) (length text)) range →
     Contains (found pattern ended current.start) range
@@ -51,7 +51,7 @@ settled_ranges_are_found_in_time =
     (table : TableMap) (strength : Strength) (variable : Variable) (pattern : List Key) (text taken more : List ℕ)
     (waiting : Waiting) (window : Held) (ended : List Cluster) (current : Cluster) (range : ℕ × ℕ) →
     IsUtf8 text → chars text ≡ taken ++ more →
-    IsUnderWay table strength variable taken waiting window ended current →
+    HasReadClusters table strength variable taken waiting window ended current →
     length window.points + (MOST_WAITING + 1) ≤ code_points_from range.1 taken →
     Contains (found_before_last pattern (clusters table strength variable text) (length text)) range →
     Contains (found pattern ended current.start) range
@@ -65,7 +65,7 @@ matches_are_found_in_time table =
     (waiting : Waiting) (window : Held) (ended : List Cluster) (current : Cluster) (range : ℕ × ℕ) →
     IsUtf8 pattern → 0 < length (text_keys table strength variable pattern) →
     IsUtf8 text → chars text ≡ taken ++ more →
-    IsUnderWay table strength variable taken waiting window ended current →
+    HasReadClusters table strength variable taken waiting window ended current →
     length window.points ≤ longest_mapped table →
     longest_mapped table + (MOST_WAITING + 1) ≤ code_points_from range.1 taken →
     Contains (matches table strength variable pattern text) range →
@@ -79,7 +79,7 @@ answers_are_found_in_time table =
     (waiting : Waiting) (window : Held) (ended : List Cluster) (current : Cluster) (range : ℕ × ℕ) →
     IsUtf8 pattern → 0 < length (text_keys table strength variable pattern) →
     is_good_so_far taken ≡ true →
-    IsUnderWay table strength variable (chars (whole taken)) waiting window ended current →
+    HasReadClusters table strength variable (chars (whole taken)) waiting window ended current →
     length window.points ≤ longest_mapped table →
     longest_mapped table + (MOST_WAITING + 1) ≤ code_points_from range.1 (chars (whole taken)) →
     Contains (answer table strength variable pattern (taken ++ later)).ranges range →

@@ -9,7 +9,7 @@ abbrev pub part_of : List ℕ → List ℕ → ℕ → ℕ → Answer
 part_of pattern bytes from to = part_answer (worked_sought pattern) pattern bytes from to
 
 -- `aa` in `aaaa`, cut in the middle: the first part has the range that reaches over the cut, and the second one does not have it again
-pub record PartsOfLetters : Type 0 where
+pub record SinglePartsOfLetters : Type 0 where
   pub first : part_of (codes "aa") (codes "aaaa") 0 2 ≡ record { ranges = (0, 2) ∷ (1, 3) ∷ []; fault = None }
   pub second : part_of (codes "aa") (codes "aaaa") 2 4 ≡ record { ranges = (2, 4) ∷ []; fault = None }
   pub both : answer_in_parts (worked_sought (codes "aa")) (codes "aa") (codes "aaaa") 0 (2 ∷ [])
@@ -18,7 +18,7 @@ pub record PartsOfLetters : Type 0 where
   pub behind : part_of (codes "aa") (codes "aaaa") 7 9 ≡ record { ranges = []; fault = None }
 
 -- `a` in `aa`, the byte ff and `aa`: the fault is of each part up to which it stands, also of one that ends there
-pub record PartsAtBadByte : Type 0 where
+pub record SinglePartsAtBadByte : Type 0 where
   pub before : part_of (codes "a") (codes "aa" ++ 0xFF ∷ codes "aa") 0 1 ≡ record { ranges = (0, 1) ∷ []; fault = None }
   pub with : part_of (codes "a") (codes "aa" ++ 0xFF ∷ codes "aa") 1 4
       ≡ record { ranges = []; fault = Some (record { kind = 31; offset = 2 }) }

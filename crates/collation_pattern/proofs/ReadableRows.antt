@@ -52,7 +52,7 @@ scale_of T wf = record {
 -- ---- one element
 
 -- an element of a table that is no part of a pair
-record IsPlain (T : TableMap) (e : Element) : Type 0 where
+record IsUnpaired (T : TableMap) (e : Element) : Type 0 where
   pub has : HasElement T e
   pub keeps : skips_level e ≡ false
   no_follower : is_follower e ≡ false
@@ -84,7 +84,7 @@ has_third e keeps no_follower h =
     let there : e.w3 ≡ 0 → ⊥ = eqb-false e.w3 0 zero in omega arith
 
 -- its first weight is no lead's
-outside : (T : TableMap) (e : Element) → IsPlain T e → 0xFB00 ≤ e.w1 → 0xFBFF < e.w1
+outside : (T : TableMap) (e : Element) → IsUnpaired T e → 0xFB00 ≤ e.w1 → 0xFBFF < e.w1
 outside T e p h = elim (cases_Bool e.is_variable) [
   | inl is ↦
       let high : (e.is_variable && nat_le 0xFB00 e.w1) ≡ false = p.low in
@@ -100,7 +100,7 @@ outside T e p h = elim (cases_Bool e.is_variable) [
       ]
 ]
 
-primary_true : (T : TableMap) (e : Element) → IsPlain T e → nat_lt 0 e.w1 ≡ true → is_primary e ≡ true
+primary_true : (T : TableMap) (e : Element) → IsUnpaired T e → nat_lt 0 e.w1 ≡ true → is_primary e ≡ true
 primary_true T e p h = let plain = p.no_follower in rw (h, plain) refl
 
 not_first : (e : Element) → nat_lt 0 e.w1 ≡ false → (e.w1 == 0) ≡ true
@@ -117,7 +117,7 @@ tertiary_true e h k l = let first = not_first e h in let second = not_second e k
 
 -- ---- the keys of one element
 
-primary_readable : (T : TableMap) (wf : IsWf2 T) (s : Strength) (e : Element) → IsPlain T e → nat_lt 0 e.w1 ≡ true →
+primary_readable : (T : TableMap) (wf : IsWf2 T) (s : Strength) (e : Element) → IsUnpaired T e → nat_lt 0 e.w1 ≡ true →
     IsReadable (scale_of T wf) s (Primary e.w1 (second_at s e.w2) (third_at s e.w3))
 primary_readable T wf One e p h = (ltb-true 0 e.w1 h, outside T e p, refl, refl)
 primary_readable T wf Two e p h =
@@ -133,7 +133,7 @@ or_right : (x y : Bool) → y ≡ true → (x || y) ≡ true
 or_right true y h = refl
 or_right false y h = h
 
-element_readable : (T : TableMap) (wf : IsWf2 T) (s : Strength) (e : Element) → IsPlain T e → AreReadable (scale_of T wf) s (element_keys s e)
+element_readable : (T : TableMap) (wf : IsWf2 T) (s : Strength) (e : Element) → IsUnpaired T e → AreReadable (scale_of T wf) s (element_keys s e)
 element_readable T wf One e p = elim (cases_Bool (nat_lt 0 e.w1)) [ inl h ↦ simp h (primary_readable T wf One e p h, tt) | inr h ↦ simp h tt ]
 element_readable T wf Two e p =
     elim (cases_Bool (nat_lt 0 e.w1)) [

@@ -10,5 +10,5 @@ AreBorders keys borders =
     (i : ℕ) → i < length borders → slice_index borders i ≡ border keys (drop 1 (take (i + 1) keys))
 
 -- this key stands after the first n of these keys
-abbrev pub IsNext : List Key → ℕ → Key → Type 0
-IsNext keys n key = take (n + 1) keys ≡ take n keys ++ key ∷ []
+abbrev pub IsNextKey : List Key → ℕ → Key → Type 0
+IsNextKey keys n key = take (n + 1) keys ≡ take n keys ++ key ∷ []

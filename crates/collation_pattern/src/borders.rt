@@ -6,7 +6,7 @@
 
 ghost use Rattle.std.specs.Prelude.{◌≡◌, ◌≤◌, [], ◌∷◌, ◌++◌, ◌↔◌, length, take, IfOk, IsTrue};
 ghost use Rattle.collation_pattern.specs.Border.{border};
-ghost use Rattle.collation_pattern.specs.Borders.{AreBorders, IsNext};
+ghost use Rattle.collation_pattern.specs.Borders.{AreBorders, IsNextKey};
 
 use collation_elements::Key;
 use std::alloc::{AllocError, Global};
@@ -49,7 +49,7 @@ pub fn state_after(keys: &[Key], borders: &[usize], state: usize, key: &Key) -> 
 
 /// Whether a key stands after the first `len` of some keys.
 fn is_next(keys: &[Key], len: usize, key: &Key) -> bool
-    ensures { IsTrue result ↔ IsNext keys.now len key.now }
+    ensures { IsTrue result ↔ IsNextKey keys.now len key.now }
 {
     len < keys.len() && keys[len] == *key
 }

@@ -17,13 +17,13 @@ use Rattle.collation_matches.proofs.OffsetFaults.{RestLaws}
 use Rattle.collation_safe.specs.Laws.{AnswersFromSafeOffsets, IsGoodUpTo, SafeOffsetsAreBoundaries, SafeOffsetsMayBeGoneOnFrom}
 use Rattle.collation_safe.specs.Safe.{IsSafeOffset, is_safe_character}
 use Rattle.collation_safe.proofs.SafeTexts.{safe-starts}
-use Rattle.collation_safe.proofs.Standing.{Stands, stands-amid, stands-from, stands-in_text, stands-prefix, stands-within}
+use Rattle.collation_safe.proofs.Standing.{CharacterStandsAt, stands-amid, stands-from, stands-in_text, stands-prefix, stands-within}
 
-abbrev Apart : Type 0
-Apart = (T : TableMap) (ps : List Point) (d : Point) (more : List Point) → is_starter d ≡ true → ContinuesNoString T d.cp → units T (ps ++ d ∷ more) ≡ units T ps ++ units T (d ∷ more)
+abbrev NoUnitReachesIn : Type 0
+NoUnitReachesIn = (T : TableMap) (ps : List Point) (d : Point) (more : List Point) → is_starter d ≡ true → ContinuesNoString T d.cp → units T (ps ++ d ∷ more) ≡ units T ps ++ units T (d ∷ more)
 
-module _ (part : TextsPart) (apart : Apart) where
-  stands-boundary : (table : TableMap) (text : List ℕ) (at c : ℕ) → IsUtf8 text → Stands text at c → is_safe_character table c ≡ true → Contains (boundaries table text) at
+module _ (part : TextsPart) (apart : NoUnitReachesIn) where
+  stands-boundary : (table : TableMap) (text : List ℕ) (at c : ℕ) → IsUtf8 text → CharacterStandsAt text at c → is_safe_character table c ≡ true → Contains (boundaries table text) at
   stands-boundary table text at c utf8 s safe =
       let t = stands-in_text text at c utf8 s in
       let inside = stands-within text at c s in

@@ -16,14 +16,14 @@ use Rattle.nfd_points.specs.Points.{byte_len}
 use Rattle.nfd_points.proofs.ByteLenLemmas.{byte_len_encoded}
 
 -- the character c stands at an offset
-pub record Stands (bytes : List ℕ) (at c : ℕ) : Type 0 where
+pub record CharacterStandsAt (bytes : List ℕ) (at c : ℕ) : Type 0 where
   pub front : List ℕ
   pub back : List ℕ
   pub parts : bytes ≡ front ++ (encode_utf8 c ++ back)
   pub front_len : length front ≡ at
   pub scalar : IsScalar c
 
-pub stands-from : (bytes : List ℕ) (at c : ℕ) → SpellsCharacter (take (len_utf8 c) (drop at bytes)) c → Stands bytes at c
+pub stands-from : (bytes : List ℕ) (at c : ℕ) → SpellsCharacter (take (len_utf8 c) (drop at bytes)) c → CharacterStandsAt bytes at c
 stands-from bytes at c (s, e) =
     let rest = drop at bytes in
     let some = (len_utf8_bounds c).0 in
@@ -37,19 +37,19 @@ stands-from bytes at c (s, e) =
       scalar = s;
     }
 
-pub stands-spells : (bytes : List ℕ) (at c : ℕ) → Stands bytes at c → SpellsCharacter (take (len_utf8 c) (drop at bytes)) c
+pub stands-spells : (bytes : List ℕ) (at c : ℕ) → CharacterStandsAt bytes at c → SpellsCharacter (take (len_utf8 c) (drop at bytes)) c
 stands-spells bytes at c s =
     let rest : drop at bytes ≡ encode_utf8 c ++ s.back = ap (drop at) s.parts ∙ drop_at s.front (encode_utf8 c ++ s.back) at s.front_len in
     (s.scalar, ap (take (len_utf8 c)) rest ∙ take_at (encode_utf8 c) s.back (len_utf8 c) (length-encode c))
 
-pub stands-within : (bytes : List ℕ) (at c : ℕ) → Stands bytes at c → at < length bytes
+pub stands-within : (bytes : List ℕ) (at c : ℕ) → CharacterStandsAt bytes at c → at < length bytes
 stands-within bytes at c s =
     let some = (len_utf8_bounds c).0 in
     let front = s.front_len in
     omega (arith, some, front, length-encode c, ap (λ (l : List ℕ). length l) s.parts, length-append s.front (encode_utf8 c ++ s.back), length-append (encode_utf8 c) s.back)
 
 -- in longer bytes
-pub stands-amid : (before bytes after : List ℕ) (at c : ℕ) → Stands bytes at c → Stands (before ++ (bytes ++ after)) (length before + at) c
+pub stands-amid : (before bytes after : List ℕ) (at c : ℕ) → CharacterStandsAt bytes at c → CharacterStandsAt (before ++ (bytes ++ after)) (length before + at) c
 stands-amid before bytes after at c s =
     let front = s.front_len in
     let E = encode_utf8 c in
@@ -101,7 +101,7 @@ starts-char : (xs rest : List ℕ) (k : ℕ) → 1 ≤ length xs → IsCharBound
 starts-char [] rest k some b = absurd (omega (arith, some))
 starts-char (x ∷ xs) rest k some b = (omega arith, λ l h. b.1 (omega arith) h)
 
-module _ (text : List ℕ) (at c : ℕ) (utf8 : IsUtf8 text) (s : Stands text at c) where
+module _ (text : List ℕ) (at c : ℕ) (utf8 : IsUtf8 text) (s : CharacterStandsAt text at c) where
   abbrev E : List ℕ
   E = encode_utf8 c
 
@@ -143,7 +143,7 @@ begun-chars text [] e h some = absurd (omega (arith, some, ap (λ (l : List ℕ)
 begun-chars text (d ∷ cs) e h some = record { d = d; more = encode_utf8_all cs; is = sym e; scalar = (and_parts (scalar d) (all_scalars cs) h).0 }
 
 -- the character stands in the text too, where it begins there
-pub stands-prefix : (bytes text : List ℕ) (n at c : ℕ) → take n bytes ≡ text → n ≤ length bytes → IsUtf8 text → at < length text → Stands bytes at c → Stands text at c
+pub stands-prefix : (bytes text : List ℕ) (n at c : ℕ) → take n bytes ≡ text → n ≤ length bytes → IsUtf8 text → at < length text → CharacterStandsAt bytes at c → CharacterStandsAt text at c
 stands-prefix bytes text n at c taken within utf8 upto s =
     let E = encode_utf8 c in
     let front_len = s.front_len in

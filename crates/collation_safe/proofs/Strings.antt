@@ -13,30 +13,30 @@ use Rattle.collation_matches.proofs.BridgeLists.{In, in_right, any_in, in_any}
 use Rattle.collation_table.proofs.AloneLemmas.{alone-begins, alone-continues, alone-from}
 use Rattle.collation_safe.specs.Safe.{strings, is_behind_first, begins_with, is_primary, alone, is_safe_code_point, is_safe_alone_code_point, begins_safely, begins_safely_alone, is_safe_character, is_safe_alone, IsSafeOffset, IsSafeAloneOffset}
 
-abbrev Rows : Type 0
-Rows = List (List ℕ × List Element)
+abbrev MappedRows : Type 0
+MappedRows = List (List ℕ × List Element)
 
 -- ---- mapped strings
 
-mapped-step : (string : List ℕ) (row : List ℕ × List Element) (rows : Rows) (b : Bool) → bytes_eq string row.0 ≡ b → is_some (cond b (Some row.1) (row_with string rows)) ≡ true →
+mapped-step : (string : List ℕ) (row : List ℕ × List Element) (rows : MappedRows) (b : Bool) → bytes_eq string row.0 ≡ b → is_some (cond b (Some row.1) (row_with string rows)) ≡ true →
     (is_some (row_with string rows) ≡ true → In (map (λ r. r.0) rows) string) → In (map (λ r. r.0) (row ∷ rows)) string
 mapped-step string row rows true same found rest = inl (sym ((bytes_eq-Decides string row.0).0 same))
 mapped-step string row rows false same found rest = inr (rest found)
 
-mapped-among : (string : List ℕ) (rows : Rows) → is_some (row_with string rows) ≡ true → In (map (λ r. r.0) rows) string
+mapped-among : (string : List ℕ) (rows : MappedRows) → is_some (row_with string rows) ≡ true → In (map (λ r. r.0) rows) string
 mapped-among string [] found = absurd (false≢true found)
 mapped-among string (row ∷ rows) found = mapped-step string row rows (bytes_eq string row.0) refl found (mapped-among string rows)
 
 pub mapped-in : (T : TableMap) (string : List ℕ) → is_mapped T string ≡ true → In (strings T) string
 mapped-in T string found = mapped-among string T.rows found
 
-among-step : (string : List ℕ) (row : List ℕ × List Element) (rows : Rows) (b : Bool) → bytes_eq string row.0 ≡ b → (row.0 ≡ string) ⊎ (is_some (row_with string rows) ≡ true) →
+among-step : (string : List ℕ) (row : List ℕ × List Element) (rows : MappedRows) (b : Bool) → bytes_eq string row.0 ≡ b → (row.0 ≡ string) ⊎ (is_some (row_with string rows) ≡ true) →
     is_some (cond b (Some row.1) (row_with string rows)) ≡ true
 among-step string row rows true same h = refl
 among-step string row rows false same (inl here) = absurd (false≢true (sym same ∙ (bytes_eq-Decides string row.0).1 (sym here)))
 among-step string row rows false same (inr later) = later
 
-among-mapped : (string : List ℕ) (rows : Rows) → In (map (λ r. r.0) rows) string → is_some (row_with string rows) ≡ true
+among-mapped : (string : List ℕ) (rows : MappedRows) → In (map (λ r. r.0) rows) string → is_some (row_with string rows) ≡ true
 among-mapped string [] h = absurd h
 among-mapped string (row ∷ rows) (inl here) = among-step string row rows (bytes_eq string row.0) refl (inl here)
 among-mapped string (row ∷ rows) (inr later) = among-step string row rows (bytes_eq string row.0) refl (inr (among-mapped string rows later))

@@ -15,7 +15,7 @@ use Rattle.collation_search.specs.Early.{starters_from}
 use Rattle.collation_search.specs.Search.{HasSearched, HasTaken, HasReported, HasReportedNone, sought}
 use Rattle.collation_search.specs.StateAfter.{final_points, IsReported}
 use Rattle.collation_matches.specs.Sought.{IsCompiledFrom, Sought, answer_to}
-use Rattle.collation_search.specs.Feeding.{fault_of, Feeds, MayCut, Takes}
+use Rattle.collation_search.specs.Feeding.{fault_of, Feeds, MayCut, TakesPart}
 use Rattle.collation_search.proofs.StarterCounts.{made-good, made-good_none}
 use Rattle.collation_search.proofs.StateLemmas.{StateLaws, reported-known, fault-known}
 
@@ -65,7 +65,7 @@ LeavesEnough s reach piece =
 
 module _ {W : Type 0} {G : Ghosts W} where
   -- nothing was taken yet
-  pub takes-none : (search : Search W G) (reach : ℕ) → ((f : TextFault) → HasReported search f → ⊥) → Takes search reach [] (Ok tt) [] search
+  pub takes-none : (search : Search W G) (reach : ℕ) → ((f : TextFault) → HasReported search f → ⊥) → TakesPart search reach [] (Ok tt) [] search
   takes-none search reach none = λ place. record {
     stands = λ u handed h.
         subst (λ t. HasTaken search place t (handed ++ [])) (sym (append-nil u)) (subst (λ (t : List (ℕ × ℕ)). HasTaken search place u t) (sym (append-nil handed)) h.1);
@@ -82,7 +82,7 @@ module _ {W : Type 0} {G : Ghosts W} where
 
   -- one part of a piece and then another
   pub takes-append : (a b c : Search W G) (near later reach : ℕ) (p q : List ℕ) (r : Result (Unit {0}) TextFault) (xs ys : List (ℕ × ℕ)) →
-      (0 < near → near ≤ reach) → (0 < later → length p + later ≤ reach) → Takes a near p (Ok tt) xs b → Takes b later q r ys c → Takes a reach (p ++ q) r (xs ++ ys) c
+      (0 < near → near ≤ reach) → (0 < later → length p + later ≤ reach) → TakesPart a near p (Ok tt) xs b → TakesPart b later q r ys c → TakesPart a reach (p ++ q) r (xs ++ ys) c
   takes-append a b c near later reach p q r xs ys near_in later_in first second = λ place. record {
     stands = λ u handed h.
         on_ok-map r _ _
@@ -132,7 +132,7 @@ module _ {W : Type 0} {G : Ghosts W} where
       )
 
   -- after a fault the rest of a piece is not read
-  pub takes-stop : (a b : Search W G) (reach : ℕ) (p q : List ℕ) (f : TextFault) (xs : List (ℕ × ℕ)) → Takes a reach p (Err f) xs b → Takes a reach (p ++ q) (Err f) xs b
+  pub takes-stop : (a b : Search W G) (reach : ℕ) (p q : List ℕ) (f : TextFault) (xs : List (ℕ × ℕ)) → TakesPart a reach p (Err f) xs b → TakesPart a reach (p ++ q) (Err f) xs b
   takes-stop a b reach p q f xs h = λ place. record {
     stands = λ u handed s. tt;
     known = λ u handed h. tt;
@@ -150,7 +150,7 @@ module _ {W : Type 0} {G : Ghosts W} where
       later u more = ap (λ t. t ++ more) (sym (append_assoc u p q)) ∙ append_assoc (u ++ p) q more
 
   -- a fault that was reported before is reported again, and nothing is handed out
-  pub takes-reported : (search : Search W G) (reach : ℕ) (piece : List ℕ) (f : TextFault) → HasReported search f → Takes search reach piece (Err f) [] search
+  pub takes-reported : (search : Search W G) (reach : ℕ) (piece : List ℕ) (f : TextFault) → HasReported search f → TakesPart search reach piece (Err f) [] search
   takes-reported search reach piece f reported = λ place. record {
     stands = λ u handed h. tt;
     known = λ u handed h. tt;
@@ -173,7 +173,7 @@ module _ {W : Type 0} {G : Ghosts W} where
       ((place : ℕ) (u more : List ℕ) (handed : List (ℕ × ℕ)) → HasTaken a place u handed → OnErr r (is_good_so_far (u ++ byte ∷ more) ≡ false)) →
       IfErr r (λ f. HasReported b f) → ((f : TextFault) → HasReported a f → (r ≡ Err f) × (found ≡ [])) →
       OnOk r (HasReportedNone b) → IfErr r (λ f. f.kind ≡ 35 → HasReported a f) → sought b ≡ sought a →
-      Takes a 0 (byte ∷ []) r found b
+      TakesPart a 0 (byte ∷ []) r found b
   takes-byte a b byte r found stands ended answer closed reported again none memory same = λ place. record {
     stands = λ u handed h. stands place u handed h.1;
     known = λ u handed h. tt;
@@ -194,7 +194,7 @@ module _ {W : Type 0} {G : Ghosts W} where
 
   -- characters without a fault
   pub takes-good : (a b : Search W G) (reach : ℕ) (piece : List ℕ) (found : List (ℕ × ℕ)) → a.fault ≡ None → b.fault ≡ None → sought b ≡ sought a →
-      ((place : ℕ) (u : List ℕ) (handed : List (ℕ × ℕ)) → MayCut a reach place u handed → HasTaken b place (u ++ piece) (handed ++ found)) → Takes a reach piece (Ok tt) found b
+      ((place : ℕ) (u : List ℕ) (handed : List (ℕ × ℕ)) → MayCut a reach place u handed → HasTaken b place (u ++ piece) (handed ++ found)) → TakesPart a reach piece (Ok tt) found b
   takes-good a b reach piece found none_before none same stands = λ place. record {
     stands = stands place;
     known = λ u handed h. tt;
@@ -210,9 +210,9 @@ module _ {W : Type 0} {G : Ghosts W} where
 
   -- nothing was taken, and the search was put together again of the same parts
   pub takes-kept : (old parts new : Search W G) (reach : ℕ) → new ≡ parts → old.fault ≡ None → parts.fault ≡ None → sought parts ≡ sought old →
-      ((place : ℕ) (u : List ℕ) (handed : List (ℕ × ℕ)) → HasTaken old place u handed → HasTaken parts place u handed) → Takes old reach [] (Ok tt) [] new
+      ((place : ℕ) (u : List ℕ) (handed : List (ℕ × ℕ)) → HasTaken old place u handed → HasTaken parts place u handed) → TakesPart old reach [] (Ok tt) [] new
   takes-kept old parts new reach is none_before none same stands =
-      subst (λ (s : Search W G). Takes old reach [] (Ok tt) [] s) (sym is)
+      subst (λ (s : Search W G). TakesPart old reach [] (Ok tt) [] s) (sym is)
       (takes-good old parts reach [] [] none_before none same
       (λ place u handed h.
       subst (λ t. HasTaken parts place t (handed ++ [])) (sym (append-nil u))
@@ -255,7 +255,7 @@ module _ {W : Type 0} {G : Ghosts W} where
 
   -- what was taken of a whole piece, of which enough was left to the steps, is what steps alone make of it
   pub feeds-of : StateLaws → DecompositionsAreShort → EarlyCutsAreMadeGood → (a b : Search W G) (reach : ℕ) (piece : List ℕ) (r : Result (Unit {0}) TextFault) (found : List (ℕ × ℕ)) →
-      LeavesEnough (sought a) reach piece → Takes a reach piece r found b → Feeds a piece r found b
+      LeavesEnough (sought a) reach piece → TakesPart a reach piece r found b → Feeds a piece r found b
   feeds-of laws short law a b reach piece r found enough t = record {
     stands = stands;
     known = λ u handed h.
@@ -293,7 +293,7 @@ module _ {W : Type 0} {G : Ghosts W} where
 
   -- where none is cut early
   pub feeds-steps : StateLaws → DecompositionsAreShort → EarlyCutsAreMadeGood → (a b : Search W G) (piece : List ℕ) (r : Result (Unit {0}) TextFault) (found : List (ℕ × ℕ)) →
-      Takes a 0 piece r found b → Feeds a piece r found b
+      TakesPart a 0 piece r found b → Feeds a piece r found b
   feeds-steps laws short law a b piece r found t = feeds-of laws short law a b 0 piece r found (λ u good some. absurd (omega (arith, some))) t
 
   -- a fault that was reported before is reported again, whatever the piece is

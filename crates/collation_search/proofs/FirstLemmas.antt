@@ -9,7 +9,7 @@ use Rattle.collation_matches.specs.Answer.{Answer, answer}
 use Rattle.collation_matches.specs.Offsets.{range_moved, fault_moved, answer_from}
 use Rattle.collation_matches.specs.Sought.{Sought, IsCompiledFrom, answer_to}
 use Rattle.collation_search.specs.declared.search.Search.{Search}
-use Rattle.collation_search.specs.Feeding.{BeginsAnswers, MayCut, Takes, fault_of}
+use Rattle.collation_search.specs.Feeding.{BeginsAnswers, MayCut, TakesPart, fault_of}
 use Rattle.collation_search.specs.Indexing.{range_or_fault, first_range, first_moved, EndsBy}
 use Rattle.collation_search.specs.Search.{HasSearched, sought}
 use Rattle.collation_search.proofs.FeedLemmas.{taken-from, takes-append}
@@ -40,12 +40,12 @@ module _ {W : Type 0} {G : Ghosts W} where
 
   -- a part of a piece with a fault gives what the text does
   at_fault : (old new : Search W G) (reach : ℕ) (p u part later : List ℕ) (f : TextFault) (found : List (ℕ × ℕ)) →
-      Takes old reach part (Err f) found new → HasSearched old u [] → IsCompiledFrom (sought old) p → first_range found (Some f) ≡ first_to (sought old) p ((u ++ part) ++ later)
+      TakesPart old reach part (Err f) found new → HasSearched old u [] → IsCompiledFrom (sought old) p → first_range found (Some f) ≡ first_to (sought old) p ((u ++ part) ++ later)
   at_fault old new reach p u part later f found t h compiled =
       ap (λ (a : Answer). first_range a.ranges a.fault) (sym ((t (length u + reach)).answer p u later [] compiled (may-cut old reach u [] h)))
 
   pub fault-taken : (old new : Search W G) (reach : ℕ) (p u part later : List ℕ) (answer : Result (Unit {0}) TextFault) (found : List (ℕ × ℕ)) (f : TextFault) →
-      Takes old reach part answer found new → HasSearched old u [] → IsCompiledFrom (sought old) p → first_range found (fault_of answer) ≡ Err f →
+      TakesPart old reach part answer found new → HasSearched old u [] → IsCompiledFrom (sought old) p → first_range found (fault_of answer) ≡ Err f →
       Err f ≡ first_to (sought old) p ((u ++ part) ++ later)
   fault-taken old new reach p u part later (Err g) found f t h compiled told = sym told ∙ at_fault old new reach p u part later g found t h compiled
   fault-taken old new reach p u part later (Ok done) [] f t h compiled told = absurd cc
@@ -53,7 +53,7 @@ module _ {W : Type 0} {G : Ghosts W} where
 
   -- and so does one with a range
   pub first-taken : (old new : Search W G) (reach : ℕ) (p u part later : List ℕ) (answer : Result (Unit {0}) TextFault) (found : List (ℕ × ℕ)) (range : ℕ × ℕ) →
-      Takes old reach part answer found new → HasSearched old u [] → IsCompiledFrom (sought old) p → BeginsAnswers new → first_range found (fault_of answer) ≡ Ok (Some range) →
+      TakesPart old reach part answer found new → HasSearched old u [] → IsCompiledFrom (sought old) p → BeginsAnswers new → first_range found (fault_of answer) ≡ Ok (Some range) →
       Ok (Some range) ≡ first_to (sought old) p ((u ++ part) ++ later)
   first-taken old new reach p u part later (Err f) found range t h compiled begins told = sym told ∙ at_fault old new reach p u part later f found t h compiled
   first-taken old new reach p u part later (Ok done) [] range t h compiled begins told = absurd cc
@@ -67,7 +67,7 @@ module _ {W : Type 0} {G : Ghosts W} where
 
   -- a part with neither goes in
   pub none-taken : (old new : Search W G) (reach : ℕ) (part : List ℕ) (answer : Result (Unit {0}) TextFault) (found : List (ℕ × ℕ)) →
-      Takes old reach part answer found new → first_range found (fault_of answer) ≡ Ok None → Takes old reach part (Ok tt) [] new
+      TakesPart old reach part answer found new → first_range found (fault_of answer) ≡ Ok None → TakesPart old reach part (Ok tt) [] new
   none-taken old new reach part (Ok done) [] t told = t
   none-taken old new reach part (Ok done) (range ∷ ranges) t told = absurd cc
   none-taken old new reach part (Err f) [] t told = absurd cc
@@ -77,30 +77,30 @@ module _ {W : Type 0} {G : Ghosts W} where
 
   -- letters behind the bytes so far
   pub letters-on : (old so_far now : Search W G) (reach at here n : ℕ) (piece rest : List ℕ) (found : List (ℕ × ℕ)) → at ≤ length piece → (0 < here → at + here ≤ reach) → rest ≡ drop at piece →
-      Takes old reach (take at piece) (Ok tt) [] so_far → Takes so_far here (take n rest) (Ok tt) found now → Takes old reach (take (at + n) piece) (Ok tt) found now
+      TakesPart old reach (take at piece) (Ok tt) [] so_far → TakesPart so_far here (take n rest) (Ok tt) found now → TakesPart old reach (take (at + n) piece) (Ok tt) found now
   letters-on old so_far now reach at here n piece rest found within near same before step =
       let long = length-take-le at piece within in
-      subst (λ (t : List ℕ). Takes old reach t (Ok tt) found now) (sym (take-add at n piece))
+      subst (λ (t : List ℕ). TakesPart old reach t (Ok tt) found now) (sym (take-add at n piece))
       (takes-append old so_far now reach here reach (take at piece) (take n (drop at piece)) (Ok tt) [] found (λ some. omega arith) (λ some. let far = near some in omega (arith, far, long)) before
-      (subst (λ (t : List ℕ). Takes so_far here (take n t) (Ok tt) found now) same step))
+      (subst (λ (t : List ℕ). TakesPart so_far here (take n t) (Ok tt) found now) same step))
 
   -- a byte behind them
   pub byte-on : (old so_far now : Search W G) (reach at : ℕ) (piece : List ℕ) (answer : Result (Unit {0}) TextFault) (found : List (ℕ × ℕ)) → at < length piece →
-      Takes old reach (take at piece) (Ok tt) [] so_far → Takes so_far 0 (get_or piece at 0 ∷ []) answer found now → Takes old reach (take (at + 1) piece) answer found now
+      TakesPart old reach (take at piece) (Ok tt) [] so_far → TakesPart so_far 0 (get_or piece at 0 ∷ []) answer found now → TakesPart old reach (take (at + 1) piece) answer found now
   byte-on old so_far now reach at piece answer found here before step =
-      subst (λ (t : List ℕ). Takes old reach t answer found now) (sym (take_more piece at 0 here))
+      subst (λ (t : List ℕ). TakesPart old reach t answer found now) (sym (take_more piece at 0 here))
       (takes-append old so_far now reach 0 reach (take at piece) (get_or piece at 0 ∷ []) answer [] found (λ some. omega arith) (λ some. absurd (omega (arith, some))) before step)
 
   -- the range, or the fault, that they gave is that of the text
   pub first-within : (old new : Search W G) (reach : ℕ) (p u piece later : List ℕ) (n : ℕ) (answer : Result (Unit {0}) TextFault) (found : List (ℕ × ℕ)) (range : ℕ × ℕ) →
-      Takes old reach (take n piece) answer found new → HasSearched old u [] → IsCompiledFrom (sought old) p → BeginsAnswers new → first_range found (fault_of answer) ≡ Ok (Some range) →
+      TakesPart old reach (take n piece) answer found new → HasSearched old u [] → IsCompiledFrom (sought old) p → BeginsAnswers new → first_range found (fault_of answer) ≡ Ok (Some range) →
       Ok (Some range) ≡ first_to (sought old) p ((u ++ piece) ++ later)
   first-within old new reach p u piece later n answer found range t h compiled begins told =
       first-taken old new reach p u (take n piece) (drop n piece ++ later) answer found range t h compiled begins told
       ∙ ap (first_to (sought old) p) (sym (behind-part u piece later n))
 
   pub fault-within : (old new : Search W G) (reach : ℕ) (p u piece later : List ℕ) (n : ℕ) (answer : Result (Unit {0}) TextFault) (found : List (ℕ × ℕ)) (f : TextFault) →
-      Takes old reach (take n piece) answer found new → HasSearched old u [] → IsCompiledFrom (sought old) p → first_range found (fault_of answer) ≡ Err f →
+      TakesPart old reach (take n piece) answer found new → HasSearched old u [] → IsCompiledFrom (sought old) p → first_range found (fault_of answer) ≡ Err f →
       Err f ≡ first_to (sought old) p ((u ++ piece) ++ later)
   fault-within old new reach p u piece later n answer found f t h compiled told =
       fault-taken old new reach p u (take n piece) (drop n piece ++ later) answer found f t h compiled told

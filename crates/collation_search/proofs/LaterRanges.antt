@@ -66,7 +66,7 @@ later-only select all early later handed range up parts is h =
 -- ---- clusters that go on
 
 -- the first of the clusters starts where the one that has begun does, and goes on with its keys
-pub record GoesOn (begun : Cluster) (cs : List Cluster) : Type 0 where
+pub record GoesOnWithKeys (begun : Cluster) (cs : List Cluster) : Type 0 where
   pub first : Cluster
   pub following : List Cluster
   pub more : List Key
@@ -74,11 +74,11 @@ pub record GoesOn (begun : Cluster) (cs : List Cluster) : Type 0 where
   pub start : first.start ≡ begun.start
   pub keys : first.keys ≡ begun.keys ++ more
 
-goes-on-either : (begun : Cluster) (b : Bool) (cs ds : List Cluster) → GoesOn begun cs → GoesOn begun ds → GoesOn begun (cond b cs ds)
+goes-on-either : (begun : Cluster) (b : Bool) (cs ds : List Cluster) → GoesOnWithKeys begun cs → GoesOnWithKeys begun ds → GoesOnWithKeys begun (cond b cs ds)
 goes-on-either begun true cs ds h k = h
 goes-on-either begun false cs ds h k = k
 
-pub goes-on : (begun : Cluster) (is : List Item) → GoesOn begun (clusters_from begun is)
+pub goes-on : (begun : Cluster) (is : List Item) → GoesOnWithKeys begun (clusters_from begun is)
 goes-on begun [] = record { first = begun; following = []; more = []; are = refl; start = refl; keys = sym (append-nil begun.keys) }
 goes-on begun (Element k ∷ is) =
     let g = goes-on (record { start = begun.start; keys = begun.keys ++ k ∷ [] }) is in

@@ -14,8 +14,8 @@ use Rattle.collation_search.specs.State.{words_of}
 use Rattle.collation_search.specs.Search.{HasSearched, HasReported, sought}
 use Rattle.collation_matches.specs.Sought.{IsCompiledFrom, Sought, answer_to}
 use Rattle.collation_search.specs.Feeding.{Feeds}
-use Rattle.collation_search.specs.Pieces.{joined, HasEnded, IsUnderWay, AreUnderWay, Passes, AreStates, HasStates, most_words}
-use Rattle.collation_search.specs.Resuming.{GoesOn, KeepsSaved}
+use Rattle.collation_search.specs.Pieces.{joined, HasEndedAtFault, IsUnderWay, AreUnderWay, IsTransition, AreStates, HasStates, most_words}
+use Rattle.collation_search.specs.Resuming.{IsResumedFrom, KeepsSaved}
 use Rattle.collation_search.specs.StateAfter.{IsReported}
 
 abbrev pub told : List (ℕ × ℕ) → Option TextFault → Answer
@@ -45,7 +45,7 @@ module _ {W : Type 0} {G : Ghosts W} where
 
   -- a piece that a search after a fault is given
   under_way-ended : (old new : Search W G) (piece : List ℕ) (r : Result (Unit {0}) TextFault) (found : List (ℕ × ℕ)) → Feeds old piece r found new →
-      (u : List ℕ) (handed : List (ℕ × ℕ)) (f : TextFault) → HasEnded old (sought old) u handed f → IsUnderWay new (sought old) (u ++ piece) (handed ++ found)
+      (u : List ℕ) (handed : List (ℕ × ℕ)) (f : TextFault) → HasEndedAtFault old (sought old) u handed f → IsUnderWay new (sought old) (u ++ piece) (handed ++ found)
   under_way-ended old new piece r found fed u handed f h =
       let again = fed.again f h.reported in
       let told = subst (λ (t : Result (Unit {0}) TextFault). IfErr t (λ g. HasReported new g)) again.0 fed.reported in
@@ -79,7 +79,7 @@ module _ {W : Type 0} {G : Ghosts W} where
       subst (λ (t : Sought). IsUnderWay new t (u ++ piece) (handed ++ found)) h.0 (under_way-at old new piece r found fed u handed here)
 
   -- what was resumed from the words of a search that is under way is under way
-  pub under_way-resumed : (saved resumed : Search W G) (s : Sought) (words : List ℕ) → words ≡ words_of saved → GoesOn resumed s words →
+  pub under_way-resumed : (saved resumed : Search W G) (s : Sought) (words : List ℕ) → words ≡ words_of saved → IsResumedFrom resumed s words →
       (u : List ℕ) (handed : List (ℕ × ℕ)) → IsUnderWay saved s u handed → IsUnderWay resumed s u handed
   under_way-resumed saved resumed s words same on u handed (sought_same, inl h) = (on.same, inl (on.stands saved u handed (sought_same, same, h)))
   under_way-resumed saved resumed s words same on u handed (sought_same, inr h) =
@@ -93,7 +93,7 @@ module _ {W : Type 0} {G : Ghosts W} where
   ends-open last text u handed found (Err f) good bad = bad
 
   ends-ended : (last : Search W G) (s : Sought) (text u : List ℕ) (handed found : List (ℕ × ℕ)) (r : Result (Unit {0}) TextFault) (f : TextFault) →
-      r ≡ Err f → found ≡ [] → IsCompiledFrom s text → HasEnded last s u handed f →
+      r ≡ Err f → found ≡ [] → IsCompiledFrom s text → HasEndedAtFault last s u handed f →
       answer_to s text u ≡ told (handed ++ found) (result_err r)
   ends-ended last s text u handed found r f same none compiled h =
       ap (λ t. answer_to s text t) (sym (append-nil u))
@@ -128,7 +128,7 @@ module _ {W : Type 0} {G : Ghosts W} where
       (subst (λ (t : Sought). IsUnderWay last t u handed) (sym h.0) h))
 
   -- what goes on from the words of a search that is under way is under way
-  pub under_way-on : (s : Sought) (words u : List ℕ) (handed : List (ℕ × ℕ)) (resumed : Search W G) → GoesOn resumed s words → AreUnderWay G s words u handed → IsUnderWay resumed s u handed
+  pub under_way-on : (s : Sought) (words u : List ℕ) (handed : List (ℕ × ℕ)) (resumed : Search W G) → IsResumedFrom resumed s words → AreUnderWay G s words u handed → IsUnderWay resumed s u handed
   under_way-on s words u handed resumed on h = under_way-resumed h.saved resumed s words h.words_same on u handed h.under_way
 
   -- the words of a new search
@@ -137,7 +137,7 @@ module _ {W : Type 0} {G : Ghosts W} where
   under_way-begun s words h = record { saved = h.begun; words_same = sym h.reached; under_way = (h.same, inl h.stands) }
 
   -- from one state to the next
-  pub under_way-passed : (s : Sought) (words piece next u : List ℕ) (handed found : List (ℕ × ℕ)) → Passes G s words piece found next →
+  pub under_way-passed : (s : Sought) (words piece next u : List ℕ) (handed found : List (ℕ × ℕ)) → IsTransition G s words piece found next →
       AreUnderWay G s words u handed → AreUnderWay G s next (u ++ piece) (handed ++ found)
   under_way-passed s words piece next u handed found p h = record {
     saved = p.fed;
@@ -147,7 +147,7 @@ module _ {W : Type 0} {G : Ghosts W} where
 
   -- one piece more of those before
   pub under_way-more : (s : Sought) (pieces : List (Bor (List ℕ))) (i : ℕ) (piece : Bor (List ℕ)) (words next : List ℕ) (handed found : List (ℕ × ℕ)) → i < length pieces →
-      Passes G s words (get_or pieces i piece).now found next →
+      IsTransition G s words (get_or pieces i piece).now found next →
       AreUnderWay G s words (joined (take i pieces)) handed → AreUnderWay G s next (joined (take (i + 1) pieces)) (handed ++ found)
   under_way-more s pieces i piece words next handed found here passed h =
       subst (λ (t : List ℕ). AreUnderWay G s next t (handed ++ found)) (sym (joined-more pieces i piece here))
@@ -155,15 +155,15 @@ module _ {W : Type 0} {G : Ghosts W} where
 
   -- one state more behind the others
   states-more : (s : Sought) (first : List ℕ) (pieces : List (Bor (List ℕ))) (states : List (List ℕ)) (last : List ℕ) (piece : Bor (List ℕ)) (found : List (ℕ × ℕ)) (next : List ℕ) →
-      AreStates G s first pieces states last → Passes G s last piece.now found next → AreStates G s first (pieces ++ piece ∷ []) (states ++ next ∷ []) next
+      AreStates G s first pieces states last → IsTransition G s last piece.now found next → AreStates G s first (pieces ++ piece ∷ []) (states ++ next ∷ []) next
   unfolding AreStates
-  states-more s first [] [] last piece found next h p = ((found, subst (λ (t : List ℕ). Passes G s t piece.now found next) (sym h) p), refl)
+  states-more s first [] [] last piece found next h p = ((found, subst (λ (t : List ℕ). IsTransition G s t piece.now found next) (sym h) p), refl)
   states-more s first (q ∷ pieces) (words ∷ states) last piece found next h p = (h.0, states-more s words pieces states last piece found next h.1 p)
   states-more s first [] (words ∷ states) last piece found next h p = elim h [ ]
   states-more s first (q ∷ pieces) [] last piece found next h p = elim h [ ]
 
   pub has_states-more : (s : Sought) (pieces : List (Bor (List ℕ))) (i : ℕ) (piece : Bor (List ℕ)) (states : List (List ℕ)) (last : List ℕ) (found : List (ℕ × ℕ)) (next : List ℕ) → i < length pieces →
-      HasStates G s (take i pieces) states last → Passes G s last (get_or pieces i piece).now found next →
+      HasStates G s (take i pieces) states last → IsTransition G s last (get_or pieces i piece).now found next →
       HasStates G s (take (i + 1) pieces) (states ++ next ∷ []) next
   has_states-more s pieces i piece states last found next here h p = record {
     begun = h.begun;

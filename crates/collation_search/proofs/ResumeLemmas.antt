@@ -21,7 +21,7 @@ use Rattle.collation_states.specs.StateTests.{state_fault}
 use Rattle.collation_states.specs.Reading.{state_in}
 use Rattle.collation_states.specs.Laws.{MayBeHeld}
 use Rattle.collation_search.specs.declared.search.Search.{Search}
-use Rattle.collation_search.specs.Resuming.{AreSaved, AreSavedAfter, GoesOn, KeepsSaved, AcceptsSaved, IsRestored}
+use Rattle.collation_search.specs.Resuming.{AreSaved, AreSavedAfter, IsResumedFrom, KeepsSaved, AcceptsSaved, IsRestored}
 use Rattle.collation_search.specs.Search.{sought, HasSearched}
 use Rattle.collation_search.specs.Searching.{Searched}
 use Rattle.collation_search.specs.State.{sizes_of, open_state, state_of}
@@ -128,7 +128,7 @@ new-window new h =
 pub goes-on : {W : Type 0} {G : Ghosts W} (laws : SavedLaws) (new : Search W G) (s : Sought) (all : List ℕ) (state : State) → state ≡ state_in s.select all →
     sought new ≡ s → new.fault ≡ state.fault → IsRestored s state new.finder.value →
     ((cut : CutState) (bytes : List ℕ) (given : List (ℕ × ℕ)) → StandsFor cut bytes given → cut.is_bad ≡ false → cut.held ≡ state.held → cut.count ≡ state.taken → StandsFor new.cut bytes given) →
-    GoesOn new s all
+    IsResumedFrom new s all
 goes-on {W} {G} laws new s all state said same fault restored cut = record {
   stands = stands;
   reported = λ saved f a. fault ∙ ap (λ (t : State). t.fault) (said ∙ back-of laws s (reported f) all (reported-of saved s all f a));

@@ -17,7 +17,7 @@ use Rattle.collation_matches.specs.Selecting.{remembered}
 use Rattle.collation_matches.specs.Sought.{Sought}
 use Rattle.collation_matches.proofs.TextCheckLemmas.{open_cut}
 use Rattle.collation_states.specs.State.{reported}
-use Rattle.collation_states.specs.Laws.{IsPointBefore, IsOpen, HasEnded, StatesAreAccepted, StatesAreReadBack}
+use Rattle.collation_states.specs.Laws.{IsPointBefore, IsOpen, IsStateAtFault, StatesAreAccepted, StatesAreReadBack}
 use Rattle.collation_finder.specs.declared.finder.Finder.{Finder}
 use Rattle.collation_search.specs.Searching.{Searched}
 use Rattle.collation_search.specs.State.{sizes_of, open_state}
@@ -79,5 +79,5 @@ module _ (laws : SavedLaws) (s : Sought) (cut : CutState) (finder : Finder) (tak
 
 -- ---- a search that has reported a fault
 
-pub has-ended : (f : TextFault) → 31 ≤ f.kind → f.kind ≤ 35 → f.offset ≤ most_bytes → HasEnded (reported f)
+pub has-ended : (f : TextFault) → 31 ≤ f.kind → f.kind ≤ 35 → f.offset ≤ most_bytes → IsStateAtFault (reported f)
 has-ended f least most short = record { fault = f; is = refl; least = least; most = most; short = short }

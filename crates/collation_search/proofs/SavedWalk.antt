@@ -1,6 +1,6 @@
 -- What a search that goes on saves of its walk is as a state says.
 use Rattle.std.specs.Str.{chars, IsUtf8}
-use Rattle.std.proofs.Common.{◌≡◌, ℕ, zero, suc, ◌-◌, ◌<◌, ◌≤◌, ◌==◌, Bool, true, false, cond, ◌&&◌, not, List, [], ◌∷◌, ◌++◌, length, take, drop, map, slice_get, Option, refl, sym, ap, ◌∙◌, subst, arith, inl, inr, append-nil}
+use Rattle.std.proofs.Common.{◌≡◌, ℕ, zero, suc, ◌-◌, ◌<◌, ◌≤◌, ◌==◌, Bool, true, false, cond, ◌&&◌, not, List, [], ◌∷◌, ◌++◌, length, drop, map, slice_get, Option, refl, sym, ap, ◌∙◌, subst, arith, inl, inr, append-nil}
 use Rattle.std.proofs.lemmas.Bool.{and_parts, eqb-true}
 use Rattle.std.proofs.lemmas.List.{length-drop, length-map, length-take-le}
 use Rattle.std.proofs.lemmas.Str.{chars-nil}
@@ -33,7 +33,7 @@ use Rattle.collation_matches.proofs.LagRanges.{begins-with}
 use Rattle.collation_search.proofs.LastEnds.{StartBy, walks-last_end}
 use Rattle.collation_search.proofs.SavingLemmas.{drop-some}
 use Rattle.collation_search.proofs.SearchBegins.{items_go_on}
-use Rattle.collation_matches.proofs.SearchLemmas.{either}
+use Rattle.collation_matches.proofs.SearchLemmas.{TextLaw, WithinLaw, either}
 use Rattle.collation_matches.proofs.TextCheckLemmas.{open_cut, next_offset}
 use Rattle.collation_walk.proofs.WalkSteps.{walks-within}
 use Rattle.collation_walk.proofs.RestoredWalk.{kept_places-length}
@@ -149,12 +149,6 @@ walked-in_order law s finder (b ∷ bs) handed h goes_on utf8 =
     text-in_order law s text w.before w.current more.0 utf8 (omega arith) all
 
 -- ---- what a state may say of the walk
-
-abbrev TextLaw : Type 0
-TextLaw = (bytes : List ℕ) → IsUtf8 (take (characters_end bytes) bytes)
-
-abbrev WithinLaw : Type 0
-WithinLaw = (bytes : List ℕ) → characters_end bytes ≤ length bytes
 
 -- the bytes before those held are the whole characters
 pub searched-whole : WithinLaw → (s : Sought) (cut : CutState) (finder : Finder) (fault : Option TextFault) (taken : List ℕ) (handed : List (ℕ × ℕ)) →

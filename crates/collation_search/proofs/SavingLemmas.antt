@@ -11,7 +11,7 @@ use Rattle.collation_matches.specs.Sought.{Sought}
 use Rattle.collation_states.specs.declared.states.Head.{Head}
 use Rattle.collation_states.specs.declared.states.Sizes.{Sizes}
 use Rattle.collation_states.specs.Laws.{StatesAreRecords}
-use Rattle.collation_states.specs.Saving.{BeginsWith}
+use Rattle.collation_states.specs.Saving.{AreWordsAppended}
 use Rattle.collation_states.specs.State.{reported, head_of, head_words, chain_record, place_words, point_words, words}
 use Rattle.collation_states.specs.StateTests.{head_len}
 use Rattle.collation_finder.specs.declared.finder.Finder.{Finder}
@@ -37,16 +37,16 @@ drop-none (y ∷ ys) (suc i) h = drop-none ys i h
 
 -- ---- words after words
 
-pub begins-all : (xs : List ℕ) → BeginsWith xs xs
+pub begins-all : (xs : List ℕ) → AreWordsAppended xs xs
 begins-all xs = ([], sym (append-nil xs))
 
-pub begins-more : (xs ys zs ms : List ℕ) → BeginsWith xs ys → zs ≡ ys ++ ms → BeginsWith xs zs
+pub begins-more : (xs ys zs ms : List ℕ) → AreWordsAppended xs ys → zs ≡ ys ++ ms → AreWordsAppended xs zs
 begins-more xs ys zs ms b e = (b.0 ++ ms, e ∙ ap (λ l. l ++ ms) b.1 ∙ append_assoc xs b.0 ms)
 
-pub begins-through : (xs ys zs : List ℕ) → BeginsWith xs ys → BeginsWith ys zs → BeginsWith xs zs
+pub begins-through : (xs ys zs : List ℕ) → AreWordsAppended xs ys → AreWordsAppended ys zs → AreWordsAppended xs zs
 begins-through xs ys zs a b = begins-more xs ys zs b.0 a b.1
 
-pub take-begins : (xs ys : List ℕ) → BeginsWith xs ys → take (length xs) ys ≡ xs
+pub take-begins : (xs ys : List ℕ) → AreWordsAppended xs ys → take (length xs) ys ≡ xs
 take-begins xs ys b = ap (take (length xs)) b.1 ∙ prefix xs b.0
   where
     prefix : (xs ms : List ℕ) → take (length xs) (xs ++ ms) ≡ xs

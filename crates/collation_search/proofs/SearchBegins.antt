@@ -19,7 +19,7 @@ use Rattle.collation_matches.specs.Matches.{matches, settled}
 use Rattle.collation_matches.specs.Sought.{Sought, IsCompiledFrom, answer_to}
 use Rattle.collation_matches.specs.Selecting.{selected}
 use Rattle.collation_matches.proofs.LagRanges.{items-append}
-use Rattle.collation_matches.proofs.LagTexts.{TextLaws, BeginsWith, begins-append, begins-take, begins-chars, fault_after, no_fault_text}
+use Rattle.collation_matches.proofs.LagTexts.{TextLaws, BeginsWithWhole, begins-append, begins-take, begins-chars, fault_after, no_fault_text}
 use Rattle.collation_search.proofs.SearchAnswers.{items_in, has_key}
 use Rattle.collation_matches.proofs.SearchLemmas.{either, good_prefix_found}
 use Rattle.collation_walk.proofs.WalkSteps.{found_before, walks-begin, walks-begin_settled, walks-select_begin}
@@ -68,7 +68,7 @@ begins_found s finder taken more handed end h goes_on text codes =
 
 -- a text that the whole characters of the bytes so far begin
 begins_text : TextLaws → (s : Sought) → matches_are_found s.table → settled_are_found s.table → items_give_ranges s.table → (p taken good : List ℕ) (finder : Finder) (handed : List (ℕ × ℕ)) →
-    IsCompiledFrom s p → 1 ≤ length s.pattern.keys → IsUtf8 good → BeginsWith taken good →
+    IsCompiledFrom s p → 1 ≤ length s.pattern.keys → IsUtf8 good → BeginsWithWhole taken good →
     (h : FinderStandsFor s.table s.pattern finder (chars (whole taken)) handed) → finder.window.has_ended ≡ false →
     BeginsRanges (found_before h.matched.went.walked) (matches s.table s.pattern.strength s.pattern.variable p good)
     × BeginsRanges (found_before h.matched.went.walked) (settled s.table s.pattern.strength s.pattern.variable p good)

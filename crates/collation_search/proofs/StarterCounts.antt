@@ -14,7 +14,7 @@ use Rattle.collation_elements.specs.Decided.{left_points, EarlyCutsAreMadeGood}
 use Rattle.collation_matches.proofs.LagCounts.{count, count-append, count-le, count-ordered, count-past, stands_from}
 use Rattle.collation_search.specs.Early.{starters_from, IsCutUpTo}
 use Rattle.collation_search.specs.StateAfter.{final_points}
-use Rattle.collation_finder.proofs.ApartLemmas.{begins_anywhere}
+use Rattle.collation_finder.proofs.TakenAtOnceLemmas.{begins_anywhere}
 
 -- ---- counting
 

@@ -25,7 +25,7 @@ use Rattle.collation_matches.specs.GoodPrefix.{fault, good_prefix, is_good_so_fa
 use Rattle.collation_matches.specs.Selecting.{selected, remembered}
 use Rattle.collation_matches.specs.Sought.{Sought}
 use Rattle.collation_matches.proofs.TextCheckLemmas.{open_cut}
-use Rattle.collation_states.specs.State.{Place, State}
+use Rattle.collation_states.specs.State.{SavedPlace, State}
 use Rattle.collation_finder.specs.declared.finder.Finder.{Finder}
 use Rattle.collation_walk.specs.declared.walk.KeyPlace.{KeyPlace}
 use Rattle.collation_walk.specs.declared.walk.Walk.{Walk}
@@ -43,7 +43,7 @@ last_cluster-last [] c = refl
 last_cluster-last (d ∷ []) c = refl
 last_cluster-last (d ∷ e ∷ before) c = last_cluster-last (e ∷ before) c
 
-abbrev as_saved : PlacedKey → Place
+abbrev as_saved : PlacedKey → SavedPlace
 as_saved k = record { start = k.start; is_first = k.is_first }
 
 places-saved : (ks : List PlacedKey) → saved_places (map place_of ks) ≡ map as_saved ks
@@ -112,7 +112,7 @@ walk-waits pattern items ranges w end h =
 
 -- ---- a state
 
-abbrev state_with : ℕ → List ℕ → Bool → ℕ → Bool → Bool → ℕ → List Place → List Point → List Point → State
+abbrev state_with : ℕ → List ℕ → Bool → ℕ → Bool → Bool → ℕ → List SavedPlace → List Point → List Point → State
 state_with taken held after start keys waits end places window waiting = record {
   taken = taken;
   fault = None;

@@ -24,9 +24,9 @@ use Rattle.collation_matches.proofs.BridgeLists.{In, Rising}
 use Rattle.collation_matches.proofs.BridgeMatches.{rising_boundaries}
 use Rattle.collation_matches.proofs.BridgeRanges.{Below}
 use Rattle.collation_matches.proofs.FewRanges.{answered-rise}
-use Rattle.collation_matches.proofs.LagTexts.{TextLaws, BeginsWith, begins-chars, fault_after, answers}
+use Rattle.collation_matches.proofs.LagTexts.{TextLaws, BeginsWithWhole, begins-chars, fault_after, answers}
 use Rattle.collation_states.specs.Laws.{AreInOrder}
-use Rattle.collation_states.specs.State.{Place}
+use Rattle.collation_states.specs.State.{SavedPlace}
 use Rattle.collation_walk.specs.Walks.{WalksOver, place_of}
 use Rattle.collation_walk.specs.declared.walk.KeyPlace.{KeyPlace}
 use Rattle.collation_walk.specs.declared.walk.Walk.{Walk}
@@ -44,7 +44,7 @@ use Rattle.collation_search.proofs.SearchBegins.{begins-found, items_go_on}
 -- ---- the oldest of the last keys
 
 -- it does not stand behind the start of the current cluster
-oldest-within : (start : ℕ) (places : List Place) → AreInOrder 0 start places → oldest_start start places ≤ start
+oldest-within : (start : ℕ) (places : List SavedPlace) → AreInOrder 0 start places → oldest_start start places ≤ start
 oldest-within start [] h = omega arith
 oldest-within start (place ∷ places) h = omega (arith, h.1)
 
@@ -85,7 +85,7 @@ module _ (laws : TextLaws) (bounded : BoundariesAreStarts) (s : Sought) (finder 
     walked = h.matched.went.walked
 
     -- a range of a text that the whole characters begin
-    later-in : (good : List ℕ) (range : ℕ × ℕ) → IsUtf8 good → BeginsWith u good →
+    later-in : (good : List ℕ) (range : ℕ × ℕ) → IsUtf8 good → BeginsWithWhole u good →
         In (found s.pattern.keys (clusters s.table s.pattern.strength s.pattern.variable good) (length good)) range →
         (In (found s.pattern.keys walked.before walked.current.start) range → ⊥) →
         IsLater s.pattern.keys walked.before walked.current range

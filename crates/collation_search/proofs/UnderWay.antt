@@ -11,7 +11,7 @@ use Rattle.collation_states.specs.Laws.{StatesAreRecords}
 use Rattle.collation_states.specs.State.{words}
 use Rattle.collation_states.specs.StateTests.{head_len}
 use Rattle.collation_search.specs.declared.search.Search.{Search}
-use Rattle.collation_search.specs.Pieces.{joined, HasEnded, IsUnderWay, AreUnderWay, records_after, most_records_after}
+use Rattle.collation_search.specs.Pieces.{joined, HasEndedAtFault, IsUnderWay, AreUnderWay, records_after, most_records_after}
 use Rattle.collation_search.specs.Saving.{records_before}
 use Rattle.collation_search.specs.Search.{sought, HasSearched}
 use Rattle.collation_search.specs.State.{sizes_of, state_of, words_of}
@@ -38,7 +38,7 @@ module _ {W : Type 0} {G : Ghosts W} where
         words_are = ap (words (sizes_of s)) state;
       }
 
-  known-ended : (search : Search W G) (u : List ℕ) (handed : List (ℕ × ℕ)) (fault : TextFault) → HasEnded search (sought search) u handed fault → IsKnown search (sought search) u handed
+  known-ended : (search : Search W G) (u : List ℕ) (handed : List (ℕ × ℕ)) (fault : TextFault) → HasEndedAtFault search (sought search) u handed fault → IsKnown search (sought search) u handed
   known-ended search u handed fault h =
       let s = sought search in
       let here = h.known [] in

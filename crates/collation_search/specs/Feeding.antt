@@ -17,7 +17,7 @@ fault_of (Err f) = Some f
 -- and ranges, `After` what it represents then, and `Known` what is known of both and of the fault that was reported, or none.
 --   stands: without a fault the search represents these bytes too
 --   known: what is known of all bytes so far and all that was handed out
---   ended: with a fault both stay as they are, whatever follows the bytes
+--   ended: with a fault what was handed out is reported whatever follows the bytes, and so is the fault
 --   answer: with a fault what was handed out is all of the answer, whatever follows the bytes
 --   closed: a fault is reported only where no text goes on from the bytes
 --   again: a fault that was reported before is reported again, and nothing is handed out
@@ -68,6 +68,6 @@ BeginsAnswers {W} {G} search =
 
 -- A part of a piece was taken, of whose characters units may be cut early, up to `reach` bytes from its beginning on. Of what was handed
 -- out nothing is known from the bytes alone then.
-abbrev pub Takes : {W : Type 0} {G : Ghosts W} → Search W G → ℕ → List ℕ → Result (Unit {0}) TextFault → List (ℕ × ℕ) → Search W G → Type 0
-Takes {W} {G} old reach piece result found new =
+abbrev pub TakesPart : {W : Type 0} {G : Ghosts W} → Search W G → ℕ → List ℕ → Result (Unit {0}) TextFault → List (ℕ × ℕ) → Search W G → Type 0
+TakesPart {W} {G} old reach piece result found new =
     (place : ℕ) → Took (MayCut old reach place) (HasTaken new place) (λ bytes ranges fault. Unit {0}) old piece result found new

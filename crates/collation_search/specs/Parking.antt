@@ -7,7 +7,7 @@ use Rattle.collation_matches.specs.declared.select.Select.{Select}
 use Rattle.collation_matches.specs.Sought.{Sought}
 use Rattle.collation_states.specs.State.{words}
 use Rattle.collation_search.specs.declared.parking.Parked.{Parked}
-use Rattle.collation_finder.specs.Caches.{AreRight}
+use Rattle.collation_finder.specs.Caches.{IsCacheRight}
 use Rattle.collation_finder.specs.Finding.{IsMadeFor}
 use Rattle.collation_search.specs.Searching.{Searched}
 use Rattle.collation_search.specs.State.{sizes_of, state_of}
@@ -21,7 +21,7 @@ parked_fault parked = parked.fault
 
 -- It was put away by a search with this table and this pattern.
 pub record IsFor (table : TableMap) (pattern : Compiled) (parked : Parked) : Type 0 where
-  pub right : AreRight table pattern parked.cache.value
+  pub right : IsCacheRight table pattern parked.cache.value
   pub made : IsMadeFor table pattern parked.finder.value
 
 -- the bytes went in and the ranges were handed out, as of a search (`HasSearched`)

@@ -5,7 +5,7 @@ use Rattle.collation_table.specs.declared.lookup.Weights.{Ghosts}
 use Rattle.collation_matches.specs.declared.faults.TextFault.{TextFault}
 use Rattle.collation_search.specs.declared.search.Search.{Search}
 use Rattle.collation_search.specs.Feeding.{Feeds}
-use Rattle.collation_search.specs.Resuming.{GoesOn}
+use Rattle.collation_search.specs.Resuming.{IsResumedFrom}
 use Rattle.collation_search.specs.Saving.{records_before}
 use Rattle.collation_search.specs.State.{words_of}
 use Rattle.collation_search.specs.StateAfter.{IsReported, state_after}
@@ -18,7 +18,7 @@ joined pieces = flat_map (λ piece. piece.now) pieces
 
 -- The search has reported the fault: whatever follows the bytes, the ranges and this fault are the answer, and what is reported after
 -- these bytes.
-pub record HasEnded {W : Type 0} {G : Ghosts W} (search : Search W G) (s : Sought) (taken : List ℕ) (handed : List (ℕ × ℕ)) (fault : TextFault) : Type 0 where
+pub record HasEndedAtFault {W : Type 0} {G : Ghosts W} (search : Search W G) (s : Sought) (taken : List ℕ) (handed : List (ℕ × ℕ)) (fault : TextFault) : Type 0 where
   pub reported : HasReported search fault
   pub answer : (text more : List ℕ) → IsCompiledFrom s text → answer_to s text (taken ++ more) ≡ record { ranges = handed; fault = Some fault }
   pub known : (more : List ℕ) → IsReported s (taken ++ more) handed (Some fault)
@@ -26,7 +26,7 @@ pub record HasEnded {W : Type 0} {G : Ghosts W} (search : Search W G) (s : Sough
 -- The bytes went in and the ranges were handed out: they are open, or they have ended at a fault.
 abbrev pub IsUnderWay : {W : Type 0} {G : Ghosts W} → Search W G → Sought → List ℕ → List (ℕ × ℕ) → Type 0
 IsUnderWay {W} {G} search s taken handed =
-    (sought search ≡ s) × (HasSearched search taken handed ⊎ ((fault : TextFault) × HasEnded search s taken handed fault))
+    (sought search ≡ s) × (HasSearched search taken handed ⊎ ((fault : TextFault) × HasEndedAtFault search s taken handed fault))
 
 -- The words are those of a search that is under way.
 pub record AreUnderWay {W : Type 0} (G : Ghosts W) (s : Sought) (words taken : List ℕ) (handed : List (ℕ × ℕ)) : Type 0 where
@@ -36,11 +36,11 @@ pub record AreUnderWay {W : Type 0} (G : Ghosts W) (s : Sought) (words taken : L
 
 -- From one state to the next: a search that was resumed from the words took the piece, handed out the ranges, and was saved as the
 -- next words.
-pub record Passes {W : Type 0} (G : Ghosts W) (s : Sought) (words piece : List ℕ) (found : List (ℕ × ℕ)) (next : List ℕ) : Type 0 where
+pub record IsTransition {W : Type 0} (G : Ghosts W) (s : Sought) (words piece : List ℕ) (found : List (ℕ × ℕ)) (next : List ℕ) : Type 0 where
   pub resumed : Search W G
   pub fed : Search W G
   pub result : Result (Unit {0}) TextFault
-  pub goes_on : GoesOn resumed s words
+  pub goes_on : IsResumedFrom resumed s words
   pub feeds : Feeds resumed piece result found fed
   pub saved : next ≡ words_of fed
 
@@ -48,7 +48,7 @@ pub record Passes {W : Type 0} (G : Ghosts W) (s : Sought) (words piece : List �
 unfoldable pub AreStates : {W : Type 0} → Ghosts W → Sought → List ℕ → List (Bor (List ℕ)) → List (List ℕ) → List ℕ → Type 0
 AreStates G s first [] [] last = first ≡ last
 AreStates G s first (piece ∷ pieces) (next ∷ states) last =
-    ((found : List (ℕ × ℕ)) × Passes G s first piece.now found next) × AreStates G s next pieces states last
+    ((found : List (ℕ × ℕ)) × IsTransition G s first piece.now found next) × AreStates G s next pieces states last
 AreStates G s first _ _ last = ⊥
 
 -- The states after the pieces, the first of which a search took that was resumed from the words of a new one.

@@ -24,7 +24,7 @@ abbrev pub AreSavedAfter : {W : Type 0} {G : Ghosts W} → Search W G → Sought
 AreSavedAfter {W} {G} saved s words fault = (sought saved ≡ s) × (words ≡ words_of saved) × HasReported saved fault
 
 -- What a search was resumed from is what it goes on with: it represents all that a search represented whose words these are.
-pub record GoesOn {W : Type 0} {G : Ghosts W} (resumed : Search W G) (s : Sought) (words : List ℕ) : Type 0 where
+pub record IsResumedFrom {W : Type 0} {G : Ghosts W} (resumed : Search W G) (s : Sought) (words : List ℕ) : Type 0 where
   pub stands : (saved : Search W G) (taken : List ℕ) (handed : List (ℕ × ℕ)) → AreSaved saved s words taken handed → HasSearched resumed taken handed
   pub reported : (saved : Search W G) (fault : TextFault) → AreSavedAfter saved s words fault → HasReported resumed fault
   pub same : sought resumed ≡ s

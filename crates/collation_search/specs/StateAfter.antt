@@ -17,7 +17,7 @@ use Rattle.collation_matches.specs.ByClusters.{PlacedKey, text_begin, has_keys, 
 use Rattle.collation_matches.specs.GoodPrefix.{fault, good_prefix, is_good_so_far, whole}
 use Rattle.collation_matches.specs.Selecting.{selected, remembered}
 use Rattle.collation_matches.specs.Sought.{Sought}
-use Rattle.collation_states.specs.State.{Place, State, reported}
+use Rattle.collation_states.specs.State.{SavedPlace, State, reported}
 pub use Rattle.collation_finder.specs.Early.{final_points}
 
 -- ---- points
@@ -59,7 +59,7 @@ last_cluster (c ∷ []) = c
 last_cluster (c ∷ d ∷ cs) = last_cluster (d ∷ cs)
 
 -- the places of the last keys, as many as match a prefix of the pattern
-abbrev pub last_places : Sought → List PlacedKey → List Place
+abbrev pub last_places : Sought → List PlacedKey → List SavedPlace
 last_places s ks =
     let matched = border s.pattern.keys (map (λ k. k.key) ks) in
     map (λ k. record { start = k.start; is_first = k.is_first }) (drop (length ks - matched) ks)

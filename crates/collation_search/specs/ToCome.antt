@@ -1,10 +1,10 @@
 -- From where on ranges are still to come, as a state says it.
 use Rattle.std.specs.Prelude.{ℕ, List, [], ◌∷◌}
-use Rattle.collation_states.specs.State.{Place, State}
+use Rattle.collation_states.specs.State.{SavedPlace, State}
 use Rattle.collation_search.specs.declared.to_come.ToCome.{ToCome}
 
 -- where the oldest of these keys stands, or, without one, where the current cluster starts
-abbrev pub oldest_start : ℕ → List Place → ℕ
+abbrev pub oldest_start : ℕ → List SavedPlace → ℕ
 oldest_start start [] = start
 oldest_start start (place ∷ places) = place.start
 

@@ -73,7 +73,7 @@ impl<'a, W: Weights> Search<'a, W> {
     ghost use Rattle.collation_table.specs.Table.{longest_mapped};
     ghost use Rattle.collation_matches.specs.GoodPrefix.{is_good_so_far, whole};
     ghost use Rattle.collation_search.specs.Early.{starters_from};
-    ghost use Rattle.collation_search.specs.Feeding.{Feeds, Takes};
+    ghost use Rattle.collation_search.specs.Feeding.{Feeds, TakesPart};
     ghost use Rattle.collation_search.specs.Search.{sought};
 
     /// Takes the bytes of a piece of the text, and calls the sink once for each range that became known, in order, with its
@@ -141,7 +141,7 @@ impl<'a, W: Weights> Search<'a, W> {
     /// How far letters of a piece are taken, in bytes: nowhere where the piece goes by steps alone.
     pub(crate) fn reach(&mut self, piece: &[u8]) -> usize
         requires none { self.old.fault ≡ None }
-        ensures taken { Takes self.old 0 [] (Ok tt) [] self.new }
+        ensures taken { TakesPart self.old 0 [] (Ok tt) [] self.new }
         ensures enough { (u : List ℕ) → is_good_so_far (u ++ piece.now) ≡ true → 0 < result
             → max 2 (longest_mapped (sought self.old).table)
             ≤ suc (starters_from (length u + result) (chars (whole (u ++ piece.now)))) }
@@ -172,7 +172,7 @@ impl<'a, W: Weights> Search<'a, W> {
         ensures within { result ≤ length piece.now }
         ensures taken { (ranges : List (ℕ × ℕ))
             × FoldsTo (λ f range g. F.step f range.0 range.1 tt g) sink.old ranges sink.new
-            × Takes self.old reach (take result piece.now) (Ok tt) ranges self.new }
+            × TakesPart self.old reach (take result piece.now) (Ok tt) ranges self.new }
         ensures callable { F.IsAlwaysCallable sink.new }
     {
         whole_characters_are_the_longest_text();

@@ -115,7 +115,7 @@ impl<'a, W: Weights> Search<'a, W> {
     ghost use Rattle.std.specs.Prelude.{◌≡◌, ℕ, ◌≤◌, ◌∷◌, List, [], ◌++◌, length, take, slice_get, None, Ok};
     ghost use Rattle.collation_matches.specs.Sought.{IsCompiledFrom, answer_to};
     ghost use Rattle.collation_matches.specs.Offsets.{answer_from};
-    ghost use Rattle.collation_search.specs.Feeding.{BeginsAnswers, Takes};
+    ghost use Rattle.collation_search.specs.Feeding.{BeginsAnswers, TakesPart};
     ghost use Rattle.collation_search.specs.Indexing.{first_range, IsFirstSoFar};
     ghost use Rattle.collation_search.specs.Search.{HasSearched, sought};
 
@@ -261,7 +261,7 @@ impl<'a, W: Weights> Search<'a, W> {
         requires none { self.old.fault ≡ None }
         ensures within { result.0 ≤ length piece.now }
         ensures taken { (ranges : List (ℕ × ℕ))
-            × Takes self.old reach (take result.0 piece.now) (Ok tt) ranges self.new
+            × TakesPart self.old reach (take result.0 piece.now) (Ok tt) ranges self.new
             × (result.1 ≡ slice_get ranges 0) }
     {
         let mut first = None;

@@ -1,8 +1,8 @@
 //! A whole search over a text in pieces, saved and resumed after each.
 ghost use Rattle.std.specs.Prelude.{◌≡◌, ℕ, ◌*◌, ◌≤◌, List, [], length, IfOk};
 ghost use Rattle.std.specs.List.{FoldsTo};
-ghost use Rattle.collation_search.specs.Pieces.{joined, most_records_after, most_words, AreUnderWay, Passes, HasStates};
-ghost use Rattle.collation_search.specs.Resuming.{GoesOn};
+ghost use Rattle.collation_search.specs.Pieces.{joined, most_records_after, most_words, AreUnderWay, IsTransition, HasStates};
+ghost use Rattle.collation_search.specs.Resuming.{IsResumedFrom};
 ghost use Rattle.collation_search.specs.Saving.{most_records};
 ghost use Rattle.collation_matches.specs.Sought.{IsCompiledFrom, answer_to, seeking};
 
@@ -127,7 +127,7 @@ fn take_piece<W: Weights, F: FnMut(u64, u64)>(
     ensures passed { IfOk result
         (λ records. (found : List (ℕ × ℕ))
         × FoldsTo (λ f range g. F.step f range.0 range.1 tt g) sink.old found sink.new
-        × Passes W.Weights
+        × IsTransition W.Weights
         (seeking (W.table table.now) pattern.now select)
         words.old.items piece.now found words.new.items) }
     ensures counted { IfOk result (λ records. length words.new.items ≡ 4 * records) }
@@ -159,7 +159,7 @@ fn go_on<'a, W: Weights>(
         × AreUnderWay W.Weights
         (seeking (W.table table.now) pattern.now select) words.now taken handed }
     ensures goes_on { IfOk result
-        (λ search. GoesOn search
+        (λ search. IsResumedFrom search
         (seeking (W.table table.now) pattern.now select) words.now) }
 {
     match Search::resume_with(alloc, table, pattern, select, words) {

@@ -20,7 +20,7 @@ impl<'a, W: Weights> Search<'a, W> {
     ghost use Rattle.collation_states.specs.Reading.{state_in, Says};
     ghost use Rattle.collation_search.specs.Search.{sought, HasSearched};
     ghost use Rattle.collation_search.specs.State.{sizes_of};
-    ghost use Rattle.collation_search.specs.Resuming.{GoesOn, BeginsWithFault, IsRefused, KeepsSaved, AcceptsSaved};
+    ghost use Rattle.collation_search.specs.Resuming.{IsResumedFrom, BeginsWithFault, IsRefused, KeepsSaved, AcceptsSaved};
 
     /// The search for all minimal matches that goes on from a state, as [`Search::resume_with`] gives it.
     ///
@@ -34,7 +34,7 @@ impl<'a, W: Weights> Search<'a, W> {
         words: &[u64],
     ) -> Result<Self, StateFault>
         ensures goes_on { IfOk result
-            (λ s. GoesOn s
+            (λ s. IsResumedFrom s
             (seeking (W.table table.now) pattern.now AllRanges) words.now) }
         ensures begins { IfOk result (λ s. BeginsWithFault s (state_in AllRanges words.now).fault) }
         ensures accepted { OnOk result
@@ -66,7 +66,7 @@ impl<'a, W: Weights> Search<'a, W> {
         words: &[u64],
     ) -> Result<Self, StateFault>
         ensures goes_on { IfOk result
-            (λ s. GoesOn s
+            (λ s. IsResumedFrom s
             (seeking (W.table table.now) pattern.now select) words.now) }
         ensures begins { IfOk result (λ s. BeginsWithFault s (state_in select words.now).fault) }
         ensures accepted { OnOk result
@@ -96,7 +96,7 @@ impl<'a, W: Weights> Search<'a, W> {
     ///
     /// 51 and 52 as [`Search::resume_with`] answers them. Then the search is as it was.
     pub fn resume_from(&mut self, words: &[u64]) -> Result<(), StateFault>
-        ensures goes_on { OnOk result (GoesOn self.new (sought self.old) words.now) }
+        ensures goes_on { OnOk result (IsResumedFrom self.new (sought self.old) words.now) }
         ensures begins { OnOk result
             (BeginsWithFault self.new (state_in (sought self.old).select words.now).fault) }
         ensures accepted { OnOk result (state_fault (sizes_of (sought self.old)) words.now ≡ None) }
@@ -130,7 +130,7 @@ impl<'a, W: Weights> Search<'a, W> {
             (sizes_of (sought self.old)).longest_key }
         ensures goes_on { (words : List ℕ)
             → Says state.now (state_in (sought self.old).select words)
-            → GoesOn self.new (sought self.old) words }
+            → IsResumedFrom self.new (sought self.old) words }
         ensures begins { BeginsWithFault self.new state.now.fault }
     {
         clusters_are_parts();

@@ -3,7 +3,7 @@
 ghost use Rattle.std.specs.Prelude.{◌≡◌, ℕ, List, ◌+◌, ◌++◌, ◌<◌, ◌≤◌, length, vec_len, vec_capacity, OnOk, OnErr};
 ghost use Rattle.collation_matches.specs.Sought.{seeking};
 ghost use Rattle.collation_states.specs.State.{head_of, place_words, point_words, words as state_words};
-ghost use Rattle.collation_states.specs.Saving.{BeginsWith};
+ghost use Rattle.collation_states.specs.Saving.{AreWordsAppended};
 ghost use Rattle.collation_search.specs.State.{sizes_of, kept_places, saved_places, match_waits, state_of, words_of};
 ghost use Rattle.collation_search.specs.Search.{sought};
 ghost use Rattle.collation_search.specs.StateAfter.{state_after};
@@ -87,7 +87,7 @@ impl<'a, W: Weights> Search<'a, W> {
     /// Appends the state.
     fn append_state(&self, words: &mut Vec<u64>) -> Result<(), AllocError>
         ensures saved { OnOk result (words.new.items ≡ words.old.items ++ words_of self.now) }
-        ensures begun { OnErr result (BeginsWith words.old.items words.new.items) }
+        ensures begun { OnErr result (AreWordsAppended words.old.items words.new.items) }
         ensures full { OnErr result
             (vec_capacity words.old < vec_len words.old + length (words_of self.now)) }
         ensures few { HasRecords (words_of self.now) (most_records (sought self.now)) }
@@ -176,7 +176,7 @@ pub(crate) fn match_waits(walk: &Walk, pattern_len: usize) -> bool
 fn append_places(words: &mut Vec<u64>, walk: &Walk) -> Result<(), AllocError>
     ensures saved { OnOk result
         (words.new.items ≡ words.old.items ++ place_words (saved_places (kept_places walk.now))) }
-    ensures begun { OnErr result (BeginsWith words.old.items words.new.items) }
+    ensures begun { OnErr result (AreWordsAppended words.old.items words.new.items) }
     ensures full { OnErr result
         (vec_capacity words.old < vec_len words.old + length
         (place_words (saved_places (kept_places walk.now)))) }
@@ -194,7 +194,7 @@ fn append_places(words: &mut Vec<u64>, walk: &Walk) -> Result<(), AllocError>
 fn append_window(words: &mut Vec<u64>, window: &Window) -> Result<(), AllocError>
     ensures saved { OnOk result
         (words.new.items ≡ words.old.items ++ point_words window.now.points) }
-    ensures begun { OnErr result (BeginsWith words.old.items words.new.items) }
+    ensures begun { OnErr result (AreWordsAppended words.old.items words.new.items) }
     ensures full { OnErr result
         (vec_capacity words.old < vec_len words.old + length (point_words window.now.points)) }
     ensures capacity { vec_capacity words.old ≤ vec_capacity words.new }

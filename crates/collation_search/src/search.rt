@@ -3,7 +3,7 @@ ghost use Rattle.std.specs.Prelude.{◌≡◌, ◌+◌, ◌≤◌, length, None,
 ghost use Rattle.std.specs.Option.{ForSome};
 ghost use Rattle.nfd_points.specs.declared.limits.TheConstants.{MOST_GIVEN};
 ghost use Rattle.std.proofs.Props.{props};
-ghost use Rattle.collation_finder.specs.Caches.{AreRight};
+ghost use Rattle.collation_finder.specs.Caches.{IsCacheRight};
 ghost use Rattle.collation_matches.specs.GoodPrefix.{most_bytes};
 
 use collation_elements::decided_units_stay;
@@ -28,7 +28,7 @@ pub struct Search<'a, W: Weights> {
     pub(crate) fault: Option<TextFault>,
     /// What it has found out of the characters that it met. It is no part of a state: it is found anew.
     pub(crate) cache: Box<Cache>,
-    ghost right: { AreRight (W.table query.table.now) query.pattern.now cache.value } by { Prim.hlevel props },
+    ghost right: { IsCacheRight (W.table query.table.now) query.pattern.now cache.value } by { Prim.hlevel props },
     ghost longest: { finder.value.window.capacity ≡ query.longest_key + MOST_GIVEN },
     ghost pattern_len: { finder.value.matcher.walk.places.capacity
         ≡ length query.pattern.now.keys },
@@ -50,7 +50,7 @@ impl<'a, W: Weights> Search<'a, W> {
     ghost use Rattle.collation_matches.specs.declared.select.Select.TheVariants.{All};
     ghost use Rattle.collation_search.specs.Search.{HasSearched, HasTaken, HasReported, sought};
     ghost use Rattle.collation_search.specs.StateAfter.{reported_after};
-    ghost use Rattle.collation_search.specs.Feeding.{Ends, Feeds, Takes};
+    ghost use Rattle.collation_search.specs.Feeding.{Ends, Feeds, TakesPart};
     ghost use Rattle.collation_matches.specs.Sought.{IsCompiledFrom, answer_to, seeking, settled_in};
     ghost use Rattle.collation_matches.specs.GoodPrefix.{fault as fault_of, is_good_so_far, most_bytes, whole};
 
@@ -180,7 +180,7 @@ impl<'a, W: Weights> Search<'a, W> {
 
     /// The same, also within a piece, where units may have been cut early.
     pub(crate) fn step_on(&mut self, byte: u8, found: &mut Found) -> Result<(), TextFault>
-        ensures takes { Takes self.old 0 (byte ∷ []) result found.new.items self.new }
+        ensures takes { TakesPart self.old 0 (byte ∷ []) result found.new.items self.new }
         ensures few { length found.new.items ≤ longest_key_of (sought self.old).table + MOST_GIVEN }
     {
         matches_by_clusters(self.query.table);

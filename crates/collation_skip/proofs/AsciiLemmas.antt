@@ -31,6 +31,7 @@ use Rattle.collation_letters.proofs.ApartLemmas.{from_one, from_none, ordered_no
 use Rattle.collation_letters.proofs.CharacterLemmas.{points_are_shifted}
 use Rattle.collation_letters.proofs.JoiningLemmas.{after-plain}
 use Rattle.collation_letters.proofs.LetterApart.{BeforeLaw}
+use Rattle.collation_letters.proofs.WeigherLaw.{WeighersGoOn}
 use Rattle.collation_skip.specs.declared.classes.Classes.{Classes}
 use Rattle.byte_blocks.specs.Ascii.{Passes}
 use Rattle.byte_blocks.specs.Sets.{in_set}
@@ -38,15 +39,10 @@ use Rattle.collation_skip.specs.Blocks.{items_at, StartsInFront, most, AreClasse
 use Rattle.collation_skip.specs.Passed.{IsQuiet}
 use Rattle.byte_blocks.proofs.LaneLemmas.{min-zero}
 
-abbrev pub GoesOnLaw : Type 0
-GoesOnLaw =
-    (table : TableMap) (w : Weigher) (us vs : List (List Point)) (given more : List Item) (after : Bool) → items_of table w.strength w.variable w.after_variable vs ≡ more →
-    after_units table w.variable w.after_variable vs ≡ after → WeigherStandsFor table w us given → WeigherStandsFor table (weigher w.strength w.variable after) (us ++ vs) (given ++ more)
-
 pub record RunLaws : Type 0 where
   pub points : LetterLaws
   pub before : BeforeLaw
-  pub goes_on : GoesOnLaw
+  pub goes_on : WeighersGoOn
 
 -- ---- lists of items
 
@@ -95,7 +91,7 @@ quiet-more pattern start xs ys quiet state front = λ before more at h.
 pub possible : (table : TableMap) (variable : Variable) (us : List (List Point)) → IsPossible variable (after_units table variable false us)
 possible table variable us = λ plain. ap (λ v. after_units table v false us) plain ∙ after-plain table false us
 
-pub items-more : GoesOnLaw → (table : TableMap) (strength : Strength) (variable : Variable) (us vs : List (List Point)) →
+pub items-more : WeighersGoOn → (table : TableMap) (strength : Strength) (variable : Variable) (us vs : List (List Point)) →
     (items_of table strength variable false (us ++ vs) ≡ items_of table strength variable false us ++ items_of table strength variable (after_units table variable false us) vs)
     × (after_units table variable false (us ++ vs) ≡ after_units table variable (after_units table variable false us) vs)
 items-more law table strength variable us vs =
@@ -164,7 +160,7 @@ abbrev pub run_items : TableMap → Compiled → ℕ → List ℕ → ℕ → Li
 run_items table pattern start bytes n = items_of table pattern.strength pattern.variable false (units table (points_from start (take n bytes)))
 
 -- After the first n bytes of a text that passes: no match has ended, and not too many keys have matched.
-pub record HasRun (table : TableMap) (pattern : Compiled) (classes : Classes) (start : ℕ) (bytes : List ℕ) (n : ℕ) : Type 0 where
+pub record HasPassedAscii (table : TableMap) (pattern : Compiled) (classes : Classes) (start : ℕ) (bytes : List ℕ) (n : ℕ) : Type 0 where
   pub is_next : IsNext table start (take n bytes) (get_or bytes n 0)
   pub quiet : IsQuiet pattern.keys (run_items table pattern start bytes n)
   pub later : (at : ℕ) → Contains (run_items table pattern start bytes n) (ClusterStart at) → start ≤ at
@@ -175,7 +171,7 @@ pub record HasRun (table : TableMap) (pattern : Compiled) (classes : Classes) (s
 border-nil : (pattern : List Key) → border pattern [] ≡ 0
 border-nil pattern = let e : min (length pattern) 0 ≡ 0 = omega arith in ap (border_up_to pattern []) e
 
-run-none : RunLaws → (table : TableMap) (pattern : Compiled) (classes : Classes) (start : ℕ) (bytes : List ℕ) → get_or bytes 0 0 < 128 → HasRun table pattern classes start bytes 0
+run-none : RunLaws → (table : TableMap) (pattern : Compiled) (classes : Classes) (start : ℕ) (bytes : List ℕ) → get_or bytes 0 0 < 128 → HasPassedAscii table pattern classes start bytes 0
 run-none laws table pattern classes start bytes less =
     let nothing = from_none start in
     let d = get_or bytes 0 0 in
@@ -196,7 +192,7 @@ run-none laws table pattern classes start bytes less =
     }
 
 -- before the next character not more keys have matched than the place says, or its key is not the one behind the place
-low-or-not-later : (table : TableMap) (pattern : Compiled) (classes : Classes) (start : ℕ) (bytes : List ℕ) (total n : ℕ) → Passes classes.sets bytes total → n < total → HasRun table pattern classes start bytes n →
+low-or-not-later : (table : TableMap) (pattern : Compiled) (classes : Classes) (start : ℕ) (bytes : List ℕ) (total n : ℕ) → Passes classes.sets bytes total → n < total → HasPassedAscii table pattern classes start bytes n →
     (border pattern.keys (item_keys (run_items table pattern start bytes n)) ≤ classes.place) ⊎ (in_set classes.sets.later (get_or bytes n 0) ≡ 0)
 low-or-not-later table pattern classes start bytes total zero p less h = inl (h.none refl)
 low-or-not-later table pattern classes start bytes total (suc n) p less h =
@@ -233,8 +229,8 @@ run-items-more laws table pattern start bytes n less ends =
       ap (λ (t : List ℕ). after_units table pattern.variable false (units table (points_from start t))) more ∙ next.1,
     )
 
-run-more : RunLaws → (table : TableMap) (pattern : Compiled) (classes : Classes) → AreClassesRight table pattern classes → (start : ℕ) (bytes : List ℕ) (total n : ℕ) → Passes classes.sets bytes total → suc n < total → HasRun table pattern classes start bytes n →
-    HasRun table pattern classes start bytes (suc n)
+run-more : RunLaws → (table : TableMap) (pattern : Compiled) (classes : Classes) → AreClassesRight table pattern classes → (start : ℕ) (bytes : List ℕ) (total n : ℕ) → Passes classes.sets bytes total → suc n < total → HasPassedAscii table pattern classes start bytes n →
+    HasPassedAscii table pattern classes start bytes (suc n)
 run-more laws table pattern classes rights start bytes total n p less h =
     let cs = take n bytes in
     let c = get_or bytes n 0 in
@@ -281,7 +277,7 @@ run-more laws table pattern classes rights start bytes total n p less h =
           ]);
     }
 
-pub run-to : RunLaws → (table : TableMap) (pattern : Compiled) (classes : Classes) → AreClassesRight table pattern classes → (start : ℕ) (bytes : List ℕ) (total n : ℕ) → Passes classes.sets bytes total → n < total → HasRun table pattern classes start bytes n
+pub run-to : RunLaws → (table : TableMap) (pattern : Compiled) (classes : Classes) → AreClassesRight table pattern classes → (start : ℕ) (bytes : List ℕ) (total n : ℕ) → Passes classes.sets bytes total → n < total → HasPassedAscii table pattern classes start bytes n
 run-to laws table pattern classes rights start bytes total zero p less = run-none laws table pattern classes start bytes (p.ascii less)
 run-to laws table pattern classes rights start bytes total (suc n) p less =
     run-more laws table pattern classes rights start bytes total n p less (run-to laws table pattern classes rights start bytes total n p (omega (arith, less)))

@@ -9,11 +9,11 @@ use Rattle.byte_dfa.specs.Moves.{HasRow}
 use Rattle.collation_table.specs.Table.{TableMap}
 use Rattle.collation_pattern.specs.Compiled.{Compiled}
 use Rattle.collation_skip.specs.declared.automaton.Automaton.{Automaton}
-use Rattle.byte_dfa.specs.declared.cells.TheConstants.{ROW, UNKNOWN}
+use Rattle.byte_dfa.specs.declared.cells.TheConstants.{ROW, UNKNOWN_CELL}
 use Rattle.byte_dfa.specs.declared.moves.TheConstants.{STOP}
 use Rattle.collation_skip.specs.declared.state.State.{State}
 use Rattle.collation_skip.specs.Reached.{IsMove}
-use Rattle.collation_skip.specs.Rows.{AreRight, IsRow, parity}
+use Rattle.collation_skip.specs.Rows.{AreRowsRight, IsRow, parity}
 
 -- ---- elements of a list
 
@@ -62,7 +62,7 @@ row-one a row other byte byte' s t h k less less' same =
     let rows : row ≡ other = let r = ap parity states in omega (arith, h.2, k.2, one, r) in (rows, (omega (arith, rows, same), states))
 
 -- the cells of a row are there
-pub row-within : (table : TableMap) (pattern : Compiled) (a : Automaton) (row byte : ℕ) (s : State) → AreRight table pattern a → IsRow a row s → byte < 256 → row + byte < length a.cells
+pub row-within : (table : TableMap) (pattern : Compiled) (a : Automaton) (row byte : ℕ) (s : State) → AreRowsRight table pattern a → IsRow a row s → byte < 256 → row + byte < length a.cells
 row-within table pattern a row byte s right h less =
     let p = parity-small s in
     let n = got-within a.states.items h.0 s h.1 in
@@ -70,11 +70,11 @@ row-within table pattern a row byte s right h less =
     omega (arith, p, n, long, less, h.2)
 
 -- the row is one of the cells
-pub row-had : (table : TableMap) (pattern : Compiled) (a : Automaton) (row : ℕ) (s : State) → AreRight table pattern a → IsRow a row s → HasRow a.cells row
+pub row-had : (table : TableMap) (pattern : Compiled) (a : Automaton) (row : ℕ) (s : State) → AreRowsRight table pattern a → IsRow a row s → HasRow a.cells row
 row-had table pattern a row s right h = let last = row-within table pattern a row 255 s right h (omega arith) in omega (arith, last)
 
 -- the same cells and states
-pub right-same : (table : TableMap) (pattern : Compiled) (a b : Automaton) → b.cells ≡ a.cells → b.states.items ≡ a.states.items → AreRight table pattern a → AreRight table pattern b
+pub right-same : (table : TableMap) (pattern : Compiled) (a b : Automaton) → b.cells ≡ a.cells → b.states.items ≡ a.states.items → AreRowsRight table pattern a → AreRowsRight table pattern b
 right-same table pattern a b cells states right =
     record {
       len = ap (λ (l : List ℕ). length l) cells ∙ right.len ∙ ap (λ (l : List State). ROW * length l) (sym states);
@@ -85,8 +85,8 @@ right-same table pattern a b cells states right =
 
 -- ---- a cell is written
 
-pub right-set : (table : TableMap) (pattern : Compiled) (a b : Automaton) (row byte cell : ℕ) (from : State) → AreRight table pattern a → b.states.items ≡ a.states.items → b.cells ≡ slice_set a.cells (row + byte) cell →
-    length b.cells ≡ length a.cells → IsRow a row from → byte < 256 → (cell < STOP → ∥ ((to : State) × IsRow a cell to × IsMove table pattern from byte to) ∥₁) → AreRight table pattern b
+pub right-set : (table : TableMap) (pattern : Compiled) (a b : Automaton) (row byte cell : ℕ) (from : State) → AreRowsRight table pattern a → b.states.items ≡ a.states.items → b.cells ≡ slice_set a.cells (row + byte) cell →
+    length b.cells ≡ length a.cells → IsRow a row from → byte < 256 → (cell < STOP → ∥ ((to : State) × IsRow a cell to × IsMove table pattern from byte to) ∥₁) → AreRowsRight table pattern b
 right-set table pattern a b row byte cell from right states cells long h less move =
     record {
       len = let old = right.len in let many = ap (λ (l : List State). length l) states in omega (arith, long, old, many);
@@ -108,11 +108,11 @@ right-set table pattern a b row byte cell from right states cells long h less mo
 
 -- ---- a row is added
 
-pub right-added : (table : TableMap) (pattern : Compiled) (a b : Automaton) (s : State) → AreRight table pattern a → b.states.items ≡ a.states.items ++ s ∷ [] → b.cells ≡ a.cells ++ replicate ROW UNKNOWN → AreRight table pattern b
+pub right-added : (table : TableMap) (pattern : Compiled) (a b : Automaton) (s : State) → AreRowsRight table pattern a → b.states.items ≡ a.states.items ++ s ∷ [] → b.cells ≡ a.cells ++ replicate ROW UNKNOWN_CELL → AreRowsRight table pattern b
 right-added table pattern a b s right states cells =
     let many = ap (λ (l : List State). length l) states ∙ length-append a.states.items (s ∷ []) in
-    let long = ap (λ (l : List ℕ). length l) cells ∙ length-append a.cells (replicate ROW UNKNOWN) in
-    let added = length-replicate ROW UNKNOWN in
+    let long = ap (λ (l : List ℕ). length l) cells ∙ length-append a.cells (replicate ROW UNKNOWN_CELL) in
+    let added = length-replicate ROW UNKNOWN_CELL in
     let len = right.len in
     record {
       len = omega (arith, long, added, many, len);
@@ -123,12 +123,12 @@ right-added table pattern a b s right states cells =
             | inl less_number ↦
                 let k : IsRow a row from = (h.0, got-old a.states.items s h.0 from less_number (ap (λ (l : List State). slice_get l h.0) (sym states) ∙ h.1), h.2) in
                 let is : slice_index b.cells (row + byte) ≡ slice_index a.cells (row + byte) =
-                ap (λ (l : List ℕ). get_or l (row + byte) 0) cells ∙ get_or_append_left a.cells (replicate ROW UNKNOWN) 0 (row + byte) (omega (arith, less_number, len, p, less, h.2)) in
+                ap (λ (l : List ℕ). get_or l (row + byte) 0) cells ∙ get_or_append_left a.cells (replicate ROW UNKNOWN_CELL) 0 (row + byte) (omega (arith, less_number, len, p, less, h.2)) in
                 ∥∥₁_map (right.cells row byte from less k (subst (λ n. n < STOP) is below)) (λ m. (m.0, subst (λ n. IsRow b n m.0) (sym is) (row-more a b (s ∷ []) states _ m.0 m.1), m.2))
             | inr past ↦
-                let unknown : slice_index b.cells (row + byte) ≡ UNKNOWN =
-                ap (λ (l : List ℕ). get_or l (row + byte) 0) cells ∙ get_or-append_right a.cells (replicate ROW UNKNOWN) (length a.cells) (row + byte) 0 refl (omega (arith, past, len, h.2))
-                ∙ get_or-replicate ROW (row + byte - length a.cells) UNKNOWN 0 (omega (arith, past, within, many, len, p, less, h.2)) in
+                let unknown : slice_index b.cells (row + byte) ≡ UNKNOWN_CELL =
+                ap (λ (l : List ℕ). get_or l (row + byte) 0) cells ∙ get_or-append_right a.cells (replicate ROW UNKNOWN_CELL) (length a.cells) (row + byte) 0 refl (omega (arith, past, len, h.2))
+                ∙ get_or-replicate ROW (row + byte - length a.cells) UNKNOWN_CELL 0 (omega (arith, past, within, many, len, p, less, h.2)) in
                 absurd (omega (arith, unknown, below))
           ];
     }

@@ -10,7 +10,7 @@ use Rattle.std.proofs.lemmas.Option.{same_Some}
 use Rattle.std.proofs.lemmas.List.{append-nil, length-take, take_more, take-take}
 use Rattle.std.proofs.lemmas.List.Elements.{All-drop, All-head, All-tail, All-take}
 use Rattle.byte_dfa.specs.declared.moves.Cursor.{Cursor}
-use Rattle.byte_dfa.specs.Moves.{Accepts, Follows, HasRow, IsCursor, Leads, row_after}
+use Rattle.byte_dfa.specs.Moves.{Accepts, Follows, HasRow, IsCursor, MovesLead, row_after}
 use Rattle.byte_dfa.proofs.MoveLemmas.{row_after-first}
 use Rattle.utf8_cut.specs.Sequences.{SpellsCharacter}
 use Rattle.nfd_points.specs.Points.{byte_len}
@@ -22,22 +22,22 @@ use Rattle.collation_skip.specs.declared.automaton.Automaton.{Automaton}
 use Rattle.collation_skip.specs.declared.state.State.{State}
 use Rattle.collation_skip.specs.Passed.{IsPassed}
 use Rattle.collation_skip.specs.Reached.{HasReached, IsReached, IsMove}
-use Rattle.collation_skip.specs.Rows.{AreRight, IsRow, Stands}
+use Rattle.collation_skip.specs.Rows.{AreRowsRight, IsRow, Stands}
 use Rattle.collation_skip.proofs.PassedLemmas.{passed-had}
 use Rattle.collation_skip.proofs.RowLemmas.{row-had, row-one}
 use Rattle.collation_skip.proofs.TextLemmas.{cut-last, same-character}
 
 -- the row is one of the cells
-pub stands-had : (table : TableMap) (pattern : Compiled) (a : Automaton) (piece : List ℕ) (at row : ℕ) → AreRight table pattern a → Stands table pattern a piece at row → HasRow a.cells row
+pub stands-had : (table : TableMap) (pattern : Compiled) (a : Automaton) (piece : List ℕ) (at row : ℕ) → AreRowsRight table pattern a → Stands table pattern a piece at row → HasRow a.cells row
 stands-had table pattern a piece at row right h = ∥∥₁_elim h (hlevel props) (λ s. row-had table pattern a row s.0 right s.1)
 
 -- a run may go on from a cursor that stands at such a row
-pub stands-cursor : (table : TableMap) (pattern : Compiled) (a : Automaton) (piece : List ℕ) (cursor : Cursor) → AreRight table pattern a → Stands table pattern a piece cursor.at cursor.row → cursor.at ≤ length piece → cursor.accepted_at ≤ cursor.at →
+pub stands-cursor : (table : TableMap) (pattern : Compiled) (a : Automaton) (piece : List ℕ) (cursor : Cursor) → AreRowsRight table pattern a → Stands table pattern a piece cursor.at cursor.row → cursor.at ≤ length piece → cursor.accepted_at ≤ cursor.at →
     IsCursor a.cells piece cursor
 stands-cursor table pattern a piece cursor right h within order = record { spot = record { within = within; has_row = stands-had table pattern a piece cursor.at cursor.row right h }; order = order }
 
 -- the state behind more bytes
-stands-after : (table : TableMap) (pattern : Compiled) (a : Automaton) (before bytes : List ℕ) (row to : ℕ) (s : State) → AreRight table pattern a → All (λ byte. byte < 256) bytes → IsRow a row s →
+stands-after : (table : TableMap) (pattern : Compiled) (a : Automaton) (before bytes : List ℕ) (row to : ℕ) (s : State) → AreRowsRight table pattern a → All (λ byte. byte < 256) bytes → IsRow a row s →
     ((start : ℕ) → HasReached table pattern s start before) → row_after a.cells row bytes ≡ Some to → ∥ ((t : State) × IsRow a to t × ((start : ℕ) → HasReached table pattern t start (before ++ bytes))) ∥₁
 stands-after table pattern a before [] row to s right small is reached leads =
     let same = same_Some row to leads in
@@ -51,7 +51,7 @@ stands-after table pattern a before (byte ∷ bytes) row to s right small is rea
     (stands-after table pattern a (before ++ byte ∷ []) bytes cell to m.0 right (All-tail (λ n. n < 256) byte bytes small) m.1 (λ start. m.2 start before (reached start)) first.1))
 
 -- where moves led
-pub stands-leads : (table : TableMap) (pattern : Compiled) (a : Automaton) (piece : List ℕ) (at row to to_row : ℕ) → AreRight table pattern a → All (λ byte. byte < 256) piece → Leads a.cells piece at row to to_row → Stands table pattern a piece at row →
+pub stands-leads : (table : TableMap) (pattern : Compiled) (a : Automaton) (piece : List ℕ) (at row to to_row : ℕ) → AreRowsRight table pattern a → All (λ byte. byte < 256) piece → MovesLead a.cells piece at row to to_row → Stands table pattern a piece at row →
     Stands table pattern a piece to to_row
 stands-leads table pattern a piece at row to to_row right small h stands =
     let on = h.on in
@@ -62,11 +62,11 @@ stands-leads table pattern a piece at row to to_row right small h stands =
     (stands-after table pattern a (take at piece) (slice_range piece at to) row to_row s.0 right between s.1 s.2 h.moves))
 
 -- what is known where a run went on from a cursor: where it stands, and the last place where it accepted
-pub stands-follows : (table : TableMap) (pattern : Compiled) (a : Automaton) (piece : List ℕ) (from to : Cursor) → AreRight table pattern a → All (λ byte. byte < 256) piece → Follows a.cells piece from to → Stands table pattern a piece from.at from.row →
+pub stands-follows : (table : TableMap) (pattern : Compiled) (a : Automaton) (piece : List ℕ) (from to : Cursor) → AreRowsRight table pattern a → All (λ byte. byte < 256) piece → Follows a.cells piece from to → Stands table pattern a piece from.at from.row →
     Stands table pattern a piece to.at to.row
 stands-follows table pattern a piece from to right small h = stands-leads table pattern a piece from.at from.row to.at to.row right small h.here
 
-pub passed-follows : (table : TableMap) (pattern : Compiled) (a : Automaton) (piece : List ℕ) (from to : Cursor) → AreRight table pattern a → All (λ byte. byte < 256) piece → Follows a.cells piece from to → Stands table pattern a piece from.at from.row →
+pub passed-follows : (table : TableMap) (pattern : Compiled) (a : Automaton) (piece : List ℕ) (from to : Cursor) → AreRowsRight table pattern a → All (λ byte. byte < 256) piece → Follows a.cells piece from to → Stands table pattern a piece from.at from.row →
     (0 < from.accepted_at → (from.accepted_at ≤ length piece) × Stands table pattern a piece from.accepted_at from.accepted_row) → 0 < to.accepted_at → (to.accepted_at ≤ length piece) × Stands table pattern a piece to.accepted_at to.accepted_row
 passed-follows table pattern a piece from to right small h stands passed some = elim h.accepted [
   | inl same ↦

@@ -22,13 +22,13 @@ scalars-parts (x ∷ xs) ys h =
     let rest = scalars-parts xs ys parts.1 in (ap₂ (λ (a b : Bool). a && b) parts.0 rest.0, rest.1)
 
 -- the text without its last character, and where this stands
-pub record IsCut (piece : List ℕ) (at : ℕ) (before : List ℕ) (last : ℕ) : Type 0 where
+pub record IsCutBeforeLast (piece : List ℕ) (at : ℕ) (before : List ℕ) (last : ℕ) : Type 0 where
   pub end : at ≡ byte_len before + len_utf8 last
   pub is_text : IsUtf8 (take (byte_len before) piece)
   pub characters : chars (take (byte_len before) piece) ≡ before
   pub spelled : SpellsCharacter (take (len_utf8 last) (drop (byte_len before) piece)) last
 
-pub cut-last : (piece : List ℕ) (at : ℕ) (before : List ℕ) (last : ℕ) → at ≤ length piece → IsUtf8 (take at piece) → chars (take at piece) ≡ before ++ last ∷ [] → IsCut piece at before last
+pub cut-last : (piece : List ℕ) (at : ℕ) (before : List ℕ) (last : ℕ) → at ≤ length piece → IsUtf8 (take at piece) → chars (take at piece) ≡ before ++ last ∷ [] → IsCutBeforeLast piece at before last
 cut-last piece at before last within text are =
     let E = encode_utf8_all before in
     let n = byte_len before in

@@ -29,7 +29,7 @@ use Rattle.collation_letters.proofs.CharacterLemmas.{points_are_shifted}
 use Rattle.collation_skip.specs.declared.two_byte_blocks.Ending.{Ending}
 use Rattle.collation_skip.specs.declared.two_byte_sets.TwoByteClasses.{TwoByteClasses}
 use Rattle.byte_blocks.specs.declared.sets.TheConstants.{LEADS, TRAILS}
-use Rattle.collation_skip.specs.Blocks.{Says, items_at, most}
+use Rattle.collation_skip.specs.Blocks.{IsClassifiedBy, items_at, most}
 use Rattle.collation_skip.specs.Passed.{IsPassed, IsQuiet}
 use Rattle.collation_skip.specs.Reached.{items_from}
 use Rattle.byte_blocks.specs.TwoBytes.{Pass}
@@ -132,7 +132,7 @@ gone-none table pattern place start next Other within apart =
 
 -- one character more
 gone-more : RunLaws → (table : TableMap) (pattern : Compiled) (place start : ℕ) (cs : List ℕ) (c next : ℕ) (Before Passable Other NotLater : Type 0) → place < length pattern.keys → HasGone table pattern place start cs c Before →
-    Says table pattern place c Passable Other NotLater ⊥ Passable → Passable → (Before ⊎ NotLater) → AreApart table (points_from 0 (next ∷ [])) → HasGone table pattern place start (cs ++ c ∷ []) next Other
+    IsClassifiedBy table pattern place c Passable Other NotLater ⊥ Passable → Passable → (Before ⊎ NotLater) → AreApart table (points_from 0 (next ∷ [])) → HasGone table pattern place start (cs ++ c ∷ []) next Other
 gone-more laws table pattern place start cs c next Before Passable Other NotLater within h right going which apart =
     let at = start + byte_len cs in
     let us = units table (points_from start cs) in

@@ -64,7 +64,7 @@ IsNotAt pattern symbol place = symbol < NO_SYMBOL → (key : Key) → IsSymbol p
 
 -- What is known of a character where some things hold of it: that it may be passed; that its last key is not the pattern's at the
 -- place; that it has a key, and its last one is not the pattern's behind the place; that no unit reaches out of it, or into it.
-pub record Says (table : TableMap) (pattern : Compiled) (place c : ℕ) (Passable Other NotLater Closed Apart : Type 0) : Type 0 where
+pub record IsClassifiedBy (table : TableMap) (pattern : Compiled) (place c : ℕ) (Passable Other NotLater Closed Apart : Type 0) : Type 0 where
   pub whole : Passable → IsWhole table pattern c
   pub any : Passable → Carries table pattern c place (most pattern.keys place)
   pub other : Passable → Other → Carries table pattern c place place
@@ -76,12 +76,12 @@ pub record Says (table : TableMap) (pattern : Compiled) (place c : ℕ) (Passabl
 -- the classes say what is so of a character of ASCII, by the sets where its byte is not
 abbrev pub IsClassRight : TableMap → Compiled → Classes → ℕ → Type 0
 IsClassRight table pattern classes c =
-    Says table pattern classes.place c (in_set classes.sets.halt c ≡ 0) (in_set classes.sets.key c ≡ 0) (in_set classes.sets.later c ≡ 0) (in_set classes.sets.joins c ≡ 0) (in_set classes.sets.inner c ≡ 0)
+    IsClassifiedBy table pattern classes.place c (in_set classes.sets.halt c ≡ 0) (in_set classes.sets.key c ≡ 0) (in_set classes.sets.later c ≡ 0) (in_set classes.sets.joins c ≡ 0) (in_set classes.sets.inner c ≡ 0)
 
 -- and so does a kind, by what it is not
 abbrev pub IsOfKind : TableMap → Compiled → ℕ → ℕ → Kind → Type 0
 IsOfKind table pattern place c kind =
-    Says table pattern place c (kind.halt ≡ false) (kind.key ≡ false) (kind.later ≡ false) (kind.joins ≡ false) (kind.inner ≡ false)
+    IsClassifiedBy table pattern place c (kind.halt ≡ false) (kind.key ≡ false) (kind.later ≡ false) (kind.joins ≡ false) (kind.inner ≡ false)
 
 -- a character is a cluster with a key that the pattern does not have
 abbrev pub IsCleanCharacter : TableMap → Compiled → ℕ → Type 0

@@ -21,7 +21,7 @@ IsRow automaton row state =
     (number : ℕ) × (slice_get automaton.states.items number ≡ Some state) × (row ≡ row_at number state)
 
 -- each cell is unknown, a stop, or the row of a state to which its byte leads
-pub record AreRight (table : TableMap) (pattern : Compiled) (automaton : Automaton) : Type 0 where
+pub record AreRowsRight (table : TableMap) (pattern : Compiled) (automaton : Automaton) : Type 0 where
   pub len : length automaton.cells ≡ ROW * length automaton.states.items
   pub cells : (row byte : ℕ) (from : State) → byte < 256 → IsRow automaton row from
       → let cell = slice_index automaton.cells (row + byte) in cell < STOP

@@ -7,7 +7,7 @@ use Rattle.collation_table.specs.Table.{TableMap}
 use Rattle.collation_pattern.specs.Compiled.{Compiled}
 use Rattle.collation_letters.specs.Apart.{IsNext}
 use Rattle.collation_letters.specs.Letters.{IsClean, IsLetter}
-use Rattle.collation_skip.specs.Blocks.{Says}
+use Rattle.collation_skip.specs.Blocks.{IsClassifiedBy}
 use Rattle.collation_skip.specs.declared.two_byte_blocks.Ending.{Ending}
 use Rattle.collation_skip.specs.declared.two_byte_sets.TwoByteClasses.{TwoByteClasses}
 
@@ -17,7 +17,7 @@ use Rattle.collation_skip.specs.declared.two_byte_sets.TwoByteClasses.{TwoByteCl
 -- what its last key is not.
 abbrev pub IsSetRight : TableMap → Compiled → TwoByteClasses → ℕ → ℕ → Type 0
 IsSetRight table pattern classes last c =
-    Says table pattern classes.place c (is_in classes.sets.halt last ≡ 0) (is_in classes.sets.key last ≡ 0) (is_in classes.sets.later last ≡ 0) ⊥ (is_in classes.sets.halt last ≡ 0)
+    IsClassifiedBy table pattern classes.place c (is_in classes.sets.halt last ≡ 0) (is_in classes.sets.key last ≡ 0) (is_in classes.sets.later last ≡ 0) ⊥ (is_in classes.sets.halt last ≡ 0)
 
 -- the number of a character of two bytes
 abbrev pub character_of : ℕ → ℕ → ℕ

@@ -33,11 +33,11 @@ impl Automaton {
     ghost use Rattle.collation_letters.specs.Store.{AreLetters};
     ghost use Rattle.collation_skip.specs.Passed.{PassesTo};
     ghost use Rattle.collation_skip.specs.declared.state.State.{State as StateValue};
-    ghost use Rattle.collation_skip.specs.Rows.{AreRight, IsRow, Stands};
+    ghost use Rattle.collation_skip.specs.Rows.{AreRowsRight, IsRow, Stands};
 
     /// No state is known yet. Takes no memory.
     pub fn new(alloc: Global) -> Automaton
-        ensures { (table : TableMap) (pattern : Compiled) → AreRight table pattern result }
+        ensures { (table : TableMap) (pattern : Compiled) → AreRowsRight table pattern result }
     {
         Automaton {
             cells: Cells::new(alloc),
@@ -59,11 +59,11 @@ impl Automaton {
         reach: usize,
         is_calm: bool,
     ) -> Option<Passed>
-        requires right { AreRight (W.table table.now) pattern.now self.old }
+        requires right { AreRowsRight (W.table table.now) pattern.now self.old }
         requires letters { AreLetters (W.table table.now) pattern.now letters.old }
         ensures passes { IfSome result
             (PassesTo (W.table table.now) pattern.now piece.now reach) }
-        ensures right { AreRight (W.table table.now) pattern.now self.new }
+        ensures right { AreRowsRight (W.table table.now) pattern.now self.new }
         ensures letters { AreLetters (W.table table.now) pattern.now letters.new }
     {
         let within = &piece[..piece.len().min(reach)];
@@ -119,13 +119,13 @@ impl Automaton {
         piece: &[u8],
         is_calm: bool,
     ) -> Option<Cursor>
-        requires right { AreRight (W.table table.now) pattern.now self.old }
+        requires right { AreRowsRight (W.table table.now) pattern.now self.old }
         requires letters { AreLetters (W.table table.now) pattern.now letters.old }
         ensures passed { IfSome result (λ it. 0 < it.accepted_at
             → (it.accepted_at ≤ length piece.now)
             × Stands (W.table table.now) pattern.now self.new piece.now
             it.accepted_at it.accepted_row) }
-        ensures right { AreRight (W.table table.now) pattern.now self.new }
+        ensures right { AreRowsRight (W.table table.now) pattern.now self.new }
         ensures letters { AreLetters (W.table table.now) pattern.now letters.new }
     {
         self.guesses.make(self.alloc, piece.len());
@@ -151,7 +151,7 @@ impl Automaton {
         piece: &[u8],
         is_calm: bool,
     ) -> Option<Cursor>
-        requires right { AreRight (W.table table.now) pattern.now self.old }
+        requires right { AreRowsRight (W.table table.now) pattern.now self.old }
         requires letters { AreLetters (W.table table.now) pattern.now letters.old }
         ensures cursor { IfSome result (IsCursor self.new.cells piece.now) }
         ensures stands { IfSome result (λ it.
@@ -159,7 +159,7 @@ impl Automaton {
         ensures passed { IfSome result (λ it. 0 < it.accepted_at → (it.accepted_at ≤ length piece.now)
             × Stands (W.table table.now) pattern.now self.new piece.now
             it.accepted_at it.accepted_row) }
-        ensures right { AreRight (W.table table.now) pattern.now self.new }
+        ensures right { AreRowsRight (W.table table.now) pattern.now self.new }
         ensures letters { AreLetters (W.table table.now) pattern.now letters.new }
     {
         let first = first_character(piece)?;
@@ -185,10 +185,10 @@ impl Automaton {
         letters: &mut Letters,
         is_wanted: bool,
     ) -> Option<usize>
-        requires right { AreRight (W.table table.now) pattern.now self.old }
+        requires right { AreRowsRight (W.table table.now) pattern.now self.old }
         requires letters { AreLetters (W.table table.now) pattern.now letters.old }
         ensures row { IfSome result (λ row. (state : StateValue) × IsRow self.new row state) }
-        ensures right { AreRight (W.table table.now) pattern.now self.new }
+        ensures right { AreRowsRight (W.table table.now) pattern.now self.new }
         ensures letters { AreLetters (W.table table.now) pattern.now letters.new }
     {
         if !is_wanted {
@@ -205,7 +205,7 @@ impl Automaton {
         letters: &mut Letters,
         first: char,
     ) -> Option<usize>
-        requires right { AreRight (W.table table.now) pattern.now self.old }
+        requires right { AreRowsRight (W.table table.now) pattern.now self.old }
         requires letters { AreLetters (W.table table.now) pattern.now letters.old }
         ensures stands { IfSome result (λ row. (piece : List ℕ)
             → SpellsCharacter (take (len_utf8 first) piece) first
@@ -213,7 +213,7 @@ impl Automaton {
         ensures row { IfSome result (λ row. (state : StateValue) × IsRow self.new row state) }
         ensures grows { (other : ℕ) (state : StateValue) → IsRow self.old other state
             → IsRow self.new other state }
-        ensures right { AreRight (W.table table.now) pattern.now self.new }
+        ensures right { AreRowsRight (W.table table.now) pattern.now self.new }
         ensures letters { AreLetters (W.table table.now) pattern.now letters.new }
     {
         let letter = letters.letter(table, pattern, first);

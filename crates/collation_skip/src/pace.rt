@@ -1,6 +1,6 @@
 //! Which way through text is asked, and when: counts of what each passed by. All ways answer alike, so no count can make an answer
 //! wrong, and no function here has a clause.
-use crate::two_byte_sets::SAMPLE;
+use crate::two_byte_sets::TWO_BYTE_SAMPLE;
 
 /// How many bytes have to pass, so that blocks pay.
 pub(crate) const WORTH_BLOCKS: usize = 32;
@@ -156,7 +156,7 @@ impl Pace {
     /// long for the next ones.
     pub(crate) fn are_sets_due(&mut self, passed: usize, len: usize) -> bool {
         self.left = self.left.saturating_sub(passed);
-        if self.left > 0 || len < SAMPLE {
+        if self.left > 0 || len < TWO_BYTE_SAMPLE {
             return false;
         }
         self.wait = self.wait.saturating_mul(2);

@@ -27,7 +27,7 @@ impl Automaton {
     ghost use Rattle.collation_letters.specs.Store.{AreLetters};
     ghost use Rattle.collation_skip.specs.declared.state.State.{State as StateValue};
     ghost use Rattle.collation_skip.specs.Reached.{IsMove};
-    ghost use Rattle.collation_skip.specs.Rows.{AreRight, IsRow};
+    ghost use Rattle.collation_skip.specs.Rows.{AreRowsRight, IsRow};
 
     /// The row to which a byte leads from a row, which is written into its cell; `None` where the automaton stops.
     pub(crate) fn learn<W: Weights>(
@@ -38,14 +38,14 @@ impl Automaton {
         row: usize,
         byte: u8,
     ) -> Option<usize>
-        requires right { AreRight (W.table table.now) pattern.now self.old }
+        requires right { AreRowsRight (W.table table.now) pattern.now self.old }
         requires letters { AreLetters (W.table table.now) pattern.now letters.old }
         ensures moves { IfSome result (λ to_row. (from : StateValue) → IsRow self.old row from
             → (to : StateValue) × IsRow self.new to_row to
             × IsMove (W.table table.now) pattern.now from byte to) }
         ensures grows { (other : ℕ) (state : StateValue) → IsRow self.old other state
             → IsRow self.new other state }
-        ensures right { AreRight (W.table table.now) pattern.now self.new }
+        ensures right { AreRowsRight (W.table table.now) pattern.now self.new }
         ensures letters { AreLetters (W.table table.now) pattern.now letters.new }
     {
         let state = self.state_at(row)?;
@@ -70,7 +70,7 @@ impl Automaton {
         state: &State,
         byte: u8,
     ) -> Option<usize>
-        requires right { AreRight (W.table table.now) pattern.now self.old }
+        requires right { AreRowsRight (W.table table.now) pattern.now self.old }
         requires letters { AreLetters (W.table table.now) pattern.now letters.old }
         ensures moves { IfSome result
             (λ row. (to : StateValue) × IsRow self.new row to
@@ -78,7 +78,7 @@ impl Automaton {
         ensures below { IfSome result (λ row. row < STOP) }
         ensures grows { (other : ℕ) (state : StateValue) → IsRow self.old other state
             → IsRow self.new other state }
-        ensures right { AreRight (W.table table.now) pattern.now self.new }
+        ensures right { AreRowsRight (W.table table.now) pattern.now self.new }
         ensures letters { AreLetters (W.table table.now) pattern.now letters.new }
     {
         let to = state_after(table, pattern, letters, state, byte)?;
@@ -91,8 +91,8 @@ impl Automaton {
         ensures below { IfSome result (λ row. row < STOP) }
         ensures grows { (other : ℕ) (state : StateValue) → IsRow self.old other state
             → IsRow self.new other state }
-        ensures right { (table : TableMap) (pattern : Compiled) → AreRight table pattern self.old
-            → AreRight table pattern self.new }
+        ensures right { (table : TableMap) (pattern : Compiled) → AreRowsRight table pattern self.old
+            → AreRowsRight table pattern self.new }
     {
         let number = self.number_of(state)?;
         if number >= MOST_STATES {
@@ -120,8 +120,8 @@ impl Automaton {
             (λ number. slice_get self.new.states.items number ≡ Some state) }
         ensures grows { (other : ℕ) (state : StateValue) → IsRow self.old other state
             → IsRow self.new other state }
-        ensures right { (table : TableMap) (pattern : Compiled) → AreRight table pattern self.old
-            → AreRight table pattern self.new }
+        ensures right { (table : TableMap) (pattern : Compiled) → AreRowsRight table pattern self.old
+            → AreRowsRight table pattern self.new }
     {
         self.make_places();
         let (place, number) = self.find(&state)?;
@@ -159,8 +159,8 @@ impl Automaton {
         ensures states { self.new.states ≡ self.old.states }
         ensures grows { (other : ℕ) (state : StateValue) → IsRow self.old other state
             → IsRow self.new other state }
-        ensures right { (table : TableMap) (pattern : Compiled) → AreRight table pattern self.old
-            → AreRight table pattern self.new }
+        ensures right { (table : TableMap) (pattern : Compiled) → AreRowsRight table pattern self.old
+            → AreRowsRight table pattern self.new }
     {
         if place < self.places.len() && number < MOST_STATES {
             self.places[place] = number as u32;
@@ -183,8 +183,8 @@ impl Automaton {
         ensures states { self.new.states ≡ self.old.states }
         ensures grows { (other : ℕ) (state : StateValue) → IsRow self.old other state
             → IsRow self.new other state }
-        ensures right { (table : TableMap) (pattern : Compiled) → AreRight table pattern self.old
-            → AreRight table pattern self.new }
+        ensures right { (table : TableMap) (pattern : Compiled) → AreRowsRight table pattern self.old
+            → AreRowsRight table pattern self.new }
     {
         if !self.places.is_empty() {
             return;
@@ -200,8 +200,8 @@ impl Automaton {
             (λ number. slice_get self.new.states.items number ≡ Some state) }
         ensures grows { (other : ℕ) (state : StateValue) → IsRow self.old other state
             → IsRow self.new other state }
-        ensures right { (table : TableMap) (pattern : Compiled) → AreRight table pattern self.old
-            → AreRight table pattern self.new }
+        ensures right { (table : TableMap) (pattern : Compiled) → AreRowsRight table pattern self.old
+            → AreRowsRight table pattern self.new }
     {
         let number = self.states.len();
         if number >= MOST_STATES || self.states.reserve(1).is_err() {

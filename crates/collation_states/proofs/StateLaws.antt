@@ -19,10 +19,10 @@ use Rattle.collation_matches.specs.declared.select.Select.TheVariants.{All, Chai
 use Rattle.collation_matches.specs.GoodPrefix.{most_bytes}
 use Rattle.collation_states.specs.declared.states.Head.{Head}
 use Rattle.collation_states.specs.declared.states.Sizes.{Sizes}
-use Rattle.collation_states.specs.State.{Place, State, reported, flag_word, form_word, strength_word, variable_word, kind_word, fault_offset_word, number_of, place_words, point_words, head_of, head_words, chain_record, tail_words, words}
+use Rattle.collation_states.specs.State.{SavedPlace, State, reported, flag_word, form_word, strength_word, variable_word, kind_word, fault_offset_word, number_of, place_words, point_words, head_of, head_words, chain_record, tail_words, words}
 use Rattle.collation_states.specs.StateTests.{head_len, has_form, is_for, may_be_held, may_match_wait, has_records, is_open_head, is_chain_end, has_open_tail, is_reported, is_state, state_fault, place_part, window_part, waiting_part, decomposed, are_places, are_points, points_in, may_be_in_window, may_wait}
 use Rattle.collation_states.specs.Reading.{places_in, last_end_in, open_in, state_in}
-use Rattle.collation_states.specs.Laws.{AreInOrder, begins_with_first, IsPointBefore, IsOpen, HasEnded, StatesAreAccepted, StatesAreReadBack, StatesAreRecords}
+use Rattle.collation_states.specs.Laws.{AreInOrder, begins_with_first, IsPointBefore, IsOpen, IsStateAtFault, StatesAreAccepted, StatesAreReadBack, StatesAreRecords}
 use Rattle.collation_states.proofs.HeldBytes.{bytes_in-held, held-few}
 use Rattle.collation_states.proofs.StateLemmas.{flag-is, flag-read}
 
@@ -31,7 +31,7 @@ same n = eq-eqb n n refl
 
 -- ---- how many words
 
-pub place_words-length : (ps : List Place) → length (place_words ps) ≡ 4 * length ps
+pub place_words-length : (ps : List SavedPlace) → length (place_words ps) ≡ 4 * length ps
 place_words-length [] = refl
 place_words-length (p ∷ ps) = omega (arith, place_words-length ps)
 
@@ -98,12 +98,12 @@ before-chain_end Chain r h end tail below = and_from _ _ (le-leb end h.start bel
 
 -- ---- places
 
-places-back : (ps : List Place) → places_in (place_words ps) ≡ ps
+places-back : (ps : List SavedPlace) → places_in (place_words ps) ≡ ps
 places-back [] = refl
 places-back (p ∷ ps) =
-    ap (λ b. record { start = p.start; is_first = b } ∷ places_in (place_words ps)) (flag-read p.is_first) ∙ ap (λ (l : List Place). p ∷ l) (places-back ps)
+    ap (λ b. record { start = p.start; is_first = b } ∷ places_in (place_words ps)) (flag-read p.is_first) ∙ ap (λ (l : List SavedPlace). p ∷ l) (places-back ps)
 
-places-are : (least most : ℕ) (ps : List Place) → AreInOrder least most ps → are_places least most (place_words ps) ≡ true
+places-are : (least most : ℕ) (ps : List SavedPlace) → AreInOrder least most ps → are_places least most (place_words ps) ≡ true
 places-are least most [] h = refl
 places-are least most (p ∷ ps) h =
     let a = le-leb least p.start h.0 in
@@ -183,7 +183,7 @@ module _ (r : Sizes) (s : State) (o : IsOpen r s) where
       (and_from _ _ (flag-is s.waits) (and_from _ _ (le-leb (length s.held) s.taken o.within)
       (and_from _ _ held (and_from _ _ records (le-leb s.start (s.taken - length s.held) o.start)))))))
 
-  second : (ps : List Place) (more : List ℕ) → begins_with_first ps ≡ true → slice_index (place_words ps ++ more) 1 ≡ 1
+  second : (ps : List SavedPlace) (more : List ℕ) → begins_with_first ps ≡ true → slice_index (place_words ps ++ more) 1 ≡ 1
   second [] more first = cc
   second (p ∷ ps) more first = ap flag_word first
 
@@ -234,7 +234,7 @@ module _ (r : Sizes) (s : State) (o : IsOpen r s) where
       ap (λ f. cond (kind_word f == 0) (open_in r.select all) (reported (record { kind = kind_word s.fault; offset = fault_offset_word s.fault }))) none
       ∙ same-state s none bytes after keys waiting_match last places window waiting
     where
-      same-state : (s : State) {fault : Option TextFault} {held : List ℕ} {after keys waits : Bool} {end : ℕ} {places : List Place} {window waiting : List Point} →
+      same-state : (s : State) {fault : Option TextFault} {held : List ℕ} {after keys waits : Bool} {end : ℕ} {places : List SavedPlace} {window waiting : List Point} →
           s.fault ≡ fault → held ≡ s.held → after ≡ s.after_variable → keys ≡ s.has_keys → waits ≡ s.waits → end ≡ s.last_end → places ≡ s.places → window ≡ s.window → waiting ≡ s.waiting →
           record { taken = s.taken; fault = fault; held = held; after_variable = after; start = s.start; has_keys = keys; waits = waits; last_end = end; places = places; window = window; waiting = waiting } ≡ s
       same-state s a b c d e f g i j = rw (sym a, b, c, d, e, f, g, i, j) refl
@@ -248,7 +248,7 @@ reported-rest : (select : Select) (r : Sizes) (f : TextFault) →
 reported-rest All r f = refl
 reported-rest Chain r f = refl
 
-reported-state : (r : Sizes) (s : State) (e : HasEnded s) → is_state r (words r (reported e.fault)) ≡ true
+reported-state : (r : Sizes) (s : State) (e : IsStateAtFault s) → is_state r (words r (reported e.fault)) ≡ true
 reported-state r s e =
     let f = e.fault in
     let all = words r (reported f) in
@@ -259,7 +259,7 @@ reported-state r s e =
     let chosen = ap (λ b. cond b (is_open_head r h all && (may_match_wait r h all && (is_chain_end r.select h all && has_open_tail h (drop (head_len r.select) all)))) (is_reported r.select h all)) some ∙ ended in
     and_from _ _ (le-leb f.offset most_bytes e.short) (and_from _ _ refl (and_from _ _ refl chosen))
 
-reported-back : (r : Sizes) (s : State) (e : HasEnded s) → state_in r.select (words r (reported e.fault)) ≡ reported e.fault
+reported-back : (r : Sizes) (s : State) (e : IsStateAtFault s) → state_in r.select (words r (reported e.fault)) ≡ reported e.fault
 reported-back r s e =
     let f = e.fault in
     let some : (f.kind == 0) ≡ false = ne_eqb f.kind 0 (λ none. let no : ⊥ = omega (arith, none, e.least) in no) in

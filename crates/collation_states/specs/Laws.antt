@@ -10,16 +10,16 @@ use Rattle.collation_matches.specs.declared.select.Select.{Select}
 use Rattle.collation_matches.specs.declared.select.Select.TheVariants.{All}
 use Rattle.collation_matches.specs.GoodPrefix.{most_bytes}
 use Rattle.collation_states.specs.declared.states.Sizes.{Sizes}
-use Rattle.collation_states.specs.State.{Place, State, reported, words}
+use Rattle.collation_states.specs.State.{SavedPlace, State, reported, words}
 use Rattle.collation_states.specs.StateTests.{head, head_len, decomposed, may_be_in_window, may_wait, state_fault}
 use Rattle.collation_states.specs.Reading.{state_in}
 
 -- no start before `least` nor before the one before it, and none after `most`
-abbrev pub AreInOrder : ℕ → ℕ → List Place → Type 0
+abbrev pub AreInOrder : ℕ → ℕ → List SavedPlace → Type 0
 AreInOrder least most [] = Unit {0}
 AreInOrder least most (place ∷ places) = (least ≤ place.start) × (place.start ≤ most) × AreInOrder place.start most places
 
-abbrev pub begins_with_first : List Place → Bool
+abbrev pub begins_with_first : List SavedPlace → Bool
 begins_with_first [] = false
 begins_with_first (place ∷ places) = place.is_first
 
@@ -55,7 +55,7 @@ pub record IsOpen (r : Sizes) (s : State) : Type 0 where
   pub may_wait : may_wait s.waiting ≡ true
 
 -- where a fault was reported
-pub record HasEnded (s : State) : Type 0 where
+pub record IsStateAtFault (s : State) : Type 0 where
   pub fault : TextFault
   pub is : s ≡ reported fault
   pub least : 31 ≤ fault.kind
@@ -63,7 +63,7 @@ pub record HasEnded (s : State) : Type 0 where
   pub short : fault.offset ≤ most_bytes
 
 abbrev pub MayBeHeld : Sizes → State → Type 0
-MayBeHeld r s = IsOpen r s ⊎ HasEnded s
+MayBeHeld r s = IsOpen r s ⊎ IsStateAtFault s
 
 -- ---- the words of points
 

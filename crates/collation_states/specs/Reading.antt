@@ -4,11 +4,11 @@ use Rattle.collation_matches.specs.declared.select.Select.{Select}
 use Rattle.collation_matches.specs.declared.select.Select.TheVariants.{All, Chain}
 use Rattle.collation_states.specs.declared.states.Head.{Head}
 use Rattle.collation_states.specs.declared.read_state.ReadState.{ReadState}
-use Rattle.collation_states.specs.State.{Place, State, reported}
+use Rattle.collation_states.specs.State.{SavedPlace, State, reported}
 use Rattle.collation_states.specs.StateTests.{head, head_len, bytes_in, points_in, place_part, window_part, waiting_part}
 
 -- where keys stand, by the records of their places
-abbrev pub places_in : List ℕ → List Place
+abbrev pub places_in : List ℕ → List SavedPlace
 places_in (start ∷ is_first ∷ a ∷ b ∷ words) = record { start = start; is_first = is_first == 1 } ∷ places_in words
 places_in _ = []
 

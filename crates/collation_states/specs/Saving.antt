@@ -2,5 +2,5 @@
 use Rattle.std.specs.Prelude.{◌≡◌, ℕ, List, ◌++◌}
 
 -- the words before, and some after them
-abbrev pub BeginsWith : List ℕ → List ℕ → Type 0
-BeginsWith before after = (more : List ℕ) × (after ≡ before ++ more)
+abbrev pub AreWordsAppended : List ℕ → List ℕ → Type 0
+AreWordsAppended before after = (more : List ℕ) × (after ≡ before ++ more)

@@ -14,7 +14,7 @@ use Rattle.collation_states.specs.declared.states.Head.{Head}
 -- ---- what a state says
 
 -- where a key stands: the start of its cluster, and whether it is that cluster's first key
-pub record Place : Type 0 where
+pub record SavedPlace : Type 0 where
   pub start : ℕ
   pub is_first : Bool
 
@@ -37,7 +37,7 @@ pub record State : Type 0 where
   pub has_keys : Bool
   pub waits : Bool
   pub last_end : ℕ
-  pub places : List Place
+  pub places : List SavedPlace
   pub window : List Point
   pub waiting : List Point
 
@@ -96,13 +96,13 @@ number_from before (byte ∷ bytes) = number_from (before * 256 + byte) bytes
 abbrev pub number_of : List ℕ → ℕ
 number_of bytes = number_from 0 bytes
 
-abbrev pub place_record : Place → List ℕ
+abbrev pub place_record : SavedPlace → List ℕ
 place_record place = four place.start (flag_word place.is_first) 0 0
 
 abbrev pub point_record : Point → List ℕ
 point_record point = four point.cp point.offset (flag_word point.first) 0
 
-abbrev pub place_words : List Place → List ℕ
+abbrev pub place_words : List SavedPlace → List ℕ
 place_words [] = []
 place_words (place ∷ places) = place_record place ++ place_words places
 

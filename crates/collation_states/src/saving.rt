@@ -1,7 +1,7 @@
 //! Appends the words of a state to a list.
 ghost use Rattle.std.specs.Prelude.{◌≡◌, ◌+◌, ◌++◌, ◌<◌, ◌≤◌, length, vec_len, vec_capacity, OnOk, OnErr};
 ghost use Rattle.collation_states.specs.State.{number_of, head_of, head_words, chain_record, point_words, place_record, point_record, reported};
-ghost use Rattle.collation_states.specs.Saving.{BeginsWith};
+ghost use Rattle.collation_states.specs.Saving.{AreWordsAppended};
 
 use crate::setting_words::{word_of_select, word_of_strength, word_of_variable};
 use crate::states::{Head, Sizes};
@@ -24,7 +24,7 @@ pub fn append_head(
         (words.new.items
         ≡ words.old.items ++
         (head_words sizes.now head.now ++ chain_record sizes.now.select last_end)) }
-    ensures begun { OnErr result (BeginsWith words.old.items words.new.items) }
+    ensures begun { OnErr result (AreWordsAppended words.old.items words.new.items) }
     ensures full { OnErr result
         (vec_capacity words.old < vec_len words.old + length
         (head_words sizes.now head.now ++ chain_record sizes.now.select last_end)) }
@@ -114,7 +114,7 @@ pub fn append_place(words: &mut Vec<u64>, start: u64, is_first: bool) -> Result<
 /// Where memory was refused.
 pub fn append_points(words: &mut Vec<u64>, points: &[Point]) -> Result<(), AllocError>
     ensures saved { OnOk result (words.new.items ≡ words.old.items ++ point_words points.now) }
-    ensures begun { OnErr result (BeginsWith words.old.items words.new.items) }
+    ensures begun { OnErr result (AreWordsAppended words.old.items words.new.items) }
     ensures full { OnErr result
         (vec_capacity words.old < vec_len words.old + length (point_words points.now)) }
     ensures capacity { vec_capacity words.old ≤ vec_capacity words.new }

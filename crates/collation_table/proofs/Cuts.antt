@@ -13,7 +13,7 @@ abbrev pub parts : ℕ → List ℕ → List (List ℕ)
 parts c bytes = slice_split (λ b. eqb b c) bytes
 
 -- a list is cut in two at its first c
-pub record IsCut (c : ℕ) (bytes prefix following : List ℕ) : Type 0 where
+pub record IsCutAtFirst (c : ℕ) (bytes prefix following : List ℕ) : Type 0 where
   pub parts_are : parts c bytes ≡ prefix ∷ parts c following
   pub shorter : length following < length bytes
 
@@ -23,7 +23,7 @@ place c bytes = position_or_len (λ b. eqb b c) bytes
 abbrev halves : List ℕ → ℕ → List ℕ × List ℕ
 halves bytes i = (take i bytes, drop (i + 1) bytes)
 
-cut_by : (t : Bool) (c : ℕ) (bytes prefix following : List ℕ) → ltb (place c bytes) (length bytes) ≡ t → option_map (halves bytes) (cond t (Some (place c bytes)) None) ≡ Some (prefix, following) → IsCut c bytes prefix following
+cut_by : (t : Bool) (c : ℕ) (bytes prefix following : List ℕ) → ltb (place c bytes) (length bytes) ≡ t → option_map (halves bytes) (cond t (Some (place c bytes)) None) ≡ Some (prefix, following) → IsCutAtFirst c bytes prefix following
 cut_by true c bytes prefix following h e =
     let two = some_pair_parts (take (place c bytes) bytes) prefix (drop (place c bytes + 1) bytes) following e in
     let within = ltb-true (place c bytes) (length bytes) h in
@@ -35,7 +35,7 @@ cut_by true c bytes prefix following h e =
 cut_by false c bytes prefix following h e = absurd (none-some (prefix, following) e)
 
 -- what a cut gives
-pub IsCut-from_some : (c : ℕ) (bytes prefix following : List ℕ) → split_once c bytes ≡ Some (prefix, following) → IsCut c bytes prefix following
+pub IsCut-from_some : (c : ℕ) (bytes prefix following : List ℕ) → split_once c bytes ≡ Some (prefix, following) → IsCutAtFirst c bytes prefix following
 IsCut-from_some c bytes prefix following e = cut_by (ltb (place c bytes) (length bytes)) c bytes prefix following refl e
 
 uncut_by : (t : Bool) (c : ℕ) (bytes : List ℕ) → ltb (place c bytes) (length bytes) ≡ t → option_map (halves bytes) (cond t (Some (place c bytes)) None) ≡ None → parts c bytes ≡ bytes ∷ []

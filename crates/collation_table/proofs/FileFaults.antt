@@ -38,12 +38,12 @@ map_after-push earlier forms form = λ i. record {
 }
 
 -- the line at n, of those left
-record IsNext (forms : List (Option Form)) (n : ℕ) (form : Option Form) (more : List (Option Form)) : Type 0 where
+record IsLineAt (forms : List (Option Form)) (n : ℕ) (form : Option Form) (more : List (Option Form)) : Type 0 where
   within : n < length forms
   is : get_or forms n None ≡ form
   following : drop (n + 1) forms ≡ more
 
-next_of : (forms more : List (Option Form)) (n : ℕ) (form : Option Form) → drop n forms ≡ form ∷ more → IsNext forms n form more
+next_of : (forms more : List (Option Form)) (n : ℕ) (form : Option Form) → drop n forms ≡ form ∷ more → IsLineAt forms n form more
 next_of forms more n form e =
     let within : n < length forms = omega (arith, length-drop n forms, ap length e) in
     let at = sym (drop_more forms n None within) ∙ e in
@@ -138,16 +138,16 @@ AreBothRead-from base tailor none B D R S T start right is alone ranges rest tai
     }
 
 -- what is reported of two files whose rows are judged as a whole, by the table or by the fault
-pub record IsTold {X : Type 0} (map_in : X → TableMap) (base tailor : List ℕ) (r : Result X TableFault) : Type 0 where
+pub record IsResultOfFiles {X : Type 0} (map_in : X → TableMap) (base tailor : List ℕ) (r : Result X TableFault) : Type 0 where
   pub accepted : OnOk r (tailored_fault base tailor ≡ None)
   pub spelled : IfOk r (λ table. SpellsTailored base tailor (map_in table))
   pub exact : IfOk r (λ table. map_in table ≡ tailored_map base tailor)
   pub well_formed : IfOk r (λ table. IsWellFormed (map_in table))
   pub fault : IfErr r (IsFaultOrAllocationRefused (tailored_fault base tailor))
 
-pub IsTold-from : {X : Type 0} (map_in : X → TableMap) (base tailor : List ℕ) (T : TableMap) (r : Result X TableFault) → ((table : X) → IsWellFormed (map_in table)) → AreBothRead base tailor T
-    → MatchResult r (λ table. (map_fault T ≡ None) × (map_in table ≡ T)) (λ fault. fault_at_line 0 (map_fault T) ≡ Some fault) → IsTold map_in base tailor r
-IsTold-from map_in base tailor T (Ok table) well_formed both sealed =
+pub IsResultOfFiles-from : {X : Type 0} (map_in : X → TableMap) (base tailor : List ℕ) (T : TableMap) (r : Result X TableFault) → ((table : X) → IsWellFormed (map_in table)) → AreBothRead base tailor T
+    → MatchResult r (λ table. (map_fault T ≡ None) × (map_in table ≡ T)) (λ fault. fault_at_line 0 (map_fault T) ≡ Some fault) → IsResultOfFiles map_in base tailor r
+IsResultOfFiles-from map_in base tailor T (Ok table) well_formed both sealed =
     let is : map_in table ≡ tailored_map base tailor = sealed.1 ∙ both.rows in
     record {
       accepted = both.fault ∙ ap (fault_at_line 0) sealed.0;
@@ -161,7 +161,7 @@ IsTold-from map_in base tailor T (Ok table) well_formed both sealed =
       well_formed = well_formed table;
       fault = tt;
     }
-IsTold-from map_in base tailor T (Err fault) well_formed both sealed = record {
+IsResultOfFiles-from map_in base tailor T (Err fault) well_formed both sealed = record {
   accepted = tt;
   spelled = tt;
   exact = tt;

@@ -196,7 +196,7 @@ element_at_front-from_part bytes part following element cut blank e =
 -- From the bytes at their places to a part
 
 -- a part that is an element, and what follows it
-pub record Found (bytes following : List ℕ) (element : Element) : Type 0 where
+pub record BeginsWithElement (bytes following : List ℕ) (element : Element) : Type 0 where
   pub part : List ℕ
   pub cut : split_once 93 bytes ≡ Some (part, following)
   pub bracketed : bracketed_of part ≡ Some element
@@ -208,7 +208,7 @@ part_computes : (m : ℕ) (bytes : List ℕ) (v : Bool) (element : Element) → 
 unfolding bracketed_of
 part_computes m bytes v element mark e = ap (λ o. o >>= λ v. weights_of v bytes) mark ∙ e
 
-part_from : (m : ℕ) (x y z f : List ℕ) (v : Bool) (w1 w2 w3 : ℕ) (element : Element) → mark_of m ≡ Some v → weight_of x ≡ Some w1 → weight_of y ≡ Some w2 → weight_of z ≡ Some w3 → record { is_variable = v; w1 = w1; w2 = w2; w3 = w3 } ≡ element → Found (91 ∷ m ∷ (x ++ 46 ∷ (y ++ 46 ∷ (z ++ 93 ∷ f)))) f element
+part_from : (m : ℕ) (x y z f : List ℕ) (v : Bool) (w1 w2 w3 : ℕ) (element : Element) → mark_of m ≡ Some v → weight_of x ≡ Some w1 → weight_of y ≡ Some w2 → weight_of z ≡ Some w3 → record { is_variable = v; w1 = w1; w2 = w2; w3 = w3 } ≡ element → BeginsWithElement (91 ∷ m ∷ (x ++ 46 ∷ (y ++ 46 ∷ (z ++ 93 ∷ f)))) f element
 part_from m x y z f v w1 w2 w3 element mark first second third is =
     let weights = x ++ 46 ∷ (y ++ 46 ∷ z) in
     let lacks : Lacks 93 (91 ∷ m ∷ weights) =
@@ -227,7 +227,7 @@ part_from m x y z f v w1 w2 w3 element mark first second third is =
     }
 
 -- of what the bytes at their places say, with the signs told
-found_by : (m a0 a1 a2 a3 b0 b1 b2 b3 c0 c1 c2 c3 : ℕ) (f : List ℕ) (element : Element) → (mark_of m >>= λ v. weight_of (a0 ∷ a1 ∷ a2 ∷ a3 ∷ []) >>= λ w1. weight_of (b0 ∷ b1 ∷ b2 ∷ b3 ∷ []) >>= λ w2. weight_of (c0 ∷ c1 ∷ c2 ∷ c3 ∷ []) >>= λ w3. Some (record { is_variable = v; w1 = w1; w2 = w2; w3 = w3 })) ≡ Some element → Found (91 ∷ m ∷ a0 ∷ a1 ∷ a2 ∷ a3 ∷ 46 ∷ b0 ∷ b1 ∷ b2 ∷ b3 ∷ 46 ∷ c0 ∷ c1 ∷ c2 ∷ c3 ∷ 93 ∷ f) f element
+found_by : (m a0 a1 a2 a3 b0 b1 b2 b3 c0 c1 c2 c3 : ℕ) (f : List ℕ) (element : Element) → (mark_of m >>= λ v. weight_of (a0 ∷ a1 ∷ a2 ∷ a3 ∷ []) >>= λ w1. weight_of (b0 ∷ b1 ∷ b2 ∷ b3 ∷ []) >>= λ w2. weight_of (c0 ∷ c1 ∷ c2 ∷ c3 ∷ []) >>= λ w3. Some (record { is_variable = v; w1 = w1; w2 = w2; w3 = w3 })) ≡ Some element → BeginsWithElement (91 ∷ m ∷ a0 ∷ a1 ∷ a2 ∷ a3 ∷ 46 ∷ b0 ∷ b1 ∷ b2 ∷ b3 ∷ 46 ∷ c0 ∷ c1 ∷ c2 ∷ c3 ∷ 93 ∷ f) f element
 found_by m a0 a1 a2 a3 b0 b1 b2 b3 c0 c1 c2 c3 f element e =
     let mark = bound (mark_of m) _ element e in
     let first = bound (weight_of (a0 ∷ a1 ∷ a2 ∷ a3 ∷ [])) _ element mark.2 in
@@ -236,7 +236,7 @@ found_by m a0 a1 a2 a3 b0 b1 b2 b3 c0 c1 c2 c3 f element e =
     let is : record { is_variable = mark.0; w1 = first.0; w2 = second.0; w3 = third.0 } ≡ element = cc third.2 in
     part_from m (a0 ∷ a1 ∷ a2 ∷ a3 ∷ []) (b0 ∷ b1 ∷ b2 ∷ b3 ∷ []) (c0 ∷ c1 ∷ c2 ∷ c3 ∷ []) f mark.0 first.0 second.0 third.0 element mark.1 first.1 second.1 third.1 is
 
-found_at : (s m a0 a1 a2 a3 t b0 b1 b2 b3 u c0 c1 c2 c3 w : ℕ) (f : List ℕ) (element : Element) → element_at_front (s ∷ m ∷ a0 ∷ a1 ∷ a2 ∷ a3 ∷ t ∷ b0 ∷ b1 ∷ b2 ∷ b3 ∷ u ∷ c0 ∷ c1 ∷ c2 ∷ c3 ∷ w ∷ f) ≡ Some element → Found (s ∷ m ∷ a0 ∷ a1 ∷ a2 ∷ a3 ∷ t ∷ b0 ∷ b1 ∷ b2 ∷ b3 ∷ u ∷ c0 ∷ c1 ∷ c2 ∷ c3 ∷ w ∷ f) f element
+found_at : (s m a0 a1 a2 a3 t b0 b1 b2 b3 u c0 c1 c2 c3 w : ℕ) (f : List ℕ) (element : Element) → element_at_front (s ∷ m ∷ a0 ∷ a1 ∷ a2 ∷ a3 ∷ t ∷ b0 ∷ b1 ∷ b2 ∷ b3 ∷ u ∷ c0 ∷ c1 ∷ c2 ∷ c3 ∷ w ∷ f) ≡ Some element → BeginsWithElement (s ∷ m ∷ a0 ∷ a1 ∷ a2 ∷ a3 ∷ t ∷ b0 ∷ b1 ∷ b2 ∷ b3 ∷ u ∷ c0 ∷ c1 ∷ c2 ∷ c3 ∷ w ∷ f) f element
 unfolding element_at_front
 found_at s m a0 a1 a2 a3 t b0 b1 b2 b3 u c0 c1 c2 c3 w f element e =
     let bytes = s ∷ m ∷ a0 ∷ a1 ∷ a2 ∷ a3 ∷ t ∷ b0 ∷ b1 ∷ b2 ∷ b3 ∷ u ∷ c0 ∷ c1 ∷ c2 ∷ c3 ∷ w ∷ f in
@@ -246,13 +246,13 @@ found_at s m a0 a1 a2 a3 t b0 b1 b2 b3 u c0 c1 c2 c3 w f element e =
     let p3 = and_parts (eqb t 46) _ p2.1 in
     let p4 = and_parts (eqb u 46) (eqb w 93) p3.1 in
     let found = found_by m a0 a1 a2 a3 b0 b1 b2 b3 c0 c1 c2 c3 f element signs.1 in
-    subst (λ s. Found (s ∷ m ∷ a0 ∷ a1 ∷ a2 ∷ a3 ∷ t ∷ b0 ∷ b1 ∷ b2 ∷ b3 ∷ u ∷ c0 ∷ c1 ∷ c2 ∷ c3 ∷ w ∷ f) f element) (sym (eqb-true s 91 p2.0))
-    (subst (λ t. Found (91 ∷ m ∷ a0 ∷ a1 ∷ a2 ∷ a3 ∷ t ∷ b0 ∷ b1 ∷ b2 ∷ b3 ∷ u ∷ c0 ∷ c1 ∷ c2 ∷ c3 ∷ w ∷ f) f element) (sym (eqb-true t 46 p3.0))
-    (subst (λ u. Found (91 ∷ m ∷ a0 ∷ a1 ∷ a2 ∷ a3 ∷ 46 ∷ b0 ∷ b1 ∷ b2 ∷ b3 ∷ u ∷ c0 ∷ c1 ∷ c2 ∷ c3 ∷ w ∷ f) f element) (sym (eqb-true u 46 p4.0))
-    (subst (λ w. Found (91 ∷ m ∷ a0 ∷ a1 ∷ a2 ∷ a3 ∷ 46 ∷ b0 ∷ b1 ∷ b2 ∷ b3 ∷ 46 ∷ c0 ∷ c1 ∷ c2 ∷ c3 ∷ w ∷ f) f element) (sym (eqb-true w 93 p4.1)) found)))
+    subst (λ s. BeginsWithElement (s ∷ m ∷ a0 ∷ a1 ∷ a2 ∷ a3 ∷ t ∷ b0 ∷ b1 ∷ b2 ∷ b3 ∷ u ∷ c0 ∷ c1 ∷ c2 ∷ c3 ∷ w ∷ f) f element) (sym (eqb-true s 91 p2.0))
+    (subst (λ t. BeginsWithElement (91 ∷ m ∷ a0 ∷ a1 ∷ a2 ∷ a3 ∷ t ∷ b0 ∷ b1 ∷ b2 ∷ b3 ∷ u ∷ c0 ∷ c1 ∷ c2 ∷ c3 ∷ w ∷ f) f element) (sym (eqb-true t 46 p3.0))
+    (subst (λ u. BeginsWithElement (91 ∷ m ∷ a0 ∷ a1 ∷ a2 ∷ a3 ∷ 46 ∷ b0 ∷ b1 ∷ b2 ∷ b3 ∷ u ∷ c0 ∷ c1 ∷ c2 ∷ c3 ∷ w ∷ f) f element) (sym (eqb-true u 46 p4.0))
+    (subst (λ w. BeginsWithElement (91 ∷ m ∷ a0 ∷ a1 ∷ a2 ∷ a3 ∷ 46 ∷ b0 ∷ b1 ∷ b2 ∷ b3 ∷ 46 ∷ c0 ∷ c1 ∷ c2 ∷ c3 ∷ w ∷ f) f element) (sym (eqb-true w 93 p4.1)) found)))
 
 -- the element at the front is the first part
-pub Found-from_front : (bytes : List ℕ) (element : Element) → 17 ≤ length bytes → element_at_front bytes ≡ Some element → Found bytes (drop 17 bytes) element
+pub Found-from_front : (bytes : List ℕ) (element : Element) → 17 ≤ length bytes → element_at_front bytes ≡ Some element → BeginsWithElement bytes (drop 17 bytes) element
 Found-from_front (s ∷ m ∷ a0 ∷ a1 ∷ a2 ∷ a3 ∷ t ∷ b0 ∷ b1 ∷ b2 ∷ b3 ∷ u ∷ c0 ∷ c1 ∷ c2 ∷ c3 ∷ w ∷ f) element long e = found_at s m a0 a1 a2 a3 t b0 b1 b2 b3 u c0 c1 c2 c3 w f element e
 Found-from_front [] element long e = absurd (omega arith)
 Found-from_front (s ∷ []) element long e = absurd (omega arith)

@@ -138,7 +138,7 @@ pub record TailoredFaults : Type 0 where
   pub no_entry : HasTailoredFault [] [] 12 0
 
 -- the sizes that a table may have
-pub record Limits : Type 0 where
+pub record TableLimits : Type 0 where
   pub string_points : MOST_STRING_POINTS ≡ 64
   pub row_elements : MOST_ROW_ELEMENTS ≡ 128
   pub entry_lines : MOST_ENTRY_LINES ≡ 1048576

@@ -4,7 +4,7 @@ ghost use Rattle.std.specs.Prelude.{◌≡◌, ℕ, ◌<◌, length, IfSome, OnO
 ghost use Rattle.collation_table.specs.declared.pages.Entry.{Entry};
 ghost use Rattle.collation_table.specs.Trie.{IsFirst, AreFirst, IsSet, first_of, no_first_step};
 
-use crate::pages::{Entry, NO_ENTRY};
+use crate::pages::{EMPTY_ENTRY, Entry};
 use std::alloc::{AllocError, Global};
 
 /// What is known of the steps from a node.
@@ -20,7 +20,7 @@ pub(crate) struct FirstStep {
 
 /// That of a node from which no step is taken.
 const NO_FIRST_STEP: FirstStep = FirstStep {
-    entry: NO_ENTRY,
+    entry: EMPTY_ENTRY,
     cp: 0,
     others: false,
 };
@@ -38,7 +38,7 @@ fn with_step(first: FirstStep, cp: u32, entry: Entry) -> FirstStep
         → IsSet E F node cp entry → IsFirst E node first → IsFirst F node result }
 {
     let replaces = match first.entry {
-        NO_ENTRY => true,
+        EMPTY_ENTRY => true,
         _ => first.cp == cp,
     };
     if replaces {
@@ -79,9 +79,9 @@ impl FirstSteps {
                 if first.others {
                     return None;
                 }
-                Some(NO_ENTRY)
+                Some(EMPTY_ENTRY)
             }
-            None => Some(NO_ENTRY),
+            None => Some(EMPTY_ENTRY),
         }
     }
 

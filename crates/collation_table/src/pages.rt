@@ -33,14 +33,14 @@ pub(crate) struct PageEntry {
 }
 
 /// Where a code point leads with which no mapped string goes on.
-pub(crate) const NO_ENTRY: Entry = Entry {
+pub(crate) const EMPTY_ENTRY: Entry = Entry {
     place: None,
     node: None,
 };
 
 /// That of a code point which no mapped string has.
 pub(crate) const NO_PAGE_ENTRY: PageEntry = PageEntry {
-    entry: NO_ENTRY,
+    entry: EMPTY_ENTRY,
     continues: false,
 };
 

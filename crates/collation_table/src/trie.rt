@@ -10,7 +10,7 @@ ghost use Rattle.collation_table.specs.Table.{TableMap, is_mapped, longest_prefi
 ghost use Rattle.collation_table.specs.Trie.{at, place_of, seek, continues, leads_on, Leads, IsTrie, IsIndex, IsMarked, HasFirst, IsSet, MarksStep, LeadsStep, MarksWay};
 
 use crate::first_steps::FirstSteps;
-use crate::pages::{Entry, NO_ENTRY, PageEntry, Pages, Place};
+use crate::pages::{EMPTY_ENTRY, Entry, PageEntry, Pages, Place};
 use crate::row_index::RowIndex;
 use std::alloc::{AllocError, Global};
 use std::collections::BTreeMap;
@@ -49,11 +49,11 @@ impl Trie {
     {
         let page_entry = self.pages.get(cp);
         if !page_entry.continues {
-            return NO_ENTRY;
+            return EMPTY_ENTRY;
         }
         match self.steps.get(&(node, cp)) {
             Some(entry) => *entry,
-            None => NO_ENTRY,
+            None => EMPTY_ENTRY,
         }
     }
 
@@ -225,7 +225,7 @@ impl Trie {
         for cp in rest {
             match entry.node {
                 Some(node) => entry = self.step(node, *cp),
-                None => return NO_ENTRY,
+                None => return EMPTY_ENTRY,
             }
         }
         entry

@@ -1,6 +1,6 @@
 //! Worked tables: small files with their faults and sizes, and look-ups in them, as the definitions give them, proved by computing.
 
-ghost use Rattle.collation_table.specs.WorkedTables.{LineFaults, RowFaults, RangeFaults, TableFaults, AcceptedTables, TailoredTables, TailoredFaults, Limits, ImplicitWeights, LongestPrefixes, Classes};
+ghost use Rattle.collation_table.specs.WorkedTables.{LineFaults, RowFaults, RangeFaults, TableFaults, AcceptedTables, TailoredTables, TailoredFaults, TableLimits, ImplicitWeights, LongestPrefixes, Classes};
 
 /// Lines that can't be read, and which of several faults is reported.
 pub fn faults_of_lines()
@@ -39,7 +39,7 @@ pub fn faults_of_tailored_tables()
 
 /// The greatest numbers of code points of a mapped string, of elements of a row, of rows and of ranges.
 pub fn limits()
-    ensures { Limits }
+    ensures { TableLimits }
 {}
 
 /// Implicit weights of ideographs, of other code points and of ranges (UTS #10, section 10.1.3).

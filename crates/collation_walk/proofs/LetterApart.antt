@@ -23,18 +23,14 @@ use Rattle.collation_walk.specs.Walks.{WalksOn, letter_items}
 use Rattle.collation_letters.proofs.CharacterLemmas.{points_are_shifted}
 use Rattle.collation_letters.proofs.JoiningLemmas.{after-plain}
 use Rattle.collation_letters.proofs.LetterApart.{starter-counted}
+use Rattle.collation_letters.proofs.WeigherLaw.{WeighersGoOn}
 pub use Rattle.collation_letters.proofs.LetterApart.{plain-known, taken-known, next-of_letter}
 
 -- in non-ignorable weighting a weigher never stands behind a variable element
 possible : (table : TableMap) (w : Weigher) (us : List (List Point)) (given : List Item) → WeigherStandsFor table w us given → IsPossible w.variable w.after_variable
 possible table w us given h = λ plain. h.after ∙ ap (λ v. after_units table v false us) plain ∙ after-plain table false us
 
-abbrev pub GoesOnLaw : Type 0
-GoesOnLaw =
-    (table : TableMap) (w : Weigher) (us vs : List (List Point)) (given more : List Item) (after : Bool) → items_of table w.strength w.variable w.after_variable vs ≡ more →
-    after_units table w.variable w.after_variable vs ≡ after → WeigherStandsFor table w us given → WeigherStandsFor table (weigher w.strength w.variable after) (us ++ vs) (given ++ more)
-
-pub walked-on : GoesOnLaw → PointsAreShifted → (table : TableMap) (pattern : Compiled) (m m' : Matcher) (start : ℕ) (cs : List ℕ) (l : Letter) (found : List (ℕ × ℕ)) → l.role ≢ Steps →
+pub walked-on : WeighersGoOn → PointsAreShifted → (table : TableMap) (pattern : Compiled) (m m' : Matcher) (start : ℕ) (cs : List ℕ) (l : Letter) (found : List (ℕ × ℕ)) → l.role ≢ Steps →
     is_mark l.role ≡ false → IsLetter table pattern cs l → m'.weigher ≡ weigher pattern.strength pattern.variable (flag_after l.role m.weigher.after_variable) →
     ((keys : List Key) → AreLastSymbols pattern.keys keys (listed l.symbols) → WalksOn pattern m.walk m'.walk (letter_items l.role start keys) found) →
     HasWalkedOn table pattern m m' (units table (points_from start cs)) found

@@ -98,15 +98,15 @@ nothing-waits law pattern keys (suc n) state last moves = λ ks at.
     moves ks last.key last.symbol_is at ∙ ap (λ (l : List Key). border pattern (l ++ last.key ∷ [])) (sym (ap (λ (l : List Key). ks ++ l) none ∙ append-nil ks))
 
 -- what one of its three places does
-abbrev pub Takes : List Key → ℕ → Walk → Walk → Type 0
-Takes pattern symbol w v =
+abbrev pub TakesSymbol : List Key → ℕ → Walk → Walk → Type 0
+TakesSymbol pattern symbol w v =
     (items : List Item) (ranges : List (ℕ × ℕ)) (keys : List Key) → AreLastSymbols pattern keys (some_symbol symbol) → WalksOver pattern items ranges w →
     WalksOver pattern (items ++ map (λ key. Element key) keys) ranges v
 
 three_lists : {A : Type 0} (xs ys bs cs : List A) → ((xs ++ ys) ++ bs) ++ cs ≡ xs ++ (ys ++ (bs ++ cs))
 three_lists xs ys bs cs = append_assoc (xs ++ ys) bs cs ∙ append_assoc xs ys (bs ++ cs)
 
-pub walks-symbols : SymbolsAreListed → SymbolsComeInTurn → (pattern : List Key) (s : Symbols) (w a b v : Walk) → Takes pattern s.first w a → Takes pattern s.second a b → Takes pattern s.third b v →
+pub walks-symbols : SymbolsAreListed → SymbolsComeInTurn → (pattern : List Key) (s : Symbols) (w a b v : Walk) → TakesSymbol pattern s.first w a → TakesSymbol pattern s.second a b → TakesSymbol pattern s.third b v →
     (items : List Item) (ranges : List (ℕ × ℕ)) (keys : List Key) → AreLastSymbols pattern keys (listed s) → WalksOver pattern items ranges w → WalksOver pattern (items ++ map (λ key. Element key) keys) ranges v
 walks-symbols are turn pattern s w a b v first second third items ranges keys h walks =
     let F : List Key → List Item = λ ks. map (λ key. Element key) ks in

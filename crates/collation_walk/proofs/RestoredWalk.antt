@@ -8,7 +8,7 @@ use Rattle.collation_matches.specs.ByClusters.{placed, found}
 use Rattle.collation_matches.specs.declared.select.Select.{Select}
 use Rattle.collation_matches.specs.Selecting.{selected, remembered}
 use Rattle.collation_states.specs.Reading.{places_in}
-use Rattle.collation_states.specs.State.{Place}
+use Rattle.collation_states.specs.State.{SavedPlace}
 use Rattle.collation_walk.specs.declared.walk.KeyPlace.{KeyPlace}
 use Rattle.collation_walk.specs.declared.walk.Walk.{Walk}
 use Rattle.collation_walk.specs.Kept.{kept_places, saved_places}
@@ -17,7 +17,7 @@ use Rattle.collation_walk.proofs.WalkSteps.{keep_last-all, walks-within, walks-f
 
 -- ---- places
 
-key_places : List Place → List KeyPlace
+key_places : List SavedPlace → List KeyPlace
 key_places = map (λ place. record { start = place.start; is_first = place.is_first })
 
 places-back : (ps : List KeyPlace) → key_places (saved_places ps) ≡ ps
@@ -69,7 +69,7 @@ kept-next capacity kept new (a ∷ b ∷ x ∷ []) p many is room e = let no : �
 kept-next capacity kept new (a ∷ b ∷ x ∷ y ∷ later) p many is room e =
     let len = length-append kept (p ∷ []) in
     let all : new ≡ kept ++ p ∷ [] = e ∙ keep_last-all capacity (kept ++ p ∷ []) (omega (arith, len, room)) in
-    let place : Place = record { start = a; is_first = b == 1 } in
+    let place : SavedPlace = record { start = a; is_first = b == 1 } in
     let rest : take (suc (suc (suc (suc (length later)))) - 4) later ≡ later = take_all (suc (suc (suc (suc (length later)))) - 4) later (omega arith) in (
       ap (λ l. saved_places new ++ places_in l) rest ∙ ap (λ (l : List KeyPlace). saved_places l ++ places_in later) all
           ∙ ap (λ l. l ++ places_in later) (map-append _ kept (p ∷ []))

@@ -1,7 +1,7 @@
 -- What a walk keeps of the keys, as a state says it.
 use Rattle.std.specs.Prelude.{ℕ, ◌-◌, Bool, false, ◌&&◌, ◌==◌, List, length, map, slice_get, Option, None, Some}
 use Rattle.circular_buffer.specs.Buffer.{keep_last}
-use Rattle.collation_states.specs.State.{Place}
+use Rattle.collation_states.specs.State.{SavedPlace}
 use Rattle.collation_walk.specs.declared.walk.KeyPlace.{KeyPlace}
 use Rattle.collation_walk.specs.declared.walk.Walk.{Walk}
 
@@ -9,7 +9,7 @@ use Rattle.collation_walk.specs.declared.walk.Walk.{Walk}
 abbrev pub kept_places : Walk → List KeyPlace
 kept_places walk = keep_last walk.state walk.places.items
 
-abbrev pub saved_places : List KeyPlace → List Place
+abbrev pub saved_places : List KeyPlace → List SavedPlace
 saved_places = map (λ place. record { start = place.start; is_first = place.is_first })
 
 abbrev pub is_first_place : Option KeyPlace → Bool

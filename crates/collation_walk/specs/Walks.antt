@@ -55,7 +55,7 @@ abbrev pub WalksOn : Compiled → Walk → Walk → List Item → List (ℕ × �
 WalksOn pattern old new further found =
     (items : List Item) (ranges : List (ℕ × ℕ)) → WalksOver pattern.keys items ranges old → WalksOver pattern.keys (items ++ further) (ranges ++ found) new
 
--- The same of items behind which ranges were put after those found before.
+-- The same, where the ranges were put behind those that a list held before.
 abbrev pub WalksInto : Compiled → Walk → Walk → List Item → List (ℕ × ℕ) → List (ℕ × ℕ) → Type 0
 WalksInto pattern old new further before found =
     (items : List Item) (ranges : List (ℕ × ℕ)) → WalksOver pattern.keys items (ranges ++ before) old → WalksOver pattern.keys (items ++ further) (ranges ++ found) new

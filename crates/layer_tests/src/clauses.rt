@@ -7,7 +7,7 @@ ghost use Rattle.collation_letters.specs.Letters.{IsLetter};
 ghost use Rattle.collation_letters.specs.Store.{AreLetters};
 ghost use Rattle.collation_skip.specs.Blocks.{AreBlocksRight};
 ghost use Rattle.collation_skip.specs.Passed.{IsPassed};
-ghost use Rattle.collation_skip.specs.Rows.{AreRight};
+ghost use Rattle.collation_skip.specs.Rows.{AreRowsRight};
 ghost use Rattle.collation_skip.specs.Skips.{IsSkipRight};
 
 use collation_letters::Letters;
@@ -53,7 +53,7 @@ fn automaton_says<W: Weights>(
     reach: usize,
     is_calm: bool,
 ) -> Option<Passed>
-    requires right { AreRight (W.table table.now) pattern.now automaton.old }
+    requires right { AreRowsRight (W.table table.now) pattern.now automaton.old }
     requires letters { AreLetters (W.table table.now) pattern.now letters.old }
     ensures within { IfSome result (λ it. it.end + len_utf8 it.next ≤ length piece.now) }
     ensures order { IfSome result (λ it. it.start ≤ it.end) }
@@ -66,7 +66,7 @@ fn automaton_says<W: Weights>(
     ensures passed { IfSome result (λ it. (at : ℕ)
         → IsPassed (W.table table.now) pattern.now at (at + it.start)
         (chars (take it.end piece.now)) it.next) }
-    ensures right { AreRight (W.table table.now) pattern.now automaton.new }
+    ensures right { AreRowsRight (W.table table.now) pattern.now automaton.new }
     ensures letters { AreLetters (W.table table.now) pattern.now letters.new }
 {
     automaton.pass(table, pattern, letters, piece, reach, is_calm)

@@ -4,7 +4,7 @@
 ghost use Rattle.std.proofs.Props.{props};
 ghost use Rattle.collation_letters.specs.Store.{AreLetters};
 ghost use Rattle.collation_skip.specs.Blocks.{AreBlocksRight};
-ghost use Rattle.collation_skip.specs.Rows.{AreRight};
+ghost use Rattle.collation_skip.specs.Rows.{AreRowsRight};
 ghost use Rattle.collation_skip.specs.Skips.{IsSkipRight};
 
 use collation_letters::{Letter, Letters};
@@ -34,8 +34,8 @@ pub(crate) struct Ways<'a> {
     blocks: AsciiBlocks,
     skip: Skip,
     ghost letters_right: { AreLetters table.now.rows pattern.now letters } by { Prim.hlevel props },
-    ghost automaton_right: { AreRight table.now.rows pattern.now automaton } by { Prim.hlevel props },
-    ghost other_right: { AreRight table.now.rows pattern.now other } by { Prim.hlevel props },
+    ghost automaton_right: { AreRowsRight table.now.rows pattern.now automaton } by { Prim.hlevel props },
+    ghost other_right: { AreRowsRight table.now.rows pattern.now other } by { Prim.hlevel props },
     ghost blocks_right: { AreBlocksRight table.now.rows pattern.now blocks } by { Prim.hlevel props },
     ghost skip_right: { IsSkipRight table.now.rows pattern.now skip } by { Prim.hlevel props },
 }

@@ -13,7 +13,7 @@ use Rattle.nfd_points.proofs.AnewLemmas.{few-good, starters-anew}
 use Rattle.nfd_points.proofs.DecompositionLemmas.{length-decomposition, decomposition-some}
 use Rattle.nfd_points.proofs.OrderingLemmas.{ordered-ordered, ordered-parts}
 use Rattle.nfd_points.proofs.PointsLemmas.{points_from-cons, points_from-append, is_in_order-points_of}
-use Rattle.nfd_points.proofs.PushLemmas.{IsPushed, IsPushed-all}
+use Rattle.nfd_points.proofs.PushLemmas.{PushGives, IsPushed-all}
 use Rattle.nfd_points.proofs.ReorderingLemmas.{byte_len-more, run-more}
 use Rattle.nfd_points.proofs.RunLemmas.{run_after-starter, fault_of_code_point-none}
 use Rattle.nfd_points.proofs.StepLemmas.{short-few}
@@ -66,7 +66,7 @@ given-some (o ∷ out) new ps same some h marks = omega arith
 
 -- ---- the code point
 
-module _ (new : Waiting) (out : List Point) (c : ℕ) (taken : List ℕ) (here : IsPushed [] (byte_len taken) c new.held out) (h : begins_with_starter (points_of (byte_len taken) c) ≡ true) where
+module _ (new : Waiting) (out : List Point) (c : ℕ) (taken : List ℕ) (here : PushGives [] (byte_len taken) c new.held out) (h : begins_with_starter (points_of (byte_len taken) c) ≡ true) where
   abbrev bytes : ℕ
   bytes = byte_len taken
 
@@ -101,7 +101,7 @@ module _ (new : Waiting) (out : List Point) (c : ℕ) (taken : List ℕ) (here :
         run = run-more taken c ∙ run-anew (run_after 0 (flat_map decomposition taken)) bytes (decomposition c) (decomposition-some c) h ∙ sym here.run;
       }
 
-pub afresh : (old new : Waiting) (out : List Point) (start c : ℕ) → IsPushed old.held start c new.held out → (taken : List ℕ) → old.held ≡ [] → start ≡ byte_len taken → begins_with_starter (points_of start c) ≡ true → point_fault taken ≡ None → HasReordered new (taken ++ c ∷ []) (points taken ++ out)
+pub afresh : (old new : Waiting) (out : List Point) (start c : ℕ) → PushGives old.held start c new.held out → (taken : List ℕ) → old.held ≡ [] → start ≡ byte_len taken → begins_with_starter (points_of start c) ≡ true → point_fault taken ≡ None → HasReordered new (taken ++ c ∷ []) (points taken ++ out)
 afresh old new out start c pushed taken none at h good =
-    let here : IsPushed [] (byte_len taken) c new.held out = subst (λ n. IsPushed [] n c new.held out) at (subst (λ l. IsPushed l start c new.held out) none pushed) in
+    let here : PushGives [] (byte_len taken) c new.held out = subst (λ n. PushGives [] n c new.held out) at (subst (λ l. PushGives l start c new.held out) none pushed) in
     afresh-reordered new out c taken here (subst (λ n. begins_with_starter (points_of n c) ≡ true) at h) good

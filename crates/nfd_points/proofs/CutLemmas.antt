@@ -13,7 +13,7 @@ use Rattle.nfd_points.proofs.SplitLemmas.{starters-stay}
 
 -- ---- a point that is no later point of a code point
 
-record After (prefix left later : List Point) (s : Point) (rest : List Point) : Type 0 where
+record EndsWithinPrefix (prefix left later : List Point) (s : Point) (rest : List Point) : Type 0 where
   gap : List Point
   prefix_is : prefix ≡ left ++ gap
   later_is : later ≡ gap ++ s ∷ rest
@@ -21,7 +21,7 @@ record After (prefix left later : List Point) (s : Point) (rest : List Point) : 
 abbrev is_later : Point → Bool
 is_later p = not p.first
 
-after_passed : (prefix left later : List Point) (s : Point) (rest : List Point) → list_all is_later left ≡ true → is_later s ≡ false → prefix ++ s ∷ rest ≡ left ++ later → After prefix left later s rest
+after_passed : (prefix left later : List Point) (s : Point) (rest : List Point) → list_all is_later left ≡ true → is_later s ≡ false → prefix ++ s ∷ rest ≡ left ++ later → EndsWithinPrefix prefix left later s rest
 after_passed prefix [] later s rest h fails e = record { gap = prefix; prefix_is = refl; later_is = sym e }
 after_passed [] (l ∷ left) later s rest h fails e =
     let parts = and_parts (is_later l) (list_all is_later left) h in

@@ -11,7 +11,7 @@ use Rattle.nfd_points.specs.Points.{decomposition, points_of}
 use Rattle.nfd_points.specs.PointFaults.{run_after, fault_of_code_point}
 use Rattle.nfd_points.specs.Reordering.{code_points, IsSoundPoint, IsHeld, is_non_starter, is_closed}
 use Rattle.nfd_points.proofs.PointsLemmas.{HasClass, HasClass-points_at, code_points-points_at}
-use Rattle.nfd_points.proofs.PushLemmas.{IsPushed, IsPushed-all}
+use Rattle.nfd_points.proofs.PushLemmas.{PushGives, IsPushed-all}
 use Rattle.nfd_points.proofs.RunLemmas.{run_after-mark, run_after-starter, run_after-nil, short-append, fault_of_code_point-parts, part_fault-none}
 use Rattle.nfd_points.proofs.ShortRunLemmas.{short-ordered}
 use Rattle.nfd_points.proofs.StepLemmas.{short-few}
@@ -38,7 +38,7 @@ short-waiting old c held none =
     ∙ and_from _ _ few (ap (λ n. has_short_runs n (decomposition c)) waits ∙ part)
 
 -- what was given and what waits now is what waited before and the decomposition, in order
-pub short-given : (old new out : List Point) (start c : ℕ) → IsHeld old → IsPushed old start c new out → fault_of_code_point (length old) c ≡ None → has_short_runs 0 (code_points out) ≡ true
+pub short-given : (old new out : List Point) (start c : ℕ) → IsHeld old → PushGives old start c new out → fault_of_code_point (length old) c ≡ None → has_short_runs 0 (code_points out) ≡ true
 short-given old new out start c held pushed none =
     let classes : All HasClass (old ++ points_of start c) =
     All-append HasClass old (points_of start c) (All-weaker IsSoundPoint HasClass (λ p sound. sound.class) old held.sound)

@@ -33,33 +33,33 @@ insert-placed p (q ∷ qs) =
     ]
 
 -- the first point is of at least this class
-StartsAt : ℕ → List Point → Type 0
-StartsAt n [] = Unit {0}
-StartsAt n (x ∷ xs) = n ≤ x.ccc
+BeginsAtClass : ℕ → List Point → Type 0
+BeginsAtClass n [] = Unit {0}
+BeginsAtClass n (x ∷ xs) = n ≤ x.ccc
 
-sink-first : (q : Point) (xs : List Point) → StartsAt q.ccc xs → sink q xs ≡ q ∷ xs
-unfolding StartsAt
+sink-first : (q : Point) (xs : List Point) → BeginsAtClass q.ccc xs → sink q xs ≡ q ∷ xs
+unfolding BeginsAtClass
 sink-first q [] h = sink-nil q
 sink-first q (x ∷ xs) h = sink-stays q x xs (not_reorderable_rising q x h)
 
-StartsAt-placed : (n : ℕ) (p : Point) (ws : List Point) → n ≤ p.ccc → StartsAt n ws → StartsAt n (placed p ws)
-unfolding StartsAt placed
+StartsAt-placed : (n : ℕ) (p : Point) (ws : List Point) → n ≤ p.ccc → BeginsAtClass n ws → BeginsAtClass n (placed p ws)
+unfolding BeginsAtClass placed
 StartsAt-placed n p [] le h = le
 StartsAt-placed n p (q ∷ qs) le h =
     elim (cases_Bool (nat_le q.ccc p.ccc)) [
-      | inl low ↦ subst (StartsAt n) (sym (cond-true _ (q ∷ placed p qs) (p ∷ q ∷ qs) low)) h
-      | inr high ↦ subst (StartsAt n) (sym (cond-false _ (q ∷ placed p qs) (p ∷ q ∷ qs) high)) le
+      | inl low ↦ subst (BeginsAtClass n) (sym (cond-true _ (q ∷ placed p qs) (p ∷ q ∷ qs) low)) h
+      | inr high ↦ subst (BeginsAtClass n) (sym (cond-false _ (q ∷ placed p qs) (p ∷ q ∷ qs) high)) le
     ]
 
-StartsAt-rest : (q : Point) (qs : List Point) → list_all is_non_starter qs ≡ true → is_in_order (q ∷ qs) ≡ true → StartsAt q.ccc qs
-unfolding StartsAt
+StartsAt-rest : (q : Point) (qs : List Point) → list_all is_non_starter qs ≡ true → is_in_order (q ∷ qs) ≡ true → BeginsAtClass q.ccc qs
+unfolding BeginsAtClass
 StartsAt-rest q [] marks sorted = tt
 StartsAt-rest q (r ∷ rs) marks sorted =
     let mark = is_non_starter-above r (and_parts (is_non_starter r) (list_all is_non_starter rs) marks).0 in
     elim (is_reorderable-false q r (is_in_order-parts q r rs sorted).0) [ inl starter ↦ absurd (omega arith) | inr rising ↦ rising ]
 
-placed-first : (p : Point) (n : ℕ) (ws : List Point) → p.ccc < n → StartsAt n ws → placed p ws ≡ p ∷ ws
-unfolding StartsAt placed
+placed-first : (p : Point) (n : ℕ) (ws : List Point) → p.ccc < n → BeginsAtClass n ws → placed p ws ≡ p ∷ ws
+unfolding BeginsAtClass placed
 placed-first p n [] lt h = refl
 placed-first p n (q ∷ qs) lt h = cond-false _ _ _ (lt-leb q.ccc p.ccc (omega arith))
 

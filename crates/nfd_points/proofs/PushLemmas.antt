@@ -21,13 +21,13 @@ use Rattle.nfd_points.proofs.StepLemmas.{points_at-more}
 -- ---- what `push` does
 
 -- c at an offset went in over the points `old`: `out` came out, and `new` waits
-pub record IsPushed (old : List Point) (start c : ℕ) (new out : List Point) : Type 0 where
+pub record PushGives (old : List Point) (start c : ℕ) (new out : List Point) : Type 0 where
   pub moved : (rest : List Point) → ordered (old ++ (points_of start c ++ rest)) ≡ out ++ ordered (new ++ rest)
   pub closed : is_closed out ≡ true
   pub held : IsHeld new
   pub run : length new ≡ run_after (length old) (decomposition c)
 
-pub IsPushed-parts : (old new cleared out : List Point) (parts : List ℕ) (start c : ℕ) → cleared ≡ [] → parts ≡ decomposition c → IsHeld new → ((rest : List Point) → cleared ++ ordered (old ++ (points_at start true parts ++ rest)) ≡ out ++ ordered (new ++ rest)) → (is_closed cleared ≡ true → is_closed out ≡ true) → length new ≡ run_after (length old) parts → IsPushed old start c new out
+pub IsPushed-parts : (old new cleared out : List Point) (parts : List ℕ) (start c : ℕ) → cleared ≡ [] → parts ≡ decomposition c → IsHeld new → ((rest : List Point) → cleared ++ ordered (old ++ (points_at start true parts ++ rest)) ≡ out ++ ordered (new ++ rest)) → (is_closed cleared ≡ true → is_closed out ≡ true) → length new ≡ run_after (length old) parts → PushGives old start c new out
 IsPushed-parts old new cleared out parts start c empty same held moved closed run = record {
   moved = λ rest. ap₂ (λ l ds. l ++ ordered (old ++ (points_at start true ds ++ rest))) (sym empty) (sym same) ∙ moved rest;
   closed = closed (ap is_closed empty ∙ is_closed-nil);
@@ -35,14 +35,14 @@ IsPushed-parts old new cleared out parts start c empty same held moved closed ru
   run = run ∙ ap (run_after (length old)) same;
 }
 
-pub IsPushed-all : (old new out : List Point) (start c : ℕ) → IsPushed old start c new out → out ++ new ≡ ordered (old ++ points_of start c)
+pub IsPushed-all : (old new out : List Point) (start c : ℕ) → PushGives old start c new out → out ++ new ≡ ordered (old ++ points_of start c)
 IsPushed-all old new out start c h =
     ap (λ l. out ++ l) (sym (ap ordered (append-nil new) ∙ ordered-ordered new h.held.in_order)) ∙ sym (h.moved [])
     ∙ ap (λ l. ordered (old ++ l)) (append-nil (points_of start c))
 
-pub IsPushed-carries : (old new : Waiting) (out : List Point) (start c : ℕ) → IsPushed old.held start c new.held out → fault_of_code_point (length old.held) c ≡ None → (taken : List ℕ) (given : List Point) → HasReordered old taken given → start ≡ byte_len taken → HasReordered new (taken ++ c ∷ []) (given ++ out)
+pub IsPushed-carries : (old new : Waiting) (out : List Point) (start c : ℕ) → PushGives old.held start c new.held out → fault_of_code_point (length old.held) c ≡ None → (taken : List ℕ) (given : List Point) → HasReordered old taken given → start ≡ byte_len taken → HasReordered new (taken ++ c ∷ []) (given ++ out)
 IsPushed-carries old new out start c h none taken given before at =
-    let here : IsPushed old.held (byte_len taken) c new.held out = subst (λ n. IsPushed old.held n c new.held out) at h in
+    let here : PushGives old.held (byte_len taken) c new.held out = subst (λ n. PushGives old.held n c new.held out) at h in
     carries old new taken given c out before none here.held here.closed here.run here.moved
 
 -- ---- starters that are their own decomposition
@@ -59,7 +59,7 @@ plain-fault run c plain = fault_of_code_point-none run c (ap (has_short_runs run
 pub plain-sound : (c start : ℕ) → IsScalar c → IsPlain c → IsSoundPoint (ascii_point start c)
 plain-sound c start scalar plain = record { scalar = scalar; in_range = scalar_below c scalar; class = sym plain.starter }
 
-pub plain-pushed : (old new cleared out : List Point) (start c : ℕ) → IsPlain c → cleared ≡ [] → IsHeld new → ((rest : List Point) → cleared ++ ordered (old ++ ascii_point start c ∷ rest) ≡ out ++ ordered (new ++ rest)) → (is_closed cleared ≡ true → is_closed out ≡ true) → length new ≡ run_after (length old) (c ∷ []) → IsPushed old start c new out
+pub plain-pushed : (old new cleared out : List Point) (start c : ℕ) → IsPlain c → cleared ≡ [] → IsHeld new → ((rest : List Point) → cleared ++ ordered (old ++ ascii_point start c ∷ rest) ≡ out ++ ordered (new ++ rest)) → (is_closed cleared ≡ true → is_closed out ≡ true) → length new ≡ run_after (length old) (c ∷ []) → PushGives old start c new out
 plain-pushed old new cleared out start c plain empty held moved closed run = record {
   moved = λ rest. ap₂ (λ l ps. l ++ ordered (old ++ (ps ++ rest))) (sym empty) (points_of-plain start c plain) ∙ moved rest;
   closed = closed (ap is_closed empty ∙ is_closed-nil);
@@ -68,7 +68,7 @@ plain-pushed old new cleared out start c plain empty held moved closed run = rec
 }
 
 -- the points that waited, and then the character itself
-pub plain-given : (old new out : List Point) (start c : ℕ) → IsPlain c → IsHeld old → IsPushed old start c new out → out ≡ old ++ ascii_point start c ∷ []
+pub plain-given : (old new out : List Point) (start c : ℕ) → IsPlain c → IsHeld old → PushGives old start c new out → out ≡ old ++ ascii_point start c ∷ []
 plain-given old new out start c plain held p =
     let none : new ≡ [] = nil_from_length new (p.run ∙ ap (run_after (length old)) plain.itself ∙ run_after-starter (length old) c [] (plain-starter c plain) ∙ run_after-nil 0) in
     let point : Point = ascii_point start c in

@@ -4,7 +4,7 @@ ghost use Rattle.std.specs.Str.{chars, IsUtf8};
 ghost use Rattle.std.specs.List.{FoldsTo};
 ghost use Rattle.nfd_points.specs.Points.{byte_len};
 ghost use Rattle.collation_matches.specs.GoodPrefix.{most_bytes};
-ghost use Rattle.collation_finder.specs.Caches.{AreRight};
+ghost use Rattle.collation_finder.specs.Caches.{IsCacheRight};
 ghost use Rattle.collation_finder.specs.Early.{IsCutUpTo};
 ghost use Rattle.collation_finder.specs.Finding.{FinderStandsFor, IsReady, KeepsSetup};
 
@@ -22,7 +22,7 @@ fn letters_say<W: Weights, F: FnMut(u64, u64)>(
     sink: &mut F,
 ) -> usize
     requires ready { IsReady (W.table query.now.table.now) query.now.pattern.now finder.old }
-    requires right { AreRight (W.table query.now.table.now) query.now.pattern.now cache.old }
+    requires right { IsCacheRight (W.table query.now.table.now) query.now.pattern.now cache.old }
     requires fits { front.offset + length front.piece.now ≤ most_bytes }
     requires callable { F.IsAlwaysCallable sink.old }
     ensures within { result ≤ length front.entry.piece.now }
@@ -42,7 +42,7 @@ fn letters_say<W: Weights, F: FnMut(u64, u64)>(
         → IsCutUpTo (W.table query.now.table.now) place taken finder.old.window.points
         → IsCutUpTo (W.table query.now.table.now) place (taken ++ chars
         (take result front.entry.piece.now)) finder.new.window.points }
-    ensures right { AreRight (W.table query.now.table.now) query.now.pattern.now cache.new }
+    ensures right { IsCacheRight (W.table query.now.table.now) query.now.pattern.now cache.new }
     ensures open { finder.new.window.has_ended ≡ false }
     ensures setup { KeepsSetup finder.old finder.new }
     ensures callable { F.IsAlwaysCallable sink.new }

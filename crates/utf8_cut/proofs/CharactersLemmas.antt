@@ -15,7 +15,7 @@ use Rattle.utf8_cut.proofs.TableLemmas.{encode_some, no_char_nil}
 use lib.Utf8.{encode, encodes}
 
 -- a list as whole characters and what follows them
-pub record Split (bytes whole rest : List ℕ) : Type 0 where
+pub record HasWholeCharacters (bytes whole rest : List ℕ) : Type 0 where
   pub parts : bytes ≡ whole ++ rest
   pub text : IsUtf8 whole
   pub no_char : StartsWithNoChar rest
@@ -27,7 +27,7 @@ split_end whole (x ∷ rest) u n = utf8_valid_len-IsValidUpTo (whole ++ x ∷ re
     (subst IsUtf8 (sym (take_at whole (x ∷ rest) (length whole) refl)) u)
     (subst StartsWithNoChar (sym (drop_at whole (x ∷ rest) (length whole) refl)) n))
 
-module _ (bytes whole rest : List ℕ) (s : Split bytes whole rest) where
+module _ (bytes whole rest : List ℕ) (s : HasWholeCharacters bytes whole rest) where
   pub Split-end : characters_end bytes ≡ length whole
   Split-end = ap utf8_valid_len s.parts ∙ split_end whole rest s.text s.no_char
 
@@ -62,7 +62,7 @@ valid_longest bytes zero k l h u = omega arith
 valid_longest bytes (suc m) k l h u =
     valid_longest_by bytes m (valid_len_up_to bytes m) k (λ p q. valid_longest bytes m k p q u) (is_utf8 (take (suc m) bytes)) refl l h u
 
-pub split_of : (bytes : List ℕ) → Split bytes (take (characters_end bytes) bytes) (after_characters bytes)
+pub split_of : (bytes : List ℕ) → HasWholeCharacters bytes (take (characters_end bytes) bytes) (after_characters bytes)
 unfolding utf8_valid_len
 split_of bytes = record { parts = sym (take-append-drop (characters_end bytes) bytes); text = valid_prefix bytes (length bytes); no_char = none }
   where
@@ -87,7 +87,7 @@ with_offsets-append from (c ∷ cs) ds =
 
 -- ---- bytes after whole characters
 
-pub after_text : (whole bytes : List ℕ) → IsUtf8 whole → Split (whole ++ bytes) (whole ++ take (characters_end bytes) bytes) (after_characters bytes)
+pub after_text : (whole bytes : List ℕ) → IsUtf8 whole → HasWholeCharacters (whole ++ bytes) (whole ++ take (characters_end bytes) bytes) (after_characters bytes)
 after_text whole bytes u =
     let s = split_of bytes in
     record { parts = ap (λ l. whole ++ l) s.parts ∙ sym (append_assoc whole _ _); text = IsUtf8-append _ _ u s.text; no_char = s.no_char }
@@ -101,7 +101,7 @@ characters_from-append from whole bytes u =
     ∙ with_offsets-append from (chars whole) _
     ∙ ap (λ w. with_offsets from (chars whole) ++ with_offsets (from + length w) (chars (take (characters_end bytes) bytes))) (encodes-chars whole u)
 
-pub split_whole : (whole : List ℕ) → IsUtf8 whole → Split whole whole []
+pub split_whole : (whole : List ℕ) → IsUtf8 whole → HasWholeCharacters whole whole []
 split_whole whole u = record { parts = sym (append-nil whole); text = u; no_char = no_char_nil }
 
 pub characters_from-encode : (from c : ℕ) → IsScalar c → characters_from from (encode c) ≡ (c, from) ∷ []

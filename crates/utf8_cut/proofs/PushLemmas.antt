@@ -13,7 +13,7 @@ use Rattle.utf8_cut.specs.Sequences.{IsIllFormed}
 use Rattle.utf8_cut.specs.State.{StandsFor, IsPushed, IfChar, state_after, character_given, bad_given}
 use Rattle.utf8_cut.specs.Value.{CutState, between_characters, IsSoundCut, IsSoundWhen}
 use Rattle.utf8_cut.proofs.TableLemmas.{held_no_char, incomplete_is_held, ill_stays, ill_some}
-use Rattle.utf8_cut.proofs.CharactersLemmas.{Split, Split-end, Split-after, Split-characters, split_of, split_whole, characters_from-append, characters_from-encode, fault_after}
+use Rattle.utf8_cut.proofs.CharactersLemmas.{HasWholeCharacters, Split-end, Split-after, Split-characters, split_of, split_whole, characters_from-append, characters_from-encode, fault_after}
 use Rattle.std.specs.Option.{option_map}
 use lib.Utf8.{encode, low_scalar}
 
@@ -29,7 +29,7 @@ module _ (old : CutState) (taken : List ℕ) (given : List (ℕ × ℕ)) (stands
   rest = after_characters taken
 
   -- where the text and the rest of the bytes with some more are known
-  longer : (bytes more : List ℕ) → bytes ≡ taken ++ more → StartsWithNoChar (rest ++ more) → Split bytes whole (rest ++ more)
+  longer : (bytes more : List ℕ) → bytes ≡ taken ++ more → StartsWithNoChar (rest ++ more) → HasWholeCharacters bytes whole (rest ++ more)
   longer bytes more e n =
       let s = split_of taken in
       record { parts = e ∙ ap (λ l. l ++ more) s.parts ∙ append_assoc _ _ more; text = s.text; no_char = n }
@@ -133,7 +133,7 @@ module _ (cut : CutState) (taken : List ℕ) (given : List (ℕ × ℕ)) (more :
   continued_rest : (b : Bool) → cut.is_bad ≡ b → characters_from cut.start (after_characters taken ++ more) ≡ cond b [] (characters_from cut.start (cut.held ++ more))
   continued_rest true e =
       let ill = ill_stays _ more (rest_ill cut taken given stands e) in
-      let none : Split (after_characters taken ++ more) [] (after_characters taken ++ more) = record { parts = refl; text = IsUtf8-nil; no_char = ill.0 } in
+      let none : HasWholeCharacters (after_characters taken ++ more) [] (after_characters taken ++ more) = record { parts = refl; text = IsUtf8-nil; no_char = ill.0 } in
       Split-characters _ _ _ none cut.start ∙ ap (λ cs. with_offsets cut.start cs) chars-nil
   continued_rest false e = ap (λ l. characters_from cut.start (l ++ more)) (sym (held_is cut taken given stands e))
 
@@ -201,7 +201,7 @@ module _ (old : CutState) (byte : ℕ) (sound : IsSoundCut old) (between : old.s
 -- ---- the fault of the bytes with any further ones
 
 module _ (cut : CutState) (taken : List ℕ) (given : List (ℕ × ℕ)) (more : List ℕ) (stands : StandsFor cut taken given) where
-  bad_more : cut.is_bad ≡ true → Split (taken ++ more) (whole cut taken given stands) (after_characters taken ++ more) × IsIllFormed (after_characters taken ++ more)
+  bad_more : cut.is_bad ≡ true → HasWholeCharacters (taken ++ more) (whole cut taken given stands) (after_characters taken ++ more) × IsIllFormed (after_characters taken ++ more)
   bad_more e = let ill = ill_stays _ more (rest_ill cut taken given stands e) in (longer cut taken given stands (taken ++ more) more refl ill.0, ill)
 
   pub stays_bad : cut.is_bad ≡ true → ill_formed_at (taken ++ more) ≡ Some cut.start

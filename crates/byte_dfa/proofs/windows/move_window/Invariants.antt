@@ -1,13 +1,13 @@
 use Rattle.std.proofs.Common.{◌+◌, ◌-◌, ◌<◌, ◌≤◌}
 use Rattle.byte_dfa.specs.declared.moves.TheConstants.{STOP}
-use Rattle.byte_dfa.specs.Moves.{Leads}
+use Rattle.byte_dfa.specs.Moves.{MovesLead}
 use Rattle.byte_dfa.proofs.windows.move_window.Given as goal
 
 abbrev pub invariant-moves : goal.invariant-moves
 invariant-moves l = record {
   within : l.moves ≤ 12;
   below : 0 < l.moves → l.now < STOP;
-  leads : Leads l.cells l.piece l.at l.row (l.at + l.moves) l.now;
+  leads : MovesLead l.cells l.piece l.at l.row (l.at + l.moves) l.now;
 }
 
 abbrev pub decreases-moves : goal.decreases-moves

@@ -1,5 +1,5 @@
 use Rattle.std.proofs.Common.{◌+◌, length-set, subst, arith}
-use Rattle.byte_dfa.specs.Moves.{Leads}
+use Rattle.byte_dfa.specs.Moves.{MovesLead}
 use Rattle.byte_dfa.proofs.MoveLemmas.{follows-moved, follows-on}
 use Rattle.byte_dfa.proofs.windows.run_by_windows.Goals as goal
 
@@ -14,7 +14,7 @@ windows-preserved-then-row-guess c =
     let old = c.windows.cursor in
     let new = c.come_to-cursor.result in
     let is = c.come_to-cursor.ensures in
-    let window = subst (Leads cells piece old.at old.row (old.at + 12)) c.if-row-guess.true c.in-Some.ensures.leads in
+    let window = subst (MovesLead cells piece old.at old.row (old.at + 12)) c.if-row-guess.true c.in-Some.ensures.leads in
     record {
       guesses = i.guesses;
       follows = follows-on cells piece c.args.from old new i.follows (follows-moved cells piece old new (old.at + 12) _ i.follows.order window is.at is.row is.accepted);

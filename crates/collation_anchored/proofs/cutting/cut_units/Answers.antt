@@ -5,7 +5,7 @@ use Rattle.collation_elements.specs.ItemParts.{item_keys}
 use Rattle.collation_elements.specs.Windows.{next_cut}
 use Rattle.collation_anchored.specs.Anchored.{is_begun}
 use Rattle.collation_anchored.specs.Compared.{completed_among}
-use Rattle.collation_anchored.proofs.KeysSoFar.{Apart, came_on, came_apart}
+use Rattle.collation_anchored.proofs.KeysSoFar.{KeysDiffer, came_on, came_apart}
 use Rattle.collation_anchored.proofs.cutting.cut_units.Goals as goal
 
 pub loop-unit-preserved : goal.loop-unit-preserved
@@ -50,7 +50,7 @@ returns-then-not-alike-clause-differs g c = λ points more h ends answer.
     let ks = c.keys.ensures in
     let given = c.as_slice.ensures.value in
     let room : old.matched ≤ length c.keys.result.now = subst (λ (ps : List Key). old.matched ≤ length ps) (sym ks) before.within in
-    let apart : Apart table pattern new.completed (points ++ more) =
+    let apart : KeysDiffer table pattern new.completed (points ++ more) =
     came_apart table pattern c.loop-unit.window c.next_unit.new.self c.loop-unit.weigher c.take.new.self old new points more unit its before
     (c.in-Some.ensures.stands points before.units before.cut)
     (c.take.ensures.stands table unit before.units before.items c.in-Some.ensures.unit before.weighed)
@@ -76,7 +76,7 @@ returns-then-not-alike-clause-completed g c = λ points more h ends answer.
     let ks = c.keys.ensures in
     let given = c.as_slice.ensures.value in
     let room : old.matched ≤ length c.keys.result.now = subst (λ (ps : List Key). old.matched ≤ length ps) (sym ks) before.within in
-    let apart : Apart table pattern new.completed (points ++ more) =
+    let apart : KeysDiffer table pattern new.completed (points ++ more) =
     came_apart table pattern c.loop-unit.window c.next_unit.new.self c.loop-unit.weigher c.take.new.self old new points more unit its before
     (c.in-Some.ensures.stands points before.units before.cut)
     (c.take.ensures.stands table unit before.units before.items c.in-Some.ensures.unit before.weighed)

@@ -2,7 +2,7 @@ use Rattle.std.specs.Str.{chars, IsUtf8}
 use Rattle.std.specs.List.{FoldsTo}
 use Rattle.std.proofs.Common.{◌≡◌, ◌-◌, ◌≤◌, ℕ, List, ◌∷◌, length, take, drop}
 use Rattle.collation_letters.specs.Letters.{IsLetter}
-use Rattle.collation_finder.specs.Caches.{AreRight}
+use Rattle.collation_finder.specs.Caches.{IsCacheRight}
 use Rattle.collation_finder.specs.LetterRun.{HasComeTo}
 use Rattle.collation_walk.specs.Walks.{KeepsWalk}
 use Rattle.collation_finder.proofs.letter_loop.walk_letters.Given as goal
@@ -11,7 +11,7 @@ use Rattle.collation_finder.proofs.letter_loop.walk_letters.Given as goal
 abbrev pub invariant-characters : goal.invariant-characters
 invariant-characters g l = record {
   callable : goal.F-IsAlwaysCallable g l.sink;
-  right : AreRight (g.W.Weights.table l.query.table.now) l.query.pattern.now l.cache;
+  right : IsCacheRight (g.W.Weights.table l.query.table.now) l.query.pattern.now l.cache;
   keeps : KeepsWalk l.query.pattern.now l.fn.matcher.walk l.matcher.walk;
   forth : l.at ≤ l.end;
   ends : l.end ≤ length l.piece;

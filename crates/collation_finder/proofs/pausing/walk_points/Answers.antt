@@ -7,7 +7,7 @@ use Rattle.collation_elements.specs.Units.{units}
 use Rattle.collation_walk.specs.Walked.{HasWalkedOn}
 use Rattle.collation_walk.proofs.Folds.{folds-append}
 use Rattle.collation_walk.proofs.WalkSteps.{keeps-on}
-use Rattle.collation_finder.specs.Apart.{AreClosedHere, AreDecomposed}
+use Rattle.collation_finder.specs.TakenAtOnce.{AreClosedHere, AreDecomposed}
 use Rattle.collation_finder.proofs.CharacterLemmas.{on-none, on-more}
 use Rattle.collation_finder.proofs.PointLetters.{closed-one_point, closed-on}
 use Rattle.collation_finder.proofs.pausing.walk_points.Goals as goal

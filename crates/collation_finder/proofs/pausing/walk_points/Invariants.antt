@@ -4,7 +4,7 @@ use Rattle.collation_elements.specs.Units.{units}
 use Rattle.collation_letters.specs.Store.{AreLetters}
 use Rattle.collation_walk.specs.Walked.{HasWalkedOn}
 use Rattle.collation_walk.specs.Walks.{KeepsWalk}
-use Rattle.collation_finder.specs.Apart.{AreClosedHere, AreDecomposed}
+use Rattle.collation_finder.specs.TakenAtOnce.{AreClosedHere, AreDecomposed}
 use Rattle.collation_finder.proofs.pausing.walk_points.Given as goal
 
 -- the points so far were walked over, and the sink was called for the ranges so far

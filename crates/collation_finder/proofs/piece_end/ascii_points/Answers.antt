@@ -6,7 +6,7 @@ use Rattle.nfd_points.specs.declared.points.Point.{Point}
 use Rattle.nfd_points.specs.Points.{ascii_point}
 use Rattle.nfd_points.specs.Reordering.{IsSoundPoint, code_points, is_closed}
 use Rattle.collation_finder.proofs.AsciiLemmas.{ascii-more, closed-none, closed-one, points-more, short-none, short-one, sound-one}
-use Rattle.collation_finder.proofs.ApartLemmas.{from_none}
+use Rattle.collation_finder.proofs.TakenAtOnceLemmas.{from_none}
 use Rattle.collation_finder.proofs.piece_end.ascii_points.Goals as goal
 
 pub loop-len-init : goal.loop-len-init

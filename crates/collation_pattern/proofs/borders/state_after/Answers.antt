@@ -1,6 +1,6 @@
 use Rattle.std.proofs.Common.{arith, subst, sym, ◌∙◌}
 use Rattle.std.proofs.lemmas.Bool.{false≢true}
-use Rattle.collation_pattern.specs.Borders.{IsNext}
+use Rattle.collation_pattern.specs.Borders.{IsNextKey}
 use Rattle.collation_pattern.proofs.BorderLemmas.{IsCandidate, candidate-first, candidate-found, candidate-none, candidate-by_table, by_table-less}
 use Rattle.collation_pattern.proofs.borders.state_after.Goals as goal
 
@@ -18,7 +18,7 @@ returns-then-candidate-eq0 c =
     let at = c.if-candidate-eq0.true in
     candidate-none keys c.args.state c.args.key.now
     (subst (IsCandidate keys c.args.state c.args.key.now) at c.candidates.invariant.candidate)
-    (subst (λ n. IsNext keys n c.args.key.now → ⊥) at (λ next. false≢true (sym c.if-is_next.false ∙ c.is_next.ensures.1 next)))
+    (subst (λ n. IsNextKey keys n c.args.key.now → ⊥) at (λ next. false≢true (sym c.if-is_next.false ∙ c.is_next.ensures.1 next)))
 
 pub candidates-smaller : goal.candidates-smaller
 candidates-smaller c =
@@ -31,7 +31,7 @@ candidates-preserved c =
     let borders = c.args.borders.now in
     let i = c.candidates.candidate in
     let inv = c.candidates.invariant in
-    let other : IsNext keys i c.args.key.now → ⊥ = λ next. false≢true (sym c.if-is_next.false ∙ c.is_next.ensures.1 next) in
+    let other : IsNextKey keys i c.args.key.now → ⊥ = λ next. false≢true (sym c.if-is_next.false ∙ c.is_next.ensures.1 next) in
     let less = by_table-less keys borders i c.requires.borders inv.candidate.within c.if-candidate-eq0.false inv.known in
     record {
       candidate = candidate-by_table keys borders c.args.state c.args.key.now i c.requires.borders inv.candidate other c.if-candidate-eq0.false inv.known;

@@ -1,6 +1,6 @@
 use Rattle.std.proofs.Common.{◌∙◌, [], ◌∷◌, sym, ap}
 use Rattle.nfd_points.specs.Points.{begins_with_starter}
-use Rattle.collation_finder.proofs.ApartLemmas.{from_one}
+use Rattle.collation_finder.proofs.TakenAtOnceLemmas.{from_one}
 use Rattle.collation_search.proofs.feed.starter_comes_first.Goals as goal
 
 pub returns-else-is_ascii-clause-starter : goal.returns-else-is_ascii-clause-starter

@@ -3,7 +3,7 @@ use Rattle.std.proofs.Common.{rules, ◌≡◌, ◌∙◌, ℕ, ◌+◌, max, ta
 use Rattle.std.proofs.lemmas.List.{take_all}
 use Rattle.collation_matches.specs.declared.faults.TextFault.{TextFault}
 use Rattle.collation_matches.specs.Sought.{Sought}
-use Rattle.collation_search.specs.Resuming.{GoesOn}
+use Rattle.collation_search.specs.Resuming.{IsResumedFrom}
 use Rattle.collation_search.specs.Pieces.{joined, most_records_after, most_words, AreUnderWay, HasStates}
 use Rattle.collation_walk.proofs.Folds.{folds-append}
 use Rattle.collation_search.proofs.PieceLemmas.{told, most-more, under_way-begun, under_way-on, under_way-more, under_way-ends, has_states-more}
@@ -62,7 +62,7 @@ returns-clause-answer g c = λ text compiled.
     let words = c.loop-piece.words.items in
     let all = take_all c.loop-piece.piece-index c.args.pieces.now (omega (arith, c.loop-piece-test.false)) in
     let whole = subst (λ t. AreUnderWay g.W.Weights s words (joined t) before.0) all before.2 in
-    let goes_on = subst (λ (t : List ℕ). GoesOn c.in_ok-search.search s t) c.deref.ensures.value c.in_ok-search.ensures.goes_on in
+    let goes_on = subst (λ (t : List ℕ). IsResumedFrom c.in_ok-search.search s t) c.deref.ensures.value c.in_ok-search.ensures.goes_on in
     let on = under_way-on s words (joined c.args.pieces.now) before.0 c.in_ok-search.search goes_on whole in
     let found = c.finish.new.found.items in
     let end = c.finish.ensures.ended in

@@ -1,7 +1,7 @@
 -- A place more.
 use Rattle.std.proofs.Common.{◌≡◌, ◌+◌, ◌++◌, drop, length, vec_len, slice_get, Some, None, option_copied, sym, ap, ◌∙◌, arith}
 use Rattle.std.proofs.lemmas.List.{append-nil, length-append}
-use Rattle.collation_states.specs.State.{Place, place_words, place_record}
+use Rattle.collation_states.specs.State.{SavedPlace, place_words, place_record}
 use Rattle.collation_search.specs.State.{kept_places, saved_places}
 use Rattle.collation_search.proofs.SavingLemmas.{drop-some, drop-none, begins-more, record-first, on_err}
 use Rattle.collation_search.proofs.saving.append_places.Goals as goal
@@ -12,7 +12,7 @@ loop-place-preserved c =
     let at = c.loop-place.at in
     let place = c.in-Some.place.now in
     let here : slice_get places at ≡ Some place = sym c.get.ensures ∙ ap option_copied c.in-Some.is in
-    let saved : Place = record { start = place.start; is_first = place.is_first } in
+    let saved : SavedPlace = record { start = place.start; is_first = place.is_first } in
     let later = place_words (saved_places (drop (at + 1) places)) in
     let split : place_words (saved_places (drop at places)) ≡ place_record saved ++ later = ap (λ l. place_words (saved_places l)) (drop-some places at place here) in
     record {

@@ -1,7 +1,7 @@
 use Rattle.std.proofs.Common.{◌≡◌, ◌∙◌, ℕ, ◌+◌, ◌-◌, ◌≤◌, List, ◌++◌, length, take, replicate, cond, ap, ap₂, arith}
 use Rattle.std.specs.Prelude.{Result, Ok, Err, OnOk, is_ok}
 use Rattle.std.proofs.lemmas.List.{take_all}
-use Rattle.byte_dfa.specs.declared.cells.TheConstants.{ROW, UNKNOWN}
+use Rattle.byte_dfa.specs.declared.cells.TheConstants.{ROW, UNKNOWN_CELL}
 use Rattle.byte_dfa.proofs.cells.Cells.add_row.Goals as goal
 
 -- a list that was made longer
@@ -16,4 +16,4 @@ longer (Err e) new old all len room more filler items fits long same = tt
 
 pub returns-clause-ok : goal.returns-clause-ok
 returns-clause-ok c =
-    longer _ _ _ _ _ _ ROW UNKNOWN c.resize.ensures.items c.self.inside.cells.ok.0 (omega (arith, c.len-len.ensures)) c.self.view_is
+    longer _ _ _ _ _ _ ROW UNKNOWN_CELL c.resize.ensures.items c.self.inside.cells.ok.0 (omega (arith, c.len-len.ensures)) c.self.view_is

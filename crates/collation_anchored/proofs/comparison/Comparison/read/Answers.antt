@@ -10,7 +10,7 @@ use Rattle.collation_matches.proofs.LagTexts.{TextLaws}
 use Rattle.collation_matches.proofs.TextCheckLemmas.{good_end, cut_end, whole_of_good, first_fault-at}
 use Rattle.collation_anchored.specs.Answers.{begun_by}
 use Rattle.collation_anchored.specs.Compared.{completed}
-use Rattle.collation_anchored.specs.Comparing.{HasCompared, HasTaken}
+use Rattle.collation_anchored.specs.Comparing.{HasCompared, HasComparedBytes}
 use Rattle.collation_anchored.proofs.ComparedTexts.{good_at_fault, completed_text}
 use Rattle.collation_anchored.proofs.comparison.Comparison.read.Goals as goal
 
@@ -31,7 +31,7 @@ loop-byte-preserved g c =
     let before = c.loop-byte.invariant in
     let next = take_more text i 0 c.loop-byte-test.true in
     record {
-      taken = subst (λ (u : List ℕ). HasTaken (g.W.Weights.table c.args.table.now) c.args.pattern.now c.take.new.self u) (sym next)
+      taken = subst (λ (u : List ℕ). HasComparedBytes (g.W.Weights.table c.args.table.now) c.args.pattern.now c.take.new.self u) (sym next)
           (c.in-Ok.ensures.stands (take i text) before.taken (ap ok_of c.if-not-alike.false));
       longest = c.in-Ok.ensures.longest ∙ before.longest;
       same = c.in-Ok.ensures.longest ∙ before.same;

@@ -17,17 +17,17 @@ use Rattle.collation_anchored.proofs.GoodTexts.{codes_go_on}
 use Rattle.collation_anchored.proofs.NextCharacter.{next_character}
 use Rattle.collation_anchored.proofs.comparison.Comparison.take.Goals as goal
 
-pub returns-then-count-ge-MOST_BYTES-clause-fault : goal.returns-then-count-ge-MOST_BYTES-clause-fault
-returns-then-count-ge-MOST_BYTES-clause-fault g c = λ u more h.
+pub returns-then-count-ge-MOST_BYTES_COMPARED-clause-fault : goal.returns-then-count-ge-MOST_BYTES_COMPARED-clause-fault
+returns-then-count-ge-MOST_BYTES_COMPARED-clause-fault g c = λ u more h.
     let count = c.count.ensures.stands_for u (characters u) h.cut_stands in
-    let full : most_bytes ≤ length u = omega (arith, c.if-count-ge-MOST_BYTES.true) in
+    let full : most_bytes ≤ length u = omega (arith, c.if-count-ge-MOST_BYTES_COMPARED.true) in
     let start = c.held_start-offset.ensures.stands_for u (characters u) h.cut_stands in
     rw start (fault_by_length u c.args.byte more h.open_bytes full)
 
 pub returns-in-More-clause-stands : goal.returns-in-More-clause-stands
 returns-in-More-clause-stands g c = λ u h alike.
     let count = c.count.ensures.stands_for u (characters u) h.cut_stands in
-    let short : length u < most_bytes = omega (arith, c.if-count-ge-MOST_BYTES.false) in
+    let short : length u < most_bytes = omega (arith, c.if-count-ge-MOST_BYTES_COMPARED.false) in
     let stands = c.in-More.ensures.stands_for u (characters u) h.cut_stands in
     let codes = same_codes u c.args.byte (sym stands.characters_given) in
     let formed = c.in-More.ensures.bad u (characters u) h.cut_stands in
@@ -45,7 +45,7 @@ pub returns-in-Bad-clause-fault : goal.returns-in-Bad-clause-fault
 returns-in-Bad-clause-fault g c = λ u more h.
     let x = u ++ c.args.byte ∷ [] in
     let count = c.count.ensures.stands_for u (characters u) h.cut_stands in
-    let short : length u < most_bytes = omega (arith, c.if-count-ge-MOST_BYTES.false) in
+    let short : length u < most_bytes = omega (arith, c.if-count-ge-MOST_BYTES_COMPARED.false) in
     let state = c.in-Bad.ensures.state in
     let bad : c.push.new.self.is_bad ≡ true = ap (λ s. s.is_bad) state in
     let start : c.push.new.self.start ≡ c.in-Bad.offset = ap (λ s. s.start) state ∙ sym c.in-Bad.ensures.bad_start in
@@ -69,7 +69,7 @@ returns-in-Ok-clause-stands g c = λ u h alike.
     let alike_is : c.in-Ok.alike ≡ true = cc in
     let x = u ++ c.args.byte ∷ [] in
     let count = c.count.ensures.stands_for u (characters u) h.cut_stands in
-    let short : length u < most_bytes = omega (arith, c.if-count-ge-MOST_BYTES.false) in
+    let short : length u < most_bytes = omega (arith, c.if-count-ge-MOST_BYTES_COMPARED.false) in
     let known = next_character u c.args.byte c.in-Char.c c.in-Char.offset c.args.self.now.cut c.push.new.self h.cut_stands (c.in-Char.ensures.stands_for u (characters u) h.cut_stands)
     c.in-Char.ensures.char_start (c.whole_characters_are_the_longest_text.ensures.text u) (c.whole_characters_are_the_longest_text.ensures.within u)
     (λ more now. c.any_bytes_may_follow.ensures.begins c.push.new.self x more (characters x) now) in
@@ -91,7 +91,7 @@ returns-in-Ok-clause-differs g c = λ u more h apart.
     let text_laws = c.whole_characters_are_the_longest_text.ensures in
     let laws : TextLaws = record { text = text_laws.text; longest = text_laws.longest; within = text_laws.within; faults = c.laws_of_faults.ensures.following } in
     let count = c.count.ensures.stands_for u (characters u) h.cut_stands in
-    let short : length u < most_bytes = omega (arith, c.if-count-ge-MOST_BYTES.false) in
+    let short : length u < most_bytes = omega (arith, c.if-count-ge-MOST_BYTES_COMPARED.false) in
     let known = next_character u b c.in-Char.c c.in-Char.offset c.args.self.now.cut c.push.new.self h.cut_stands (c.in-Char.ensures.stands_for u (characters u) h.cut_stands)
     c.in-Char.ensures.char_start (text_laws.text u) (text_laws.within u)
     (λ later now. c.any_bytes_may_follow.ensures.begins c.push.new.self x later (characters x) now) in
@@ -115,7 +115,7 @@ returns-in-Ok-clause-completed g c = λ u more h apart.
     let text_laws = c.whole_characters_are_the_longest_text.ensures in
     let laws : TextLaws = record { text = text_laws.text; longest = text_laws.longest; within = text_laws.within; faults = c.laws_of_faults.ensures.following } in
     let count = c.count.ensures.stands_for u (characters u) h.cut_stands in
-    let short : length u < most_bytes = omega (arith, c.if-count-ge-MOST_BYTES.false) in
+    let short : length u < most_bytes = omega (arith, c.if-count-ge-MOST_BYTES_COMPARED.false) in
     let known = next_character u b c.in-Char.c c.in-Char.offset c.args.self.now.cut c.push.new.self h.cut_stands (c.in-Char.ensures.stands_for u (characters u) h.cut_stands)
     c.in-Char.ensures.char_start (text_laws.text u) (text_laws.within u)
     (λ later now. c.any_bytes_may_follow.ensures.begins c.push.new.self x later (characters x) now) in
@@ -134,7 +134,7 @@ returns-in-Err-clause-fault g c = λ u more h.
     let b = c.args.byte in
     let x = u ++ b ∷ [] in
     let count = c.count.ensures.stands_for u (characters u) h.cut_stands in
-    let short : length u < most_bytes = omega (arith, c.if-count-ge-MOST_BYTES.false) in
+    let short : length u < most_bytes = omega (arith, c.if-count-ge-MOST_BYTES_COMPARED.false) in
     let known = next_character u b c.in-Char.c c.in-Char.offset c.args.self.now.cut c.push.new.self h.cut_stands (c.in-Char.ensures.stands_for u (characters u) h.cut_stands)
     c.in-Char.ensures.char_start (c.whole_characters_are_the_longest_text.ensures.text u) (c.whole_characters_are_the_longest_text.ensures.within u)
     (λ later now. c.any_bytes_may_follow.ensures.begins c.push.new.self x later (characters x) now) in

@@ -1,6 +1,6 @@
 use Rattle.std.specs.Str.{chars}
 use Rattle.std.proofs.Common.{◌+◌, take, arith}
-use Rattle.collation_finder.proofs.SkipSteps.{Laws, begins-whole, goes-on, some-passed}
+use Rattle.collation_finder.proofs.SkipSteps.{BorderAndSymbolLaws, begins-whole, goes-on, some-passed}
 use Rattle.collation_finder.proofs.cache.Cache.skip.Goals as goal
 
 pub returns-clause-skips : goal.returns-clause-skips
@@ -10,7 +10,7 @@ returns-clause-skips g c =
     let s = c.in-Some.passed in
     let e = c.in-Some.ensures.passes in
     let within = e.within in
-    let laws : Laws = record { go_on = c.laws_of_borders.ensures.go_on; foreign = c.laws_of_symbols.ensures.foreign; one = c.laws_of_symbols.ensures.one } in
+    let laws : BorderAndSymbolLaws = record { go_on = c.laws_of_borders.ensures.go_on; foreign = c.laws_of_symbols.ensures.foreign; one = c.laws_of_symbols.ensures.one } in
     let cs = some-passed table pattern c.args.offset (c.args.offset + s.start) s.next (chars (take s.end c.args.piece.now)) (e.passed c.args.offset) in
     let begun = begins-whole c.args.piece.now s.end c.args.first cs.0 cs.1 (omega (arith, within)) e.text cs.2 c.requires.first.0 c.requires.first.1 in
     record {

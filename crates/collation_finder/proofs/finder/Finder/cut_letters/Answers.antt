@@ -11,7 +11,7 @@ use Rattle.nfd_points.specs.Laws.{PointsAreDecomposed, WaitingAreOthers}
 use Rattle.collation_table.specs.Table.{TableMap}
 use Rattle.collation_pattern.specs.Compiled.{Compiled}
 use Rattle.collation_finder.specs.declared.finder.Finder.{Finder}
-use Rattle.collation_finder.specs.Apart.{IsDecomposed, AreDecomposed}
+use Rattle.collation_finder.specs.TakenAtOnce.{IsDecomposed, AreDecomposed}
 use Rattle.collation_finder.specs.Finding.{FinderStandsFor}
 use Rattle.collation_finder.specs.Matching.{HasMatched}
 use Rattle.collation_finder.proofs.AsciiLemmas.{closed-none, short-none}

@@ -4,7 +4,7 @@ use Rattle.std.proofs.lemmas.Str.{IsAscii-append}
 use Rattle.collation_table.proofs.OverlayLemmas.{take-at}
 use Rattle.nfd_points.specs.declared.points.Point.{Point}
 use Rattle.nfd_points.specs.Points.{points_from}
-use Rattle.collation_finder.proofs.ApartLemmas.{from_none}
+use Rattle.collation_finder.proofs.TakenAtOnceLemmas.{from_none}
 use Rattle.collation_finder.proofs.AsciiLemmas.{ascii-one, points-push}
 use Rattle.collation_finder.proofs.finder.Finder.held_ascii.Goals as goal
 

@@ -2,9 +2,9 @@ use Rattle.std.proofs.Common.{◌∙◌, ◌+◌, ◌-◌, ◌≤◌, length, sl
 use Rattle.std.proofs.lemmas.Bool.{not-false}
 use Rattle.std.proofs.lemmas.List.{length-append}
 use Rattle.nfd_points.specs.Points.{begins_with_starter}
-use Rattle.collation_finder.proofs.ApartLemmas.{begun}
+use Rattle.collation_finder.proofs.TakenAtOnceLemmas.{begun}
 use Rattle.collation_finder.proofs.CharacterLemmas.{apart-at}
-use Rattle.collation_finder.proofs.Untaken.{Laws, passes-short}
+use Rattle.collation_finder.proofs.Untaken.{ShortPassLaws, passes-short}
 use Rattle.collation_finder.proofs.finder.Finder.pass_short.Goals as goal
 
 pub overflow_sub-start : goal.overflow_sub-start
@@ -36,7 +36,7 @@ overflow_add-result g c =
 
 pub returns-clause-passes : goal.returns-clause-passes
 returns-clause-passes g c =
-    let laws : Laws = record {
+    let laws : ShortPassLaws = record {
       letters = c.laws_of_characters.ensures;
       cuts = c.laws_of_points.ensures.cuts;
       others = c.laws_of_reordering.ensures.others;

@@ -8,8 +8,8 @@ use Rattle.unicode_normalization.specs.StreamSafe.{has_short_runs}
 use Rattle.collation_finder.specs.Matching.{HasMatched}
 use Rattle.collation_finder.specs.Taking.{StandsPaused, StandsPausedBefore}
 use Rattle.collation_finder.proofs.MatchingLemmas.{matched-first, all-among, among-pushed}
-use Rattle.collation_finder.specs.Apart.{EndsBefore}
-use Rattle.collation_finder.proofs.ApartLemmas.{begun, ends_here}
+use Rattle.collation_finder.specs.TakenAtOnce.{EndsBefore}
+use Rattle.collation_finder.proofs.TakenAtOnceLemmas.{begun, ends_here}
 use Rattle.collation_finder.proofs.PauseLemmas.{first_given, matched-afresh}
 use Rattle.collation_elements.specs.Decided.{left_points}
 use Rattle.collation_finder.proofs.EarlyLemmas.{final-more, cut-pushed, cut-afresh, cut-wider}

@@ -12,9 +12,9 @@ use Rattle.nfd_points.specs.Reordering.{HasReordered, IsSoundPoint, code_points,
 use Rattle.collation_elements.specs.Decided.{left_points}
 use Rattle.collation_finder.specs.Early.{IsCutUpTo}
 use Rattle.collation_finder.specs.Matching.{HasMatched}
-use Rattle.collation_finder.specs.Apart.{EndsBefore}
+use Rattle.collation_finder.specs.TakenAtOnce.{EndsBefore}
 use Rattle.collation_finder.specs.Taking.{StandsPaused, StandsPausedBefore}
-use Rattle.collation_finder.proofs.ApartLemmas.{begun, ends_here, from_first}
+use Rattle.collation_finder.proofs.TakenAtOnceLemmas.{begun, ends_here, from_first}
 use Rattle.collation_finder.proofs.AsciiLemmas.{first-of, first-taken, given-ascii, given-front}
 use Rattle.collation_finder.proofs.EarlyLemmas.{final-more, cut-afresh, cut-pushed, cut-wider}
 use Rattle.collation_finder.proofs.MatchingLemmas.{matched-first, all-among, among-pushed}

@@ -6,7 +6,7 @@ use Rattle.unicode_normalization.specs.StreamSafe.{has_short_runs}
 use Rattle.nfd_points.specs.Points.{byte_len, points_of, begins_with_starter}
 use Rattle.nfd_points.specs.Reordering.{IsSoundPoint, code_points, is_closed}
 use Rattle.collation_walk.specs.declared.walk.Walk.{Walk}
-use Rattle.collation_finder.specs.Apart.{IsPausedBefore}
+use Rattle.collation_finder.specs.TakenAtOnce.{IsPausedBefore}
 use Rattle.collation_finder.specs.Early.{IsCutUpTo}
 use Rattle.collation_finder.specs.Finding.{FinderStandsFor}
 use Rattle.collation_finder.specs.LetterRun.{StandsInFront}

@@ -1,6 +1,6 @@
 -- The records of the state, one group after the other.
 use Rattle.std.proofs.Common.{◌++◌, sym, ap, ◌∙◌}
-use Rattle.collation_states.specs.Saving.{BeginsWith}
+use Rattle.collation_states.specs.Saving.{AreWordsAppended}
 use Rattle.collation_states.specs.State.{place_words, point_words}
 use Rattle.collation_finder.specs.declared.finder.Finder.{Finder}
 use Rattle.collation_matches.specs.Sought.{seeking}
@@ -21,7 +21,7 @@ pub returns-in_err-append_places-clause-begun : goal.returns-in_err-append_place
 returns-in_err-append_places-clause-begun g c =
     let w0 = c.args.words.now.items in
     let w1 = c.append_head.new.words.items in
-    on_err c.from_residual-in_err-append_places.result (BeginsWith w0 c.append_places.new.words.items)
+    on_err c.from_residual-in_err-append_places.result (AreWordsAppended w0 c.append_places.new.words.items)
     (begins-through w0 w1 c.append_places.new.words.items (begins-more w0 w0 w1 _ (begins-all w0) c.in_ok-append_head.ensures.saved) c.in_err-append_places.ensures.begun)
 
 pub returns-in_err-append_window-clause-begun : goal.returns-in_err-append_window-clause-begun
@@ -29,7 +29,7 @@ returns-in_err-append_window-clause-begun g c =
     let w0 = c.args.words.now.items in
     let w1 = c.append_head.new.words.items in
     let w2 = c.append_places.new.words.items in
-    on_err c.from_residual-in_err-append_window.result (BeginsWith w0 c.append_window.new.words.items)
+    on_err c.from_residual-in_err-append_window.result (AreWordsAppended w0 c.append_window.new.words.items)
     (begins-through w0 w2 c.append_window.new.words.items
     (begins-more w0 w1 w2 _ (begins-more w0 w0 w1 _ (begins-all w0) c.in_ok-append_head.ensures.saved) c.in_ok-append_places.ensures.saved)
     c.in_err-append_window.ensures.begun)
@@ -40,7 +40,7 @@ returns-in_err-append_points-clause-begun g c =
     let w1 = c.append_head.new.words.items in
     let w2 = c.append_places.new.words.items in
     let w3 = c.append_window.new.words.items in
-    on_err c.from_residual-in_err-append_points.result (BeginsWith w0 c.append_points.new.words.items)
+    on_err c.from_residual-in_err-append_points.result (AreWordsAppended w0 c.append_points.new.words.items)
     (begins-through w0 w3 c.append_points.new.words.items
     (begins-more w0 w2 w3 _
     (begins-more w0 w1 w2 _ (begins-more w0 w0 w1 _ (begins-all w0) c.in_ok-append_head.ensures.saved) c.in_ok-append_places.ensures.saved)

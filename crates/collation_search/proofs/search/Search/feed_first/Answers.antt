@@ -2,7 +2,7 @@ use Rattle.std.specs.Prelude.{Result, Option, Some, None, Ok, Err}
 use Rattle.std.proofs.Common.{◌≡◌, ◌∙◌, ◌+◌, ◌-◌, ◌<◌, ℕ, List, [], length, take, drop, slice_get, sym, ap, subst, arith}
 use Rattle.std.proofs.lemmas.List.{take_all, take_rest, length-drop}
 use Rattle.collation_matches.specs.declared.faults.TextFault.{TextFault}
-use Rattle.collation_search.specs.Feeding.{Takes, fault_of}
+use Rattle.collation_search.specs.Feeding.{TakesPart, fault_of}
 use Rattle.collation_search.specs.Indexing.{range_or_fault, first_range}
 use Rattle.collation_search.proofs.FeedLemmas.{takes-append, takes-none, feeds-of, none_or_some}
 use Rattle.collation_search.proofs.FirstLemmas.{letters-on, byte-on, first-within, fault-within, none-taken}
@@ -28,7 +28,7 @@ ok_of range = Ok range
 
 -- the letters behind the bytes so far were taken
 letters : (g : given.Over) (c : After-letters_to_first-len g) →
-    Takes c.args.self.now c.reach-reach.result (take (c.parts.at + c.letters_to_first-len.result.0) c.args.piece.now) (Ok tt) c.letters_to_first-len.ensures.taken.0 c.letters_to_first-len.new.self
+    TakesPart c.args.self.now c.reach-reach.result (take (c.parts.at + c.letters_to_first-len.result.0) c.args.piece.now) (Ok tt) c.letters_to_first-len.ensures.taken.0 c.letters_to_first-len.new.self
 letters g c =
     let l = c.parts in
     let piece = c.args.piece.now in
@@ -55,14 +55,14 @@ returns-then-at-piece-clause-none g c = λ u h told.
     (ap (λ (o : Option (ℕ × ℕ)). range_or_fault o None) (sym run.ensures.taken.2 ∙ c.in-None.is)) in
     let all = take_all at piece (omega (arith, c.if-at-piece.true)) in
     let fed = feeds-of (state_laws c.decided_units_stay.ensures.begin c.laws_of_reordering.ensures.last c.laws_of_reordering.ensures.others) c.laws_of_decompositions.ensures.short c.decided_units_stay.ensures.early
-    old now reach piece (Ok tt) [] c.reach-reach.ensures.enough (subst (λ (t : List ℕ). Takes old reach t (Ok tt) [] now) all taken) in
+    old now reach piece (Ok tt) [] c.reach-reach.ensures.enough (subst (λ (t : List ℕ). TakesPart old reach t (Ok tt) [] now) all taken) in
     fed.stands u [] h
 
 -- ---- a byte
 
 -- the byte behind them was taken
 byte : (g : given.Over) (c : After-range_or_fault g) →
-    Takes c.args.self.now c.reach-reach.result (take ((c.parts.at + c.letters_to_first-len.result.0) + 1) c.args.piece.now) c.step_on-stepped.result c.step_on-stepped.new.found.items c.step_on-stepped.new.self
+    TakesPart c.args.self.now c.reach-reach.result (take ((c.parts.at + c.letters_to_first-len.result.0) + 1) c.args.piece.now) c.step_on-stepped.result c.step_on-stepped.new.found.items c.step_on-stepped.new.self
 byte g c =
     let l = c.parts in
     let old = c.args.self.now in

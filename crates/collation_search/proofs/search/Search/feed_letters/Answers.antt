@@ -10,14 +10,14 @@ use Rattle.collation_search.specs.Early.{IsCutUpTo}
 use Rattle.collation_search.proofs.FeedLemmas.{takes-kept, takes-good}
 use Rattle.collation_search.proofs.FinderLemmas.{ready}
 use Rattle.collation_search.proofs.CharactersTaken.{taken-text, offset-whole}
-use Rattle.collation_search.specs.Feeding.{Takes}
+use Rattle.collation_search.specs.Feeding.{TakesPart}
 use Rattle.collation_search.proofs.search.Search.feed_letters.Goals as goal
 use Rattle.collation_search.proofs.search.Search.feed_letters.Goals.{then-reach-eq0-via-then-reach-eq0, then-reach-eq0-via-else-reach-eq0+then-held_start-count, then-reach-eq0-via-else-reach-eq0+else-held_start-count+then-count-piece}
 
 pub returns-then-reach-eq0-clause-taken : goal.returns-then-reach-eq0-clause-taken
 returns-then-reach-eq0-clause-taken g c =
     let none = c.requires.none in
-    let same : Takes c.args.self.now c.args.reach [] (Ok tt) [] c.then-reach-eq0.self = elim c.then-reach-eq0.branch [
+    let same : TakesPart c.args.self.now c.args.reach [] (Ok tt) [] c.then-reach-eq0.self = elim c.then-reach-eq0.branch [
       | then-reach-eq0-via-then-reach-eq0 w ↦ takes-kept c.args.self.now _ _ c.args.reach w.self-is none none refl (λ place u handed h. h)
       | then-reach-eq0-via-else-reach-eq0+then-held_start-count w ↦ takes-kept c.args.self.now _ _ c.args.reach w.self-is none none refl (λ place u handed h. h)
       | then-reach-eq0-via-else-reach-eq0+else-held_start-count+then-count-piece w ↦ takes-kept c.args.self.now _ _ c.args.reach w.self-is none none refl (λ place u handed h. h)

@@ -4,7 +4,7 @@ use Rattle.std.proofs.Common.{◌≡◌, ◌∙◌, ◌+◌, ℕ, suc, List, [],
 use Rattle.std.proofs.Math.Seq.{split_at, take-add}
 use Rattle.std.proofs.lemmas.List.{take_more, take_all, take_rest, length-drop, length-take-le}
 use Rattle.std.proofs.lemmas.Option.{none-some}
-use Rattle.collation_search.specs.Feeding.{Takes}
+use Rattle.collation_search.specs.Feeding.{TakesPart}
 use Rattle.collation_walk.proofs.Folds.{folds-append}
 use Rattle.collation_search.proofs.FeedLemmas.{takes-append, takes-stop, feeds-of, feeds-reported}
 use Rattle.collation_search.proofs.StateLemmas.{state_laws}
@@ -25,7 +25,7 @@ returns-in-Err-clause-fed g c =
     let both = takes-append c.args.self.now c.loop-at.self c.step_on.new.self reach 0 reach (take i piece) (b ∷ []) (Err c.in-Err.fault) before.0 found (λ some. omega arith) (λ some. absurd (omega (arith, some))) before.2 c.in-Err.ensures.takes in
     let all = takes-stop c.args.self.now c.step_on.new.self reach (take i piece ++ b ∷ []) (drop (suc i) piece) c.in-Err.fault (before.0 ++ found) both in
     let whole_piece : (take i piece ++ b ∷ []) ++ drop (suc i) piece ≡ piece = append_assoc (take i piece) (b ∷ []) (drop (suc i) piece) ∙ sym (split_at piece i 0 c.loop-at-test.true) in
-    let piece_taken = subst (λ t. Takes c.args.self.now reach t (Err c.in-Err.fault) (before.0 ++ found) c.step_on.new.self) whole_piece all in
+    let piece_taken = subst (λ t. TakesPart c.args.self.now reach t (Err c.in-Err.fault) (before.0 ++ found) c.step_on.new.self) whole_piece all in
     let calls = subst (λ (t : List (ℕ × ℕ)). FoldsTo (λ f range t'. goal.F-step g f range.0 range.1 tt t') c.loop-at.sink t c.hand_out-in-Err.new.sink) c.as_slice-in-Err.ensures.value c.hand_out-in-Err.ensures.called in (
       before.0 ++ found,
       folds-append (λ f range t. goal.F-step g f range.0 range.1 tt t) c.args.sink.now before.0 found c.loop-at.sink c.hand_out-in-Err.new.sink before.1 calls,
@@ -62,8 +62,8 @@ loop-at-preserved g c =
     let run = c.feed_letters-at-in-loop-at.ensures.taken in
     let last = c.feed_letters-at-in-loop-at.new.self in
     let others = take_rest piece (i + 1) in
-    let taken = subst (λ (t : List ℕ). Takes now later (take n t) (Ok tt) run.0 last) others run.2 in
-    let both = subst (λ t. Takes c.args.self.now reach t (Ok tt) (before.0 ++ found) now) (sym (take_more piece i 0 c.loop-at-test.true))
+    let taken = subst (λ (t : List ℕ). TakesPart now later (take n t) (Ok tt) run.0 last) others run.2 in
+    let both = subst (λ t. TakesPart c.args.self.now reach t (Ok tt) (before.0 ++ found) now) (sym (take_more piece i 0 c.loop-at-test.true))
     (takes-append c.args.self.now c.loop-at.self now reach 0 reach (take i piece) (b ∷ []) (Ok tt) before.0 found (λ some. omega arith) (λ some. absurd (omega (arith, some))) before.2 c.in-Ok.ensures.takes) in
     let long = length-take-le (i + 1) piece (omega (arith, c.loop-at-test.true)) in
     let all = takes-append c.args.self.now now last reach later reach (take (i + 1) piece) (take n (drop (i + 1) piece)) (Ok tt) (before.0 ++ found) run.0 (λ some. omega arith)
@@ -76,7 +76,7 @@ loop-at-preserved g c =
       taken = (
         (before.0 ++ found) ++ run.0,
         folds-append (λ f range t. goal.F-step g f range.0 range.1 tt t) c.args.sink.now (before.0 ++ found) run.0 c.hand_out.new.sink c.feed_letters-at-in-loop-at.new.sink so_far run.1,
-        subst (λ t. Takes c.args.self.now reach t (Ok tt) ((before.0 ++ found) ++ run.0) last) (sym (take-add (i + 1) n piece)) all,
+        subst (λ t. TakesPart c.args.self.now reach t (Ok tt) ((before.0 ++ found) ++ run.0) last) (sym (take-add (i + 1) n piece)) all,
       );
     }
 
@@ -88,7 +88,7 @@ returns-clause-fed g c =
       before.0,
       before.1,
       feeds-of (state_laws c.decided_units_stay.ensures.begin c.laws_of_reordering.ensures.last c.laws_of_reordering.ensures.others) c.laws_of_decompositions.ensures.short c.decided_units_stay.ensures.early
-          c.args.self.now c.loop-at.self reach c.args.piece.now (Ok tt) before.0 c.reach-reach.ensures.enough (subst (λ t. Takes c.args.self.now reach t (Ok tt) before.0 c.loop-at.self) all before.2),
+          c.args.self.now c.loop-at.self reach c.args.piece.now (Ok tt) before.0 c.reach-reach.ensures.enough (subst (λ t. TakesPart c.args.self.now reach t (Ok tt) before.0 c.loop-at.self) all before.2),
     )
 
 -- no fault was reported so far

@@ -8,7 +8,7 @@ use Rattle.collation_elements.specs.Clusters.{clusters_from}
 use Rattle.collation_elements.specs.Items.{items}
 use Rattle.collation_matches.specs.ByClusters.{text_begin, found}
 use Rattle.collation_matches.specs.GoodPrefix.{whole}
-use Rattle.collation_matches.specs.Lag.{IsUnderWay}
+use Rattle.collation_matches.specs.Lag.{HasReadClusters}
 use Rattle.collation_search.specs.Search.{sought}
 use Rattle.collation_matches.proofs.LagTexts.{TextLaws}
 use Rattle.collation_search.proofs.SearchAnswers.{has_key}
@@ -48,7 +48,7 @@ returns-clause-in_time g c = λ text u later handed range compiled h late there.
     let walked = m.went.walked in
     let given : items s.table s.pattern.strength s.pattern.variable false m.units ≡ m.went.items =
     sym (m.went.weighed.items ∙ ap (λ t. items s.table t search.finder.value.matcher.weigher.variable false m.units) m.went.strength ∙ ap (λ v. items s.table s.pattern.strength v false m.units) m.went.variable) in
-    let under_way : IsUnderWay s.table s.pattern.strength s.pattern.variable (chars (whole u)) search.finder.value.reorder search.finder.value.window walked.before walked.current =
+    let under_way : HasReadClusters s.table s.pattern.strength s.pattern.variable (chars (whole u)) search.finder.value.reorder search.finder.value.window walked.before walked.current =
     record {
       given = h.found.points;
       units = m.units;

@@ -1,6 +1,6 @@
 use Rattle.std.proofs.Common.{◌∙◌, [], rules, refl, sym, ap, subst, arith}
 use Rattle.std.proofs.lemmas.Str.{chars-nil}
-use Rattle.collation_finder.specs.Caches.{AreRight}
+use Rattle.collation_finder.specs.Caches.{IsCacheRight}
 use Rattle.collation_finder.specs.Finding.{FinderStandsFor}
 use Rattle.collation_finder.specs.declared.cache.Cache.{Cache}
 use Rattle.collation_finder.specs.declared.finder.Finder.{Finder}
@@ -10,7 +10,7 @@ use Rattle.collation_search.proofs.search.Search.new_with.Goals as goal
 pub invariant_of-result-2-clause-right : goal.invariant_of-result-2-clause-right
 invariant_of-result-2-clause-right g c =
     let table = g.W.Weights.table c.args.table.now in
-    subst (λ (k : Cache). AreRight table c.args.pattern.now k) (sym c.in_ok-new-2.ensures.ok) (c.in_ok-cache.ensures.right table c.args.pattern.now)
+    subst (λ (k : Cache). IsCacheRight table c.args.pattern.now k) (sym c.in_ok-new-2.ensures.ok) (c.in_ok-cache.ensures.right table c.args.pattern.now)
 
 pub returns-clause-stands : goal.returns-clause-stands
 returns-clause-stands g c =

@@ -6,7 +6,7 @@ use Rattle.collation_matches.specs.Sought.{Sought, seeking}
 use Rattle.collation_states.specs.declared.states.Sizes.{Sizes}
 use Rattle.collation_states.specs.StateTests.{state_fault}
 use Rattle.collation_states.specs.Reading.{state_in, Says}
-use Rattle.collation_search.specs.Resuming.{GoesOn}
+use Rattle.collation_search.specs.Resuming.{IsResumedFrom}
 use Rattle.collation_search.specs.Search.{sought}
 use Rattle.collation_search.specs.State.{sizes_of}
 use Rattle.collation_search.proofs.SavedState.{SavedLaws}
@@ -38,4 +38,4 @@ returns-clause-goes_on g c =
     let same = c.begin_again.ensures.sought in
     let select = ap (λ (r : Sizes). r.select) sizes ∙ sym (ap (λ (t : Sought). t.select) same) in
     let says = subst (λ (x : Select). Says c.in_ok-state.state (state_in x words)) select c.in_ok-state.ensures.says in
-    subst (λ (t : Sought). GoesOn c.go_on_from.new.self t words) same (c.go_on_from.ensures.goes_on words says)
+    subst (λ (t : Sought). IsResumedFrom c.go_on_from.new.self t words) same (c.go_on_from.ensures.goes_on words says)

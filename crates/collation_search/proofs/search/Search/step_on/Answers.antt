@@ -3,7 +3,7 @@ use Rattle.std.specs.Str.{chars}
 use Rattle.std.proofs.Common.{◌≡◌, ◌∙◌, ℕ, List, [], ◌∷◌, ◌++◌, ap, sym, subst, refl, rules, arith}
 use Rattle.collation_table.specs.Table.{longest_mapped}
 use Rattle.collation_matches.specs.GoodPrefix.{whole}
-use Rattle.collation_search.specs.Feeding.{Takes}
+use Rattle.collation_search.specs.Feeding.{TakesPart}
 use Rattle.collation_search.specs.Search.{HasTaken, sought}
 use Rattle.collation_matches.specs.Sought.{Sought}
 use Rattle.collation_finder.specs.declared.finder.Finder.{Finder}
@@ -17,7 +17,7 @@ use Rattle.collation_search.proofs.search.Search.step_on.Goals as goal
 
 pub returns-in-Some-clause-takes : goal.returns-in-Some-clause-takes
 returns-in-Some-clause-takes g c =
-    subst (λ (t : List (ℕ × ℕ)). Takes c.args.self.now 0 (c.args.byte ∷ []) (Err c.in-Some.fault) t c.args.self.now) (sym c.clear.ensures)
+    subst (λ (t : List (ℕ × ℕ)). TakesPart c.args.self.now 0 (c.args.byte ∷ []) (Err c.in-Some.fault) t c.args.self.now) (sym c.clear.ensures)
     (takes-reported c.args.self.now 0 (c.args.byte ∷ []) c.in-Some.fault c.in-Some.is)
 
 pub returns-in-Ok-clause-takes : goal.returns-in-Ok-clause-takes

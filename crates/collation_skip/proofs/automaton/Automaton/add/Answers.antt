@@ -2,15 +2,15 @@ use Rattle.std.proofs.Common.{◌≡◌, ◌∙◌, true, false, List, [], ◌�
 use Rattle.std.specs.Prelude.{Result, Ok, Err, is_err, OnOk, OnErr}
 use Rattle.collation_skip.specs.declared.automaton.Automaton.{Automaton}
 use Rattle.collation_skip.specs.declared.state.State.{State}
-use Rattle.collation_skip.specs.Rows.{AreRight}
+use Rattle.collation_skip.specs.Rows.{AreRowsRight}
 use Rattle.collation_skip.proofs.RowLemmas.{got-last, right-same, right-added, row-more}
 use Rattle.collation_skip.proofs.automaton.Automaton.add.Goals as goal
 use Rattle.collation_skip.proofs.automaton.Automaton.add.Goals.{then-number-ge-MOST_STATES-via-then-number-ge-MOST_STATES, then-number-ge-MOST_STATES-via-else-number-ge-MOST_STATES+then-is_err}
 
 pub returns-then-number-ge-MOST_STATES-clause-right : goal.returns-then-number-ge-MOST_STATES-clause-right
 returns-then-number-ge-MOST_STATES-clause-right c = λ table pattern right. elim c.then-number-ge-MOST_STATES.branch [
-  | then-number-ge-MOST_STATES-via-then-number-ge-MOST_STATES w ↦ subst (λ (a : Automaton). AreRight table pattern a) (sym w.self-is) right
-  | then-number-ge-MOST_STATES-via-else-number-ge-MOST_STATES+then-is_err w ↦ subst (λ (a : Automaton). AreRight table pattern a) (sym w.self-is)
+  | then-number-ge-MOST_STATES-via-then-number-ge-MOST_STATES w ↦ subst (λ (a : Automaton). AreRowsRight table pattern a) (sym w.self-is) right
+  | then-number-ge-MOST_STATES-via-else-number-ge-MOST_STATES+then-is_err w ↦ subst (λ (a : Automaton). AreRowsRight table pattern a) (sym w.self-is)
       (right-same table pattern c.args.self.now (record c.args.self.now { states = w.reserve.new.self }) refl w.reserve.ensures.items right)
 ]
 

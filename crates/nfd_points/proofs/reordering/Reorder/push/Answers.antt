@@ -9,7 +9,7 @@ use Rattle.nfd_points.specs.Reordering.{code_points, IsHeld, IsSoundPoint, is_cl
 use Rattle.nfd_points.proofs.DecompositionLemmas.{decomposition-decompose}
 use Rattle.nfd_points.proofs.RunLemmas.{fault_of_code_point-parts, part_fault-none, short-nil}
 use Rattle.nfd_points.proofs.ReorderingLemmas.{is_closed-nil, stops}
-use Rattle.nfd_points.proofs.PushLemmas.{IsPushed, IsPushed-parts, IsPushed-all, IsPushed-carries, plain-pushed, plain-given, plain-short, plain-fault, plain-sound}
+use Rattle.nfd_points.proofs.PushLemmas.{PushGives, IsPushed-parts, IsPushed-all, IsPushed-carries, plain-pushed, plain-given, plain-short, plain-fault, plain-sound}
 use Rattle.nfd_points.proofs.AfreshLemmas.{afresh, first-good}
 use Rattle.nfd_points.proofs.GivenRunLemmas.{short-given}
 use Rattle.nfd_points.proofs.reordering.Reorder.push.Goals as goal
@@ -29,7 +29,7 @@ take-requires-clause-sound c =
 pub returns-then-is_plain-clause-fault : goal.returns-then-is_plain-clause-fault
 returns-then-is_plain-clause-fault c = plain-fault _ c.args.c (c.is_plain.ensures.plain c.if-is_plain.true)
 
-plain_pushed : (c : goal.After-take) → IsPushed c.args.self.now.held c.args.offset c.args.c c.take.new.self.held c.take.new.out.items
+plain_pushed : (c : goal.After-take) → PushGives c.args.self.now.held c.args.offset c.args.c c.take.new.self.held c.take.new.out.items
 plain_pushed c =
     let plain = c.is_plain.ensures.plain c.if-is_plain.true in
     plain-pushed c.args.self.now.held c.take.new.self.held c.empty.new.out.items c.take.new.out.items c.args.offset c.args.c plain

@@ -5,12 +5,12 @@ use Rattle.nfd_points.specs.declared.points.Point.{Point}
 use Rattle.nfd_points.specs.Points.{byte_len, points_of, points_from, begins_with_starter, ordered}
 use Rattle.collation_table.specs.Table.{TableMap}
 use Rattle.collation_elements.specs.Units.{units}
-use Rattle.collation_finder.specs.Apart.{AreApart, IsNext}
+use Rattle.collation_finder.specs.TakenAtOnce.{CanBeTakenAtOnce, IsNext}
 use Rattle.collation_letters.specs.Laws.{LetterLaws}
 use Rattle.collation_letters.proofs.ApartLemmas.{begins-append, begun_append, begun_from, good_none, ordered_none, next-more, units-next}
-pub use Rattle.collation_letters.proofs.ApartLemmas.{Splits, begun, begins_anywhere, from_first, from_none, from_one, len_none, units-more, splits-more, ends_here, ends_there}
+pub use Rattle.collation_letters.proofs.ApartLemmas.{UnitsSplitAt, begun, begins_anywhere, from_first, from_none, from_one, len_none, units-more, splits-more, ends_here, ends_there}
 
-pub apart-none : LetterLaws → (table : TableMap) (start next : ℕ) → begins_with_starter (points_of start next) ≡ true → AreApart table start [] next
+pub apart-none : LetterLaws → (table : TableMap) (start next : ℕ) → begins_with_starter (points_of start next) ≡ true → CanBeTakenAtOnce table start [] next
 apart-none laws table start next begins =
     let here : start ≡ start + byte_len [] = let none = len_none in omega (arith, none) in
     let nothing = from_none start in
@@ -22,7 +22,7 @@ apart-none laws table start next begins =
       ends = λ x is more. ap (λ (t : List Point). units table (t ++ x ∷ more)) nothing ∙ ap (λ (t : List Point). units table t ++ units table (x ∷ more)) (sym nothing);
     }
 
-pub apart-more : LetterLaws → (table : TableMap) (start c next : ℕ) (cs others more : List ℕ) → more ≡ c ∷ others → AreApart table start cs c → IsNext table (start + byte_len cs) more next → AreApart table start (cs ++ more) next
+pub apart-more : LetterLaws → (table : TableMap) (start c next : ℕ) (cs others more : List ℕ) → more ≡ c ∷ others → CanBeTakenAtOnce table start cs c → IsNext table (start + byte_len cs) more next → CanBeTakenAtOnce table start (cs ++ more) next
 apart-more laws table start c next cs others more same h n =
     let at = start + byte_len cs in
     let A = points_from start cs in
@@ -48,6 +48,6 @@ apart-more laws table start c next cs others more same h n =
     }
 
 -- their units are their own
-pub units-apart : LetterLaws → (table : TableMap) (start c : ℕ) (cs others more : List ℕ) → more ≡ c ∷ others → AreApart table start cs c →
+pub units-apart : LetterLaws → (table : TableMap) (start c : ℕ) (cs others more : List ℕ) → more ≡ c ∷ others → CanBeTakenAtOnce table start cs c →
     units table (points_from start (cs ++ more)) ≡ units table (points_from start cs) ++ units table (points_from (start + byte_len cs) more)
 units-apart laws table start c cs others more same h = units-next laws table start c cs others more same h.ends

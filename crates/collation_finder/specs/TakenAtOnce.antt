@@ -15,7 +15,7 @@ pub use Rattle.collation_letters.specs.Apart.{EndsBefore, IsNext}
 
 -- Characters of a text, of which the first stands at an offset, that can be taken at once: they begin with a starter, so that
 -- canonical ordering does not cross their beginning, and the same holds of them.
-pub record AreApart (table : TableMap) (start : ℕ) (cs : List ℕ) (next : ℕ) : Type 0 where
+pub record CanBeTakenAtOnce (table : TableMap) (start : ℕ) (cs : List ℕ) (next : ℕ) : Type 0 where
   pub begins : begins_with_starter (points_from start (cs ++ next ∷ [])) ≡ true
   pub next_begins : begins_with_starter (points_of (start + byte_len cs) next) ≡ true
   pub in_order : ordered (points_from start cs) ≡ points_from start cs
