@@ -20,7 +20,6 @@ use Rattle.collation_elements.specs.declared.weigher.Weigher.{Weigher}
 use Rattle.collation_elements.specs.Weighing.{weigher, after_units, WeigherStandsFor}
 use Rattle.collation_pattern.specs.Border.{border, BordersGoOn}
 use Rattle.collation_pattern.specs.Compiled.{Compiled}
-use Rattle.collation_letters.specs.Symbols.{AreLastSymbols, NothingWaitsBehindForeignKeys, OneSymbolIsOfTheLastKey}
 use Rattle.collation_skip.specs.Passed.{IsPassed, IsQuiet}
 use Rattle.collation_walk.specs.declared.walk.KeyPlace.{KeyPlace}
 use Rattle.collation_walk.specs.declared.walk.Walk.{Walk}
@@ -35,11 +34,28 @@ use Rattle.collation_letters.proofs.WeigherLaw.{WeighersGoOn}
 use Rattle.collation_walk.proofs.LetterSteps.{none_kept, walks-begin_none, walks-none}
 use Rattle.collation_walk.proofs.WalkSteps.{border_none, found_before, walks-key}
 
--- what is known of borders and symbols
-pub record BorderAndSymbolLaws : Type 0 where
-  pub go_on : BordersGoOn
-  pub foreign : NothingWaitsBehindForeignKeys
-  pub one : OneSymbolIsOfTheLastKey
+-- ---- borders
+
+-- some keys, of which one is the last
+record Last (keys : List Key) : Type 0 where
+  before : List Key
+  key : Key
+  are : keys ≡ before ++ key ∷ []
+
+last-of : (keys : List Key) → 0 < length keys → Last keys
+last-of [] some = absurd (omega (arith, some))
+last-of (k ∷ []) some = record { before = []; key = k; are = refl }
+last-of (k ∷ (l ∷ keys)) some =
+    let rest = last-of (l ∷ keys) (omega arith) in
+    record { before = k ∷ rest.before; key = rest.key; are = ap (λ (ks : List Key). k ∷ ks) rest.are }
+
+-- what the border is with more keys follows from the border before them
+borders-on : BordersGoOn → (pattern ks ls more : List Key) → border pattern ks ≡ border pattern ls → border pattern (ks ++ more) ≡ border pattern (ls ++ more)
+borders-on law pattern ks ls [] same = ap (border pattern) (append-nil ks) ∙ same ∙ sym (ap (border pattern) (append-nil ls))
+borders-on law pattern ks ls (k ∷ more) same =
+    sym (ap (border pattern) (append_assoc ks (k ∷ []) more)) ∙ borders-on law pattern (ks ++ k ∷ []) (ls ++ k ∷ []) more (law pattern ks ls k same) ∙ ap (border pattern) (append_assoc ls (k ∷ []) more)
+
+-- ---- a walk
 
 -- the clusters of these items start at this offset or later
 abbrev pub StartFrom : ℕ → List Item → Type 0
@@ -126,22 +142,23 @@ any-places pattern items ranges u w h none now at some select last_end capacity 
       last_end = sym last_end ∙ h.last_end ∙ ap (λ t. remembered t ranges) select;
     }
 
-pub walks-passed : BorderAndSymbolLaws → (pattern keys : List Key) (more items : List Item) (ranges : List (ℕ × ℕ)) (start last : ℕ) (w : Walk) → w.state ≡ 0 → 1 ≤ start → start ≤ last → StartFrom start more →
-    IsQuiet pattern (more ++ ClusterStart last ∷ []) → AreLastSymbols pattern keys (0 ∷ []) → WalksOver pattern items ranges w →
+pub walks-passed : BordersGoOn → (pattern keys : List Key) (more items : List Item) (ranges : List (ℕ × ℕ)) (start last : ℕ) (w : Walk) → w.state ≡ 0 → 1 ≤ start → start ≤ last → StartFrom start more →
+    IsQuiet pattern (more ++ ClusterStart last ∷ []) → 0 < length keys → border pattern (item_keys more ++ keys) ≡ 0 → WalksOver pattern items ranges w →
     WalksOver pattern (items ++ (more ++ ClusterStart last ∷ map (λ key. Element key) keys)) ranges (passed_to w last)
-walks-passed laws pattern keys more items ranges start last w none some after from quiet symbols h =
+walks-passed law pattern keys more items ranges start last w none some after from quiet some_keys none_waits h =
     let end : List Item = ClusterStart last ∷ [] in
-    let over = goes-over laws.go_on pattern more items ranges [] start w some from (none ∙ sym (border_none pattern))
+    let over = goes-over law pattern more items ranges [] start w some from (none ∙ sym (border_none pattern))
     (λ before after st e. quiet before (after ++ end) st (ap (λ (t : List Item). t ++ end) e ∙ append_assoc before (ClusterStart st ∷ after) end)) h in
     let v = over.walk in
     let b : Walk = record v { start = last; has_keys = false } in
     let begun : WalksOver pattern ((items ++ more) ++ ClusterStart last ∷ []) (ranges ++ []) b =
     walks-begin_none pattern (items ++ more) ranges last v (λ zero. absurd (omega (arith, zero, after, some))) (λ whole. absurd (omega (arith, whole, over.state, quiet more [] last refl))) over.walks in
-    let one = laws.one pattern keys 0 symbols in
+    let one = last-of keys some_keys in
+    let waits : (ks : List Key) → border pattern ks ≡ v.state → 0 ≡ border pattern ((ks ++ one.before) ++ one.key ∷ []) = λ ks at.
+    sym (ap (border pattern) (append_assoc ks one.before (one.key ∷ []) ∙ ap (λ (l : List Key). ks ++ l) (sym one.are)) ∙ borders-on law pattern ks (item_keys more) keys (at ∙ over.state) ∙ none_waits) in
     let u : Walk = record b { state = 0; has_keys = true } in
     let ended : WalksOver pattern (((items ++ more) ++ ClusterStart last ∷ []) ++ map (λ key. Element key) keys) ranges u =
-    walks-none pattern ((items ++ more) ++ ClusterStart last ∷ []) ranges keys one.left_out one.key b u one.keys_are
-    (λ ks at. laws.foreign pattern (ks ++ one.left_out) one.key one.symbol_is)
+    walks-none pattern ((items ++ more) ++ ClusterStart last ∷ []) ranges keys one.before one.key b u one.are waits
     (subst (λ (rs : List (ℕ × ℕ)). WalksOver pattern ((items ++ more) ++ ClusterStart last ∷ []) rs b) (append-nil ranges) begun) refl refl refl refl refl refl in
     let all : ((items ++ more) ++ ClusterStart last ∷ []) ++ map (λ key. Element key) keys ≡ items ++ (more ++ ClusterStart last ∷ map (λ key. Element key) keys) =
     append_assoc (items ++ more) (ClusterStart last ∷ []) (map (λ key. Element key) keys) ∙ append_assoc items more (ClusterStart last ∷ map (λ key. Element key) keys) in
@@ -149,9 +166,9 @@ walks-passed laws pattern keys more items ranges start last w none some after fr
     (subst (λ (is : List Item). WalksOver pattern is ranges u) all ended) refl refl refl refl over.select over.last_end h.capacity h.few
 
 -- where no key waits and the last element that was variable or primary was not variable: behind the text that is passed the same
-pub goes-on : BorderAndSymbolLaws → WeighersGoOn → (table : TableMap) (pattern : Compiled) (m : Matcher) (start last : ℕ) (cs : List ℕ) (next : ℕ) → m.weigher.after_variable ≡ false → m.walk.state ≡ 0 → 1 ≤ start →
+pub goes-on : BordersGoOn → WeighersGoOn → (table : TableMap) (pattern : Compiled) (m : Matcher) (start last : ℕ) (cs : List ℕ) (next : ℕ) → m.weigher.after_variable ≡ false → m.walk.state ≡ 0 → 1 ≤ start →
     IsPassed table pattern start last cs next → HasWalkedOn table pattern m (record m { walk = passed_to m.walk last }) (units table (points_from start cs)) []
-goes-on laws law table pattern m start last cs next plain none some p = λ before ranges on.
+goes-on borders law table pattern m start last cs next plain none some p = λ before ranges on.
     let w = m.weigher in
     let us = units table (points_from start cs) in
     let given : List Item = p.before ++ ClusterStart last ∷ map (λ key. Element key) p.keys in
@@ -164,7 +181,7 @@ goes-on laws law table pattern m start last cs next plain none some p = λ befor
       items = on.items ++ given;
       weighed = subst (λ (v : Weigher). WeigherStandsFor table v (before ++ us) (on.items ++ given)) same (law table w before us on.items given false gives leaves on.weighed);
       walked = subst (λ (rs : List (ℕ × ℕ)). WalksOver pattern.keys (on.items ++ given) rs (passed_to m.walk last)) (sym (append-nil ranges))
-          (walks-passed laws pattern.keys p.keys p.before on.items ranges start last m.walk none some p.after_start p.later p.quiet p.foreign on.walked);
+          (walks-passed borders pattern.keys p.keys p.before on.items ranges start last m.walk none some p.after_start p.later p.quiet p.some p.none_waits on.walked);
       strength = on.strength;
       variable = on.variable;
     }

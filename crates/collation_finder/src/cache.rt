@@ -1,19 +1,12 @@
 //! Text that can't match is passed by, where no key waits.
 use collation_elements::weighers_go_on;
-use collation_letters::{Letters, laws_of_symbols};
+use collation_letters::Letters;
 use collation_pattern::Pattern;
 use collation_pattern::laws::laws_of_borders;
 use collation_skip::{Passed, Skip};
 use collation_table::Weights;
 use collation_walk::Query;
 use std::alloc::{AllocError, Global};
-
-/// The most bytes that are walked over before text is passed by again, once some were not worth it: more only where more were looked over
-/// in vain.
-const MOST_HELD: usize = 256;
-
-/// How many bytes that were passed by are so much that none are walked over next.
-const MUCH_PASSED: usize = 24;
 
 /// The most keys of a pattern for which letters are found, and text is passed by, from the first piece on.
 const MOST_KEYS_AT_ONCE: usize = 1_024;
@@ -33,10 +26,6 @@ const WALKED_FIRST: usize = 4_096;
 pub struct Cache {
     pub letters: Letters,
     pub(crate) skip: Skip,
-    /// How many bytes are walked over each time before text is passed by: few or none where that was worth it, more where it was not.
-    pub(crate) hold: usize,
-    /// How many bytes are still walked over before then, counted from the front of what is taken by letters next.
-    pub(crate) due: usize,
     /// How many bytes more go by steps alone, as long as no piece has more: for one short text letters cost more than the steps that they
     /// save.
     pub by_steps: usize,
@@ -71,9 +60,7 @@ impl Cache {
         };
         Ok(Cache {
             letters: Letters::for_long_patterns(alloc, table)?,
-            skip: Skip::new(alloc),
-            hold: 0,
-            due,
+            skip: Skip::new(alloc, due),
             by_steps,
             alloc,
         })
@@ -86,8 +73,7 @@ impl Cache {
             → IsCacheRight table pattern self.old → IsCacheRight table pattern self.new }
     {
         self.by_steps = self.by_steps.max(by_steps);
-        self.due = self.due.max(due);
-        self.skip.prepare(len);
+        self.skip.pace.prepare(due, len);
     }
 
     /// Whether a piece, whose bytes `by_steps` does not count any more, goes by steps alone: where it and the pieces before it are short, as
@@ -117,24 +103,9 @@ impl Cache {
             piece.now first reach offset) }
         ensures right { IsCacheRight (W.table query.now.table.now) query.now.pattern.now self.new }
     {
-        laws_of_symbols();
         laws_of_borders();
         weighers_go_on();
-        let Some(passed) = self.skip.pass(
-            query.table,
-            query.pattern,
-            &mut self.letters,
-            piece,
-            reach,
-        )
-        else {
-            self.hold = held_in_vain(self.hold, self.skip.looked_over());
-            return None;
-        };
-        // more than one letter is worth it, and so is one where the automaton may be asked soon
-        let was_worth_it = passed.start > 0 || !self.skip.has_long_rest();
-        self.hold = held_after(self.hold, passed.end, was_worth_it);
-        Some(passed)
+        self.skip.pass(query.table, query.pattern, &mut self.letters, piece, reach)
     }
 }
 
@@ -151,24 +122,4 @@ fn most_by_steps(front: &[u8]) -> usize {
         });
     }
     bytes
-}
-
-/// How many bytes are walked over before text is passed by again, where so many were before, and so many were passed by then: none where
-/// these are much, a quarter as many where they were worth it, else twice as many.
-fn held_after(hold: usize, passed: usize, was_worth_it: bool) -> usize {
-    if passed >= MUCH_PASSED {
-        return 0;
-    }
-    let held = if was_worth_it { hold / 4 } else { twice(hold) };
-    held.min(MOST_HELD)
-}
-
-/// The same where nothing was passed by: twice as many, up to `MOST_HELD`, and at least as many as were looked over in vain.
-pub(crate) fn held_in_vain(hold: usize, looked: usize) -> usize {
-    twice(hold).min(MOST_HELD).max(looked)
-}
-
-/// Twice as many bytes. Where it is none or one, one letter is walked over: so two come next.
-fn twice(hold: usize) -> usize {
-    hold.saturating_mul(2).max(2)
 }

@@ -85,7 +85,7 @@ pub(crate) fn walk_letters<W: Weights, F: FnMut(u64, u64)>(
             letter,
         };
     }
-    let mut due = cache.due;
+    let mut due = cache.skip.pace.due();
     'characters: loop {
         let Some((next, len)) = sized_character(&piece[end..]) else {
             break;
@@ -138,8 +138,7 @@ pub(crate) fn walk_letters<W: Weights, F: FnMut(u64, u64)>(
         c = behind.next;
         end = at + c.len_utf8();
         letter = behind.letter;
-        due = at.saturating_add(cache.hold);
-        cache.due = due;
+        due = cache.skip.pace.wait_from(at);
     }
     Walked {
         len: at,

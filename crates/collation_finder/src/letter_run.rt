@@ -294,7 +294,7 @@ impl Finder {
         laws_of_characters();
         let walked = walk_letters(&mut self.matcher, query, cache, front, from, sink);
         // these were walked over or passed by: what is left is counted from where letters go on
-        cache.due = cache.due.saturating_sub(walked.len);
+        cache.skip.pace.after_letters(walked.len);
         let at = front.offset + walked.len as u64;
         let rest = &front.piece[walked.len..];
         // so few bytes are left at the end of a piece: no more of it goes by letters, and what is ASCII comes into the window at once

@@ -5,12 +5,13 @@ ghost use Rattle.std.specs.Prelude.{◌≡◌, ◌<◌, IfSome};
 ghost use Rattle.nfd_points.specs.Points.{ascii_point};
 ghost use Rattle.nfd_points.specs.Reordering.{IsSoundPoint};
 
-use crate::cache::{Cache, held_in_vain};
+use crate::cache::Cache;
 use crate::finder::Finder;
 use crate::letter_loop::{Front, Walked};
 use arrayvec::ArrayVec;
 use collation_elements::units_stay_apart;
 use collation_letters::laws_of_characters;
+use collation_skip::WORTH;
 use collation_table::{MOST_STRING_POINTS, Weights};
 use collation_walk::{Found, Query};
 use nfd_points::Point;
@@ -25,9 +26,6 @@ const ROOM: usize = 160;
 /// The most bytes of such a piece. A window between two pieces holds no more points than a table's
 /// longest string may have; within a piece it may hold more, and then there is no room.
 pub(crate) const MOST_OF_SHORT_PIECE: usize = ROOM - MOST_STRING_POINTS;
-
-/// The fewest bytes that letters may be taken of in such a piece: fewer are sooner walked over.
-const FEWEST_OF_SHORT_PIECE: usize = 24;
 
 /// The code points below this one are ASCII.
 const ASCII_END: u32 = 128;
@@ -143,7 +141,7 @@ impl Finder {
         laws_of_points();
         laws_of_reordering();
         units_stay_apart();
-        if front.reach < FEWEST_OF_SHORT_PIECE || cache.due > 0 || !self.begins_with_ascii() {
+        if front.reach < WORTH || cache.skip.pace.due() > 0 || !self.begins_with_ascii() {
             return None;
         }
         if !self.is_idle() {
@@ -160,15 +158,15 @@ impl Finder {
         }
         let reach = front.reach.saturating_add(held);
         let Some(passed) = cache.skip(query, text, first, reach, start) else {
-            cache.due = cache.hold;
+            cache.skip.pace.wait_from(0);
             return None;
         };
         if passed.end < held {
-            cache.hold = held_in_vain(cache.hold, held);
-            cache.due = cache.hold;
+            cache.skip.pace.lose(held);
+            cache.skip.pace.wait_from(0);
             return None;
         }
-        cache.due = cache.hold;
+        cache.skip.pace.wait_from(0);
         Some(PassedShort {
             start: start + passed.start as u64,
             end: Walked {

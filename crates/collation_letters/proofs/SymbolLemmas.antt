@@ -35,6 +35,13 @@ listed-is s =
 pub some-one : (n : ℕ) → n < 255 → some_symbol n ≡ n ∷ []
 some-one n less = cond-true (is_symbol n) (n ∷ []) [] (lt-ltb n 255 less)
 
+-- those of a letter with a last key are some
+pub listed-some : (s : Symbols) → s.third < 255 → 0 < length (listed s)
+listed-some s less =
+    let last = ap (λ (l : List ℕ). length l) (some-one s.third less) in
+    let all = ap (λ (l : List ℕ). length l) (listed-is s) in
+    omega (arith, last, all, length-append (some_symbol s.first) (some_symbol s.second ++ some_symbol s.third), length-append (some_symbol s.second) (some_symbol s.third))
+
 -- one more behind two
 pub listed-more : (s all : Symbols) (n : ℕ) → n < 255 → s.first ≡ 255 → all.first ≡ s.second → all.second ≡ s.third → all.third ≡ n → listed all ≡ listed s ++ n ∷ []
 listed-more s all n less none first second third =

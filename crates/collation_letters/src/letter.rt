@@ -104,12 +104,11 @@ impl Role {
 }
 
 impl Letter {
-    ghost use Rattle.std.specs.Prelude.{◌≡◌, ℕ, List, [], ◌∷◌, true, false};
+    ghost use Rattle.std.specs.Prelude.{◌≡◌, ℕ, ◌<◌, List, true, false};
     ghost use Rattle.nfd_points.specs.Points.{begins_with_starter, points_from};
     ghost use Rattle.collation_table.specs.Table.{TableMap};
     ghost use Rattle.collation_pattern.specs.Compiled.{Compiled};
     ghost use Rattle.collation_letters.specs.Letters.{IsClean, IsLetter, flag_after};
-    ghost use Rattle.collation_letters.specs.Symbols.{listed};
     ghost use Rattle.collation_letters.specs.declared.letter.Role.TheVariants.{Base};
 
     /// Whether its characters are known to begin with a starter, and are no mark.
@@ -136,21 +135,16 @@ impl Letter {
         }
     }
 
-    /// Whether it begins a cluster, has one symbol, that of keys that the pattern does not have, and leaves no variable element behind.
+    /// Whether it begins a cluster, has a last key, and leaves no variable element behind.
     #[inline(always)]
-    pub fn is_foreign(&self) -> bool
+    pub fn has_last_key(&self) -> bool
         ensures begins { result ≡ true → begins_cluster self.now.role ≡ true }
         ensures flag { result ≡ true → flag_after self.now.role false ≡ false }
         ensures flag_after { result ≡ true → flag_after self.now.role true ≡ false }
-        ensures symbols { result ≡ true → listed self.now.symbols ≡ 0 ∷ [] }
+        ensures some { result ≡ true → self.now.symbols.third < 255 }
     {
-        let symbols = self.symbols;
         match self.role {
-            Role::Plain | Role::Base => {
-                symbols.first == NO_SYMBOL
-                    && symbols.second == NO_SYMBOL
-                    && symbols.third == FOREIGN
-            }
+            Role::Plain | Role::Base => self.symbols.third != NO_SYMBOL,
             _ => false,
         }
     }

@@ -1,4 +1,4 @@
--- What was passed of a text of ASCII, up to behind a character with a key that the pattern does not have.
+-- What was passed of a text of ASCII, up to behind a character behind which no key waits.
 use Rattle.std.specs.Char.{IsScalar, len_utf8}
 use Rattle.std.specs.Str.{IsAscii}
 use Rattle.std.proofs.Common.{◌≡◌, ◌∙◌, ℕ, zero, suc, ◌+◌, ◌≤◌, ◌<◌, nat_lt, true, false, List, [], ◌∷◌, ◌++◌, length, take, drop, get_or, inl, inr, refl, sym, ap, subst, arith}
@@ -18,15 +18,18 @@ use Rattle.collation_elements.specs.Weighing.{after_units}
 use Rattle.collation_pattern.specs.Compiled.{Compiled}
 use Rattle.collation_letters.specs.Apart.{IsNext}
 use Rattle.collation_letters.specs.declared.letter.Letter.{Letter}
-use Rattle.collation_letters.specs.Letters.{IsClean, begins_cluster, is_mark, flag_after, keys_alone, IsLetter}
-use Rattle.collation_letters.specs.Symbols.{AreLastSymbols, SymbolsAreListed, some_symbol}
+use Rattle.collation_letters.specs.Letters.{begins_cluster, is_mark, flag_after, keys_alone, IsLetter}
+use Rattle.collation_letters.specs.Symbols.{SymbolsAreListed}
 use Rattle.collation_letters.proofs.ApartLemmas.{from_first, next-more, next_of_one}
 use Rattle.collation_letters.proofs.CharacterLemmas.{points_are_shifted}
 use Rattle.collation_letters.proofs.LetterApart.{plain-known}
 use Rattle.collation_skip.specs.declared.classes.Classes.{Classes}
 use Rattle.byte_blocks.specs.Ascii.{Passes}
-use Rattle.collation_skip.specs.Blocks.{AreClassesRight}
+use Rattle.collation_skip.specs.Blocks.{AreClassesRight, LeavesNone, most}
 use Rattle.collation_skip.specs.Passed.{IsPassed}
+use Rattle.collation_elements.specs.ItemParts.{item_keys}
+use Rattle.collation_pattern.specs.Border.{border}
+use Rattle.collation_skip.proofs.BorderSteps.{Borders, none-waits, some-keys}
 use Rattle.collation_skip.proofs.ClassLemmas.{begun_items, letter-items, letter-symbols}
 use Rattle.collation_skip.proofs.AsciiLemmas.{RunLaws, possible, ascii-at, begins-ascii, ends-one, bytes-len, run_items, run-to, run-items-more, quiet-more, front-one}
 
@@ -59,9 +62,9 @@ begins-first law start (b ∷ bytes) n some less =
 -- ---- what was passed
 
 -- up to a character before another of ASCII, which need not pass
-pub passed-of : RunLaws → SymbolsAreListed → (table : TableMap) (pattern : Compiled) (classes : Classes) → AreClassesRight table pattern classes → (bytes : List ℕ) (total i : ℕ) → Passes classes.sets bytes total → i < total → suc i < length bytes →
-    get_or bytes (suc i) 0 < 128 → (l : Letter) → IsLetter table pattern (get_or bytes i 0 ∷ []) l → IsClean l → (start : ℕ) → IsPassed table pattern start (start + i) (take (suc i) bytes) (get_or bytes (suc i) 0)
-passed-of laws listed table pattern classes rights bytes total i p here followed ascii l h clean start =
+pub passed-of : RunLaws → SymbolsAreListed → Borders → (table : TableMap) (pattern : Compiled) (classes : Classes) → AreClassesRight table pattern classes → (bytes : List ℕ) (total i : ℕ) → Passes classes.sets bytes total → i < total → suc i < length bytes →
+    get_or bytes (suc i) 0 < 128 → (l : Letter) → IsLetter table pattern (get_or bytes i 0 ∷ []) l → LeavesNone (most pattern.keys classes.place) l → (start : ℕ) → IsPassed table pattern start (start + i) (take (suc i) bytes) (get_or bytes (suc i) 0)
+passed-of laws listed borders table pattern classes rights bytes total i p here followed ascii l h clean start =
     let within : i < length bytes = omega (arith, followed) in
     let c = get_or bytes i 0 in
     let d = get_or bytes (suc i) 0 in
@@ -82,6 +85,8 @@ passed-of laws listed table pattern classes rights bytes total i p here followed
     let one : IsNext table at (c ∷ []) d = next_of_one laws.points table at c d (begins-ascii laws.points.ascii (at + len_utf8 c) d ascii) (ends-one laws table at (at + len_utf8 c) c d ascii (inl (h.closed said.0))) in
     let place = rights.place in
     let state = run.state in
+    let symbols = letter-symbols listed table pattern c l flag known (ap is_mark clean.0) said.1.0 said.1.1 may h in
+    let none : border pattern.keys (item_keys I ++ keys) ≤ 0 = none-waits borders pattern.keys keys l.symbols.third (most pattern.keys classes.place) clean.1 clean.2 symbols (item_keys I) state in
     record {
       begins = begins-first laws.points.ascii start bytes i (omega (arith, within)) (p.ascii (omega (arith, here)));
       is_next = subst (λ (t : List ℕ). IsNext table start t d) (sym (take-suc bytes i 0 within)) (next-more laws.points table start c d cs [] (c ∷ []) refl run.is_next one);
@@ -94,6 +99,6 @@ passed-of laws listed table pattern classes rights bytes total i p here followed
       quiet = quiet-more pattern.keys (start + i) I (ClusterStart (start + i) ∷ []) run.quiet (omega (arith, state, place)) (front-one (start + i));
       later = run.later;
       after_start = omega arith;
-      foreign = subst (AreLastSymbols pattern.keys keys) (ap some_symbol clean.1)
-          (letter-symbols listed table pattern c l flag known (ap is_mark clean.0) said.1.0 said.1.1 may h);
+      some = some-keys pattern.keys keys l.symbols.third clean.1 symbols;
+      none_waits = omega (arith, none);
     }

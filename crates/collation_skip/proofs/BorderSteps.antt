@@ -1,6 +1,6 @@
 -- How many keys of a pattern match after the keys of one character, by the symbol of the last of them.
-use Rattle.std.proofs.Common.{◌≡◌, ◌∙◌, ℕ, zero, suc, ◌<◌, ◌≤◌, List, [], ◌∷◌, ◌++◌, slice_get, Some, false, refl, sym, ap, subst, arith, append_assoc, inl, inr}
-use Rattle.std.proofs.lemmas.Bool.{cond-true, cond-false, cases_Bool, ltb-true}
+use Rattle.std.proofs.Common.{◌≡◌, ◌∙◌, ℕ, zero, suc, ◌<◌, ◌≤◌, List, [], ◌∷◌, ◌++◌, length, slice_get, Some, false, refl, sym, ap, subst, arith, append_assoc, inl, inr}
+use Rattle.std.proofs.lemmas.Bool.{cond-true, cond-false, cases_Bool, ltb-true, lt-ltb}
 use Rattle.std.proofs.lemmas.List.{append-nil}
 use Rattle.collation_elements.specs.declared.keys.Key.{Key}
 use Rattle.collation_pattern.specs.Border.{border, PrefixesEndWithTheLastKey, BordersGrowByOne}
@@ -57,3 +57,24 @@ carry laws pattern keys s from to h none below = elim (cases_Bool (is_symbol s))
   where
     not-less : (s : ℕ) → is_symbol s ≡ false → 255 ≤ s
     not-less s h = grind arith
+
+-- ---- behind which no key waits
+
+-- a symbol is of some keys
+pub some-keys : (pattern keys : List Key) (s : ℕ) → s < 255 → AreLastSymbols pattern keys (some_symbol s) → 0 < length keys
+some-keys pattern keys s small h =
+    let few = (subst (AreLastSymbols pattern keys) (cond-true (is_symbol s) (s ∷ []) [] (lt-ltb s 255 small)) h).few in omega (arith, few)
+
+-- where at most so many keys had matched, none has behind one that stands at no place up to there
+pub none-waits : Borders → (pattern keys : List Key) (s matched : ℕ) → s < 255 → ((place : ℕ) → s ≡ suc place → matched < place) → AreLastSymbols pattern keys (some_symbol s) → Carry pattern matched 0 keys
+none-waits laws pattern keys s matched small far h = carry laws pattern keys s matched 0 h (λ none. absurd (omega (arith, small, none))) (λ less key. earlier s far key)
+  where
+    earlier : (s : ℕ) → ((place : ℕ) → s ≡ suc place → matched < place) → (key : Key) → IsSymbol pattern key s → IsBelow pattern matched 0 key
+    earlier zero far key is = λ n at within. absurd (is.foreign refl n at)
+    earlier (suc place) far key is = λ n at within. absurd (is.first place n refl (let past = far place refl in omega (arith, past, within)) at)
+
+-- a key that the pattern does not have is such a one, however many had matched
+pub none-foreign : (pattern keys before : List Key) (s : ℕ) → OneSymbolIsOfTheLastKey → NothingWaitsBehindForeignKeys → s ≡ 0 → AreLastSymbols pattern keys (some_symbol s) → border pattern (before ++ keys) ≡ 0
+none-foreign pattern keys before s one foreign none h =
+    let last = one pattern keys 0 (subst (λ i. AreLastSymbols pattern keys (some_symbol i)) none h) in
+    ap (λ (l : List Key). border pattern (before ++ l)) last.keys_are ∙ ap (border pattern) (sym (append_assoc before last.left_out (last.key ∷ []))) ∙ sym (foreign pattern (before ++ last.left_out) last.key last.symbol_is)

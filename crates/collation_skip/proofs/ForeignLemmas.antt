@@ -1,4 +1,4 @@
--- Characters with keys that the pattern does not have, passed by one after another.
+-- Characters behind which no key waits, passed by one after another.
 use Rattle.std.specs.Char.{len_utf8}
 use Rattle.std.specs.Str.{chars, IsUtf8}
 use Rattle.std.proofs.Common.{◌≡◌, ◌∙◌, ℕ, zero, suc, ◌+◌, ◌<◌, ◌≤◌, true, false, List, [], ◌∷◌, ◌++◌, length, take, drop, map, filter, Contains, refl, sym, ap, ap₂, subst, arith, append_assoc}
@@ -21,12 +21,14 @@ use Rattle.collation_pattern.specs.Compiled.{Compiled}
 use Rattle.collation_letters.specs.Apart.{IsNext}
 use Rattle.collation_letters.specs.declared.letter.Letter.{Letter}
 use Rattle.collation_letters.specs.Letters.{IsClean, begins_cluster, is_mark, flag_after, IsLetter}
-use Rattle.collation_letters.specs.Symbols.{AreLastSymbols, is_symbol, NothingWaitsBehindForeignKeys, OneSymbolIsOfTheLastKey}
+use Rattle.collation_letters.specs.declared.letter.Role.TheVariants.{Plain}
+use Rattle.collation_letters.specs.Symbols.{AreLastSymbols, is_symbol, some_symbol, NothingWaitsBehindForeignKeys, OneSymbolIsOfTheLastKey}
 use Rattle.collation_letters.specs.Laws.{LetterLaws}
 use Rattle.collation_letters.proofs.ApartLemmas.{from_none, next-more, next-none}
 use Rattle.collation_letters.proofs.LetterApart.{plain-known}
 use Rattle.collation_skip.specs.Passed.{IsPassed, IsQuiet}
 use Rattle.collation_skip.specs.Reached.{items_from}
+use Rattle.collation_skip.proofs.BorderSteps.{some-keys}
 use Rattle.collation_skip.proofs.ItemLemmas.{letter_items, keys-append, keys-letter, quiet-more, later-more}
 use Rattle.collation_skip.proofs.ReachedLemmas.{begins-more, items-more, no-item, none-ends}
 
@@ -65,16 +67,15 @@ quiet-none : (table : TableMap) (pattern : Compiled) (start c : ℕ) (l : Letter
 quiet-none table pattern start c l some h clean = quiet-begin table pattern start c some ((h.known (plain-known l.role clean.0)).starter (ap is_mark clean.0))
 
 -- where some were passed by
-pub quiet-passed : ForeignLaws → (table : TableMap) (pattern : Compiled) (start last : ℕ) (cs : List ℕ) (c : ℕ) → 0 < length pattern.keys → IsPassed table pattern start last cs c → AreQuiet table pattern start cs c
-quiet-passed laws table pattern start last cs c some p =
+pub quiet-passed : (table : TableMap) (pattern : Compiled) (start last : ℕ) (cs : List ℕ) (c : ℕ) → 0 < length pattern.keys → IsPassed table pattern start last cs c → AreQuiet table pattern start cs c
+quiet-passed table pattern start last cs c some p =
     let opened = p.before ++ ClusterStart last ∷ [] in
     let all : p.before ++ ClusterStart last ∷ map (λ key. Element key) p.keys ≡ opened ++ letter_items false 0 p.keys = sym (append_assoc p.before (ClusterStart last ∷ []) (map (λ key. Element key) p.keys)) in
     let earlier : item_keys opened ≡ item_keys p.before = keys-append p.before (ClusterStart last ∷ []) ∙ append-nil (item_keys p.before) in
     let open_below : border pattern.keys (item_keys opened) < length pattern.keys = subst (λ (ks : List Key). border pattern.keys ks < length pattern.keys) (sym earlier) (p.quiet p.before [] last refl) in
-    let one = laws.one pattern.keys p.keys 0 p.foreign in
-    let keys : item_keys (items_from table pattern start cs) ≡ (item_keys p.before ++ one.left_out) ++ one.key ∷ [] =
-    ap item_keys (p.items ∙ all) ∙ keys-append opened (letter_items false 0 p.keys) ∙ ap₂ (λ (x y : List Key). x ++ y) earlier (keys-letter false 0 p.keys ∙ one.keys_are) ∙ sym (append_assoc (item_keys p.before) one.left_out (one.key ∷ [])) in
-    let zero : border pattern.keys (item_keys (items_from table pattern start cs)) ≡ 0 = ap (border pattern.keys) keys ∙ sym (laws.foreign pattern.keys (item_keys p.before ++ one.left_out) one.key one.symbol_is) in
+    let keys : item_keys (items_from table pattern start cs) ≡ item_keys p.before ++ p.keys =
+    ap item_keys (p.items ∙ all) ∙ keys-append opened (letter_items false 0 p.keys) ∙ ap₂ (λ (x y : List Key). x ++ y) earlier (keys-letter false 0 p.keys) in
+    let zero : border pattern.keys (item_keys (items_from table pattern start cs)) ≡ 0 = ap (border pattern.keys) keys ∙ p.none_waits in
     record {
       begins = p.begins;
       is_next = p.is_next;
@@ -83,30 +84,37 @@ quiet-passed laws table pattern start last cs c some p =
       later = subst (λ (l : List Item). (at : ℕ) → Contains l (ClusterStart at) → start ≤ at) (sym p.items) (later-more p.before true last p.keys start p.later p.after_start);
     }
 
-symbols-of : (first second third : ℕ) → first ≡ 255 → second ≡ 255 → third ≡ 0 → filter is_symbol (first ∷ second ∷ third ∷ []) ≡ 0 ∷ []
-symbols-of first second third a b c =
-    ap₂ (λ (x y : ℕ). filter is_symbol (x ∷ y ∷ third ∷ [])) a b ∙ ap (λ x. filter is_symbol (255 ∷ 255 ∷ x ∷ [])) c
+-- the symbols of a plain letter
+symbols-of : (first second third : ℕ) → first ≡ 255 → second ≡ 255 → filter is_symbol (first ∷ second ∷ third ∷ []) ≡ some_symbol third
+symbols-of first second third a b = ap₂ (λ (x y : ℕ). filter is_symbol (x ∷ y ∷ third ∷ [])) a b
+
+-- behind these characters and keys with this symbol no key waits
+abbrev pub NoneWaitsBehind : TableMap → Compiled → ℕ → List ℕ → ℕ → Type 0
+NoneWaitsBehind table pattern start cs symbol =
+    (keys : List Key) → AreLastSymbols pattern.keys keys (some_symbol symbol) → border pattern.keys (item_keys (items_from table pattern start cs) ++ keys) ≡ 0
 
 -- one character more
-pub passed-one : ForeignLaws → (table : TableMap) (pattern : Compiled) (start : ℕ) (cs : List ℕ) (c next : ℕ) (l : Letter) → AreQuiet table pattern start cs c → IsLetter table pattern (c ∷ []) l → IsClean l →
-    IsNext table (start + byte_len cs) (c ∷ []) next → IsPassed table pattern start (start + byte_len cs) (cs ++ c ∷ []) next
-passed-one laws table pattern start cs c next l q h clean apart =
+pub passed-one : LetterLaws → (table : TableMap) (pattern : Compiled) (start : ℕ) (cs : List ℕ) (c next : ℕ) (l : Letter) → AreQuiet table pattern start cs c → IsLetter table pattern (c ∷ []) l → l.role ≡ Plain →
+    l.symbols.third < 255 → NoneWaitsBehind table pattern start cs l.symbols.third → IsNext table (start + byte_len cs) (c ∷ []) next → IsPassed table pattern start (start + byte_len cs) (cs ++ c ∷ []) next
+passed-one laws table pattern start cs c next l q h role small none apart =
     let at = start + byte_len cs in
-    let known = plain-known l.role clean.0 in
-    let plain = h.plain clean.0 in
-    let items = items-more laws.points laws.points.shifted table pattern start cs c [] l q.is_next known (ap is_mark clean.0) h in
+    let known = plain-known l.role role in
+    let plain = h.plain role in
+    let items = items-more laws laws.shifted table pattern start cs c [] l q.is_next known (ap is_mark role) h in
     let I = items_from table pattern start cs in
+    let symbols = subst (AreLastSymbols pattern.keys items.keys) (symbols-of l.symbols.first l.symbols.second l.symbols.third plain.1.0 plain.1.1) items.symbols in
     record {
-      begins = begins-more laws.points table start cs c [] q.begins q.is_next;
-      is_next = next-more laws.points table start c next cs [] (c ∷ []) refl q.is_next apart;
+      begins = begins-more laws table start cs c [] q.begins q.is_next;
+      is_next = next-more laws table start c next cs [] (c ∷ []) refl q.is_next apart;
       before = I;
       keys = items.keys;
-      items = items.items ∙ ap (λ r. I ++ letter_items (begins_cluster r) at items.keys) clean.0;
-      flag = items.flag ∙ ap (λ r. flag_after r (after_units table pattern.variable false (units table (points_from start cs)))) clean.0;
+      items = items.items ∙ ap (λ r. I ++ letter_items (begins_cluster r) at items.keys) role;
+      flag = items.flag ∙ ap (λ r. flag_after r (after_units table pattern.variable false (units table (points_from start cs)))) role;
       quiet = quiet-more pattern.keys I true at [] q.quiet q.below;
       later = q.later;
       after_start = omega arith;
-      foreign = subst (AreLastSymbols pattern.keys items.keys) (symbols-of l.symbols.first l.symbols.second l.symbols.third plain.1.0 plain.1.1 clean.1) items.symbols;
+      some = some-keys pattern.keys items.keys l.symbols.third small symbols;
+      none_waits = none items.keys symbols;
     }
 
 -- ---- the characters of a piece
@@ -116,26 +124,26 @@ bytes-of piece end within text =
     byte_len_encoded (chars (take end piece)) ∙ ap (λ (l : List ℕ). length l) (encodes-chars (take end piece) text) ∙ length-take-le end piece within
 
 -- what is known of no bytes, or of those that were passed by
-pub quiet-so_far : ForeignLaws → (table : TableMap) (pattern : Compiled) (piece : List ℕ) (end last c at : ℕ) (l : Letter) → 0 < length pattern.keys → IsLetter table pattern (c ∷ []) l → IsClean l →
+pub quiet-so_far : (table : TableMap) (pattern : Compiled) (piece : List ℕ) (end last c at : ℕ) (l : Letter) → 0 < length pattern.keys → IsLetter table pattern (c ∷ []) l → IsClean l →
     (0 < end → IsPassed table pattern at last (chars (take end piece)) c) → AreQuiet table pattern at (chars (take end piece)) c
-quiet-so_far laws table pattern piece zero last c at l some h clean passed = subst (λ (cs : List ℕ). AreQuiet table pattern at cs c) (sym chars-nil) (quiet-none table pattern at c l some h clean)
-quiet-so_far laws table pattern piece (suc end) last c at l some h clean passed = quiet-passed laws table pattern at last (chars (take (suc end) piece)) c some (passed (omega arith))
+quiet-so_far table pattern piece zero last c at l some h clean passed = subst (λ (cs : List ℕ). AreQuiet table pattern at cs c) (sym chars-nil) (quiet-none table pattern at c l some h clean)
+quiet-so_far table pattern piece (suc end) last c at l some h clean passed = quiet-passed table pattern at last (chars (take (suc end) piece)) c some (passed (omega arith))
 
 pub chars-on : (piece : List ℕ) (end len c : ℕ) → len ≡ len_utf8 c → IsUtf8 (take end piece) → SpellsCharacter (take (len_utf8 c) (drop end piece)) c → chars (take (end + len) piece) ≡ chars (take end piece) ++ c ∷ []
 chars-on piece end len c same text spelled =
     chars-more piece end len text ∙ ap (λ (l : List ℕ). chars (take end piece) ++ l) (ap (λ n. chars (take n (drop end piece))) same ∙ (one_char (take (len_utf8 c) (drop end piece)) c spelled).1)
 
 -- one character more of a piece, wherever this stands
-pub passed-on : ForeignLaws → (table : TableMap) (pattern : Compiled) (piece : List ℕ) (end len c next at : ℕ) (l : Letter) → end + len ≤ length piece → len ≡ len_utf8 c → IsUtf8 (take end piece) →
-    SpellsCharacter (take (len_utf8 c) (drop end piece)) c → AreQuiet table pattern at (chars (take end piece)) c → IsLetter table pattern (c ∷ []) l → IsClean l →
-    IsNext table (at + end) (c ∷ []) next → IsPassed table pattern at (at + end) (chars (take (end + len) piece)) next
-passed-on laws table pattern piece end len c next at l within same text spelled quiet h clean apart =
+pub passed-on : LetterLaws → (table : TableMap) (pattern : Compiled) (piece : List ℕ) (end len c next at : ℕ) (l : Letter) → end + len ≤ length piece → len ≡ len_utf8 c → IsUtf8 (take end piece) →
+    SpellsCharacter (take (len_utf8 c) (drop end piece)) c → AreQuiet table pattern at (chars (take end piece)) c → IsLetter table pattern (c ∷ []) l → l.role ≡ Plain → l.symbols.third < 255 →
+    NoneWaitsBehind table pattern at (chars (take end piece)) l.symbols.third → IsNext table (at + end) (c ∷ []) next → IsPassed table pattern at (at + end) (chars (take (end + len) piece)) next
+passed-on laws table pattern piece end len c next at l within same text spelled quiet h role small none apart =
     let cs = chars (take end piece) in
     let bytes = bytes-of piece end (omega (arith, within)) text in
     let more : chars (take (end + len) piece) ≡ cs ++ c ∷ [] = chars-on piece end len c same text spelled in
     subst (λ (codes : List ℕ). IsPassed table pattern at (at + end) codes next) (sym more)
     (subst (λ n. IsPassed table pattern at (at + n) (cs ++ c ∷ []) next) bytes
-    (passed-one laws table pattern at cs c next l quiet h clean (subst (λ n. IsNext table (at + n) (c ∷ []) next) (sym bytes) apart)))
+    (passed-one laws table pattern at cs c next l quiet h role small none (subst (λ n. IsNext table (at + n) (c ∷ []) next) (sym bytes) apart)))
 
 pub text-on : (piece : List ℕ) (end len c : ℕ) → len ≡ len_utf8 c → IsUtf8 (take end piece) → SpellsCharacter (take (len_utf8 c) (drop end piece)) c → IsUtf8 (take (end + len) piece)
 text-on piece end len c same text spelled =

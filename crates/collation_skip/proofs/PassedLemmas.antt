@@ -1,5 +1,5 @@
 -- That text may be passed by has one proof at most, so far as it matters: what is merely so is so.
-use Rattle.std.proofs.Common.{◌≡◌, ◌∙◌, ℕ, ◌≤◌, Bool, true, false, cond, if◌then◌else◌, List, [], ◌∷◌, ◌++◌, map, Contains, refl, sym, ap, ap₂, subst}
+use Rattle.std.proofs.Common.{◌≡◌, ◌∙◌, ℕ, ◌<◌, ◌≤◌, length, Bool, true, false, cond, if◌then◌else◌, List, [], ◌∷◌, ◌++◌, map, Contains, refl, sym, ap, ap₂, subst}
 use Rattle.std.proofs.Math.Logic.{∥∥₁_elim}
 use Rattle.std.proofs.Props.{props}
 use Rattle.collation_table.specs.Table.{TableMap}
@@ -7,7 +7,7 @@ use Rattle.collation_elements.specs.declared.keys.Key.{Key}
 use Rattle.collation_elements.specs.declared.keys.Item.{Item}
 use Rattle.collation_elements.specs.declared.keys.Item.TheVariants.{ClusterStart, Element}
 use Rattle.collation_elements.specs.ItemParts.{item_keys}
-use Rattle.collation_letters.specs.Symbols.{AreLastSymbols}
+use Rattle.collation_pattern.specs.Border.{border}
 use Rattle.collation_pattern.specs.Compiled.{Compiled}
 use Rattle.collation_skip.specs.Passed.{IsPassed, IsQuiet}
 use Rattle.collation_skip.specs.Reached.{items_from}
@@ -73,5 +73,6 @@ passed-had table pattern start last cs next h =
       quiet = ∥∥₁_elim h (hlevel props) (λ p. subst (λ (l : List Item). IsQuiet pattern.keys (l ++ ClusterStart last ∷ [])) (before_same p) p.quiet);
       later = ∥∥₁_elim h (hlevel props) (λ p. subst (λ (l : List Item). (at : ℕ) → Contains l (ClusterStart at) → start ≤ at) (before_same p) p.later);
       after_start = ∥∥₁_elim h (hlevel props) (λ p. p.after_start);
-      foreign = ∥∥₁_elim h (hlevel props) (λ p. subst (λ (l : List Key). AreLastSymbols pattern.keys l (0 ∷ [])) (keys_same p) p.foreign);
+      some = ∥∥₁_elim h (hlevel props) (λ p. subst (λ (l : List Key). 0 < length l) (keys_same p) p.some);
+      none_waits = ∥∥₁_elim h (hlevel props) (λ p. sym (ap₂ (λ (x : List Item) (y : List Key). border pattern.keys (item_keys x ++ y)) (before_same p) (keys_same p)) ∙ p.none_waits);
     }

@@ -31,6 +31,7 @@ use Rattle.collation_letters.proofs.ApartLemmas.{begins-append, begun_from, from
 use Rattle.collation_letters.proofs.CharacterLemmas.{points_are_shifted}
 use Rattle.collation_letters.proofs.JoiningLemmas.{items-append, after-append, possible-after}
 use Rattle.collation_letters.proofs.LetterApart.{starter-counted}
+use Rattle.collation_letters.proofs.SymbolLemmas.{listed-some}
 use Rattle.collation_skip.specs.declared.begun.Begun.{Begun}
 use Rattle.collation_skip.specs.declared.begun.Begun.TheVariants.{Whole}
 use Rattle.collation_skip.specs.declared.state.State.{State}
@@ -146,7 +147,8 @@ pub record MayBeLeft (s t : State) : Type 0 where
   pub len : t.before ≡ s.len
   pub begins : begins_cluster s.letter.role ≡ true
   pub flag : (after : Bool) → flag_after s.letter.role after ≡ false
-  pub symbols : listed s.letter.symbols ≡ 0 ∷ []
+  pub some : s.letter.symbols.third < 255
+  pub none : t.depth ≡ 0
 
 pub begins-more : LetterLaws → (table : TableMap) (at : ℕ) (before : List ℕ) (first : ℕ) (others : List ℕ) → begins_with_starter (points_from at before) ≡ true → IsNext table at before first →
     begins_with_starter (points_from at (before ++ first ∷ others)) ≡ true
@@ -213,7 +215,8 @@ reached-next laws shift table pattern s t at bytes byte c spelled known starter 
                   quiet = quiet-more pattern.keys items true start [] r.quiet (subst (λ n. n < length pattern.keys) (sym r.depth) r.below);
                   later = r.later;
                   after_start = omega arith;
-                  foreign = subst (λ l. AreLastSymbols pattern.keys more.keys l) is.symbols more.symbols;
+                  some = let few = more.symbols.few in omega (arith, listed-some s.letter.symbols is.some, few);
+                  none_waits = deeper (item_keys items) more.keys more.symbols r.depth ∙ is.none;
                 };
               },
         ),

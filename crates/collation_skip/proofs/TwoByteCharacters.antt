@@ -37,7 +37,8 @@ use Rattle.byte_blocks.specs.Sets.{is_in, leads, trails}
 use Rattle.collation_skip.specs.TwoBytes.{IsEnding, AreRightOf, AreSetsRight, character_of}
 use Rattle.collation_skip.proofs.AsciiLemmas.{RunLaws, contained, items-next, keys-append, possible, quiet-more}
 use Rattle.collation_skip.proofs.BlockLemmas.{spells-ascii}
-use Rattle.collation_skip.proofs.ForeignLemmas.{AreQuiet, ForeignLaws, chars-on, no-keys, passed-on, quiet-begin, text-on}
+use Rattle.collation_skip.proofs.BorderSteps.{Borders, none-waits}
+use Rattle.collation_skip.proofs.ForeignLemmas.{AreQuiet, chars-on, no-keys, passed-on, quiet-begin, text-on}
 use Rattle.collation_skip.proofs.ReachedLemmas.{begins-more}
 use Rattle.collation_skip.proofs.TextLemmas.{same-character}
 
@@ -315,10 +316,10 @@ run-to laws table pattern classes rights bytes n p fits (suc (suc j)) next less 
 
 -- ---- what was passed
 
--- up to behind a character with a key that the pattern does not have
-pub ending-of : RunLaws → ForeignLaws → (table : TableMap) (pattern : Compiled) (classes : TwoByteClasses) → AreSetsRight table pattern classes → (bytes : List ℕ) (n : ℕ) → Pass classes.sets bytes n → ((j : ℕ) → get_or bytes j 0 < 256) → (it : Ending) →
-    IsEnding table pattern bytes n it → IsUtf8 (take it.end bytes) × ((at : ℕ) → IsPassed table pattern at (at + it.start) (chars (take it.end bytes)) it.next)
-ending-of laws foreign table pattern classes rights bytes n p fits it is =
+-- up to behind a character behind which no key waits
+pub ending-of : RunLaws → Borders → (table : TableMap) (pattern : Compiled) (classes : TwoByteClasses) → AreSetsRight table pattern classes → (bytes : List ℕ) (n : ℕ) → Pass classes.sets bytes n → ((j : ℕ) → get_or bytes j 0 < 256) → (it : Ending) →
+    IsEnding table pattern classes.place bytes n it → IsUtf8 (take it.end bytes) × ((at : ℕ) → IsPassed table pattern at (at + it.start) (chars (take it.end bytes)) it.next)
+ending-of laws borders table pattern classes rights bytes n p fits it is =
     let start = it.start in
     let c = it.character in
     let begins = is.begins in
@@ -346,5 +347,9 @@ ending-of laws foreign table pattern classes rights bytes n p fits it is =
     let within = is.within in (
       subst (λ k. IsUtf8 (take k bytes)) (sym is.end) (text-on bytes start (len_utf8 c) c refl come.text spelled),
       λ at. subst (λ k. IsPassed table pattern at (at + start) (chars (take k bytes)) it.next) (sym is.end)
-          (passed-on foreign table pattern bytes start (len_utf8 c) c it.next at it.letter (omega (arith, within, is.end, long)) refl come.text spelled (come.gone at).quiet is.letter is.clean (is.apart (at + start))),
+          (passed-on laws.points table pattern bytes start (len_utf8 c) c it.next at it.letter (omega (arith, within, is.end, long)) refl come.text spelled (come.gone at).quiet is.letter is.clean.0 is.clean.1
+          (λ keys symbols.
+          let none = none-waits borders pattern.keys keys it.letter.symbols.third (most pattern.keys classes.place) is.clean.1 is.clean.2 symbols (item_keys (items_from table pattern at (chars (take start bytes)))) (come.gone at).state in
+          omega (arith, none))
+          (is.apart (at + start))),
     )

@@ -13,9 +13,9 @@ use Rattle.collation_elements.specs.Units.{units}
 use Rattle.collation_pattern.specs.Border.{border}
 use Rattle.collation_pattern.specs.Compiled.{Compiled}
 use Rattle.collation_letters.specs.declared.letter.Letter.{Letter}
-use Rattle.collation_letters.specs.declared.letter.Role.TheVariants.{Steps}
+use Rattle.collation_letters.specs.declared.letter.Role.TheVariants.{Plain, Steps}
 use Rattle.collation_letters.specs.declared.symbols.TheConstants.{NO_SYMBOL}
-use Rattle.collation_letters.specs.Letters.{AreApart, AreClosed, IsClean, IsLetter, IsPossible, is_mark}
+use Rattle.collation_letters.specs.Letters.{AreApart, AreClosed, IsLetter, IsPossible, is_mark}
 use Rattle.collation_letters.specs.Symbols.{IsSymbol}
 use Rattle.collation_skip.specs.declared.ascii.AsciiBlocks.{AsciiBlocks}
 use Rattle.collation_skip.specs.declared.classes.Classes.{Classes}
@@ -83,16 +83,21 @@ abbrev pub IsOfKind : TableMap → Compiled → ℕ → ℕ → Kind → Type 0
 IsOfKind table pattern place c kind =
     IsClassifiedBy table pattern place c (kind.halt ≡ false) (kind.key ≡ false) (kind.later ≡ false) (kind.joins ≡ false) (kind.inner ≡ false)
 
--- a character is a cluster with a key that the pattern does not have
-abbrev pub IsCleanCharacter : TableMap → Compiled → ℕ → Type 0
-IsCleanCharacter table pattern c = (letter : Letter) × IsLetter table pattern (c ∷ []) letter × IsClean letter
+-- A letter is plain and has a last key, which is none of the pattern's first ones up to the one behind so many: where at most so many have
+-- matched before it, none has matched behind it.
+abbrev pub LeavesNone : ℕ → Letter → Type 0
+LeavesNone matched l = (l.role ≡ Plain) × (l.symbols.third < NO_SYMBOL) × ((place : ℕ) → l.symbols.third ≡ suc place → matched < place)
+
+-- a character has such a letter
+abbrev pub IsCleanCharacter : TableMap → Compiled → ℕ → ℕ → Type 0
+IsCleanCharacter table pattern matched c = (letter : Letter) × IsLetter table pattern (c ∷ []) letter × LeavesNone matched letter
 
 -- The classes of all characters of ASCII are right, for a place of the pattern. That a character is clean is said to be merely so, so that
 -- this is a proposition.
 pub record AreClassesRight (table : TableMap) (pattern : Compiled) (classes : Classes) : Type 0 where
   pub place : classes.place < length pattern.keys
   pub each : (c : ℕ) → c < 128 → IsClassRight table pattern classes c
-  pub clean : (c : ℕ) → c < 128 → in_set classes.clean c ≢ 0 → ∥ IsCleanCharacter table pattern c ∥₁
+  pub clean : (c : ℕ) → c < 128 → in_set classes.clean c ≢ 0 → ∥ IsCleanCharacter table pattern (most pattern.keys classes.place) c ∥₁
 
 -- so are those that were chosen, if any were
 abbrev pub AreBlocksRight : TableMap → Compiled → AsciiBlocks → Type 0

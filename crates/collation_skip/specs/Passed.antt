@@ -1,4 +1,4 @@
--- Text that a search may pass by where no key waits: no match ends in it, and behind its last character no key waits again.
+-- Text that a search may pass by where no key waits: no match ends in it, and none waits behind its last character.
 use Rattle.std.specs.Prelude.{◌≡◌, ℕ, ◌+◌, ◌<◌, ◌≤◌, false, true, List, [], ◌∷◌, ◌++◌, length, take, drop, map, Contains}
 use Rattle.std.specs.Char.{len_utf8}
 use Rattle.std.specs.Str.{chars, IsUtf8}
@@ -17,7 +17,6 @@ use Rattle.collation_pattern.specs.Compiled.{Compiled}
 use Rattle.collation_letters.specs.Apart.{IsNext}
 use Rattle.collation_letters.specs.Letters.{IsLetter}
 use Rattle.collation_skip.specs.declared.passed.Passed.{Passed}
-use Rattle.collation_letters.specs.Symbols.{AreLastSymbols}
 
 -- where a cluster starts among these items the whole pattern does not end the keys before it, so that no match ends there
 abbrev pub IsQuiet : List Key → List Item → Type 0
@@ -26,7 +25,7 @@ IsQuiet pattern items =
 
 -- Characters of which the first stands at an offset and the last at another, before a character that follows. Their items, behind a
 -- place where the last element that was variable or primary was not variable, are some in which no match ends, and then the start of
--- a cluster at the last character, at which none ends either, and the keys of this, of which the last is one that the pattern does not have.
+-- a cluster at the last character, at which none ends either, and the keys of this, behind which no key of the pattern has matched.
 pub record IsPassed (table : TableMap) (pattern : Compiled) (start last : ℕ) (cs : List ℕ) (next : ℕ) : Type 0 where
   pub begins : begins_with_starter (points_from start cs) ≡ true
   pub is_next : IsNext table start cs next
@@ -37,7 +36,8 @@ pub record IsPassed (table : TableMap) (pattern : Compiled) (start last : ℕ) (
   pub quiet : IsQuiet pattern.keys (before ++ ClusterStart last ∷ [])
   pub later : (at : ℕ) → Contains before (ClusterStart at) → start ≤ at
   pub after_start : start ≤ last
-  pub foreign : AreLastSymbols pattern.keys keys (0 ∷ [])
+  pub some : 0 < length keys
+  pub none_waits : border pattern.keys (item_keys before ++ keys) ≡ 0
 
 -- A piece may be passed by up to a character that begins not after a limit: wherever the piece stands in a text.
 pub record PassesTo (table : TableMap) (pattern : Compiled) (piece : List ℕ) (limit : ℕ) (it : Passed) : Type 0 where

@@ -6,8 +6,8 @@ use Rattle.byte_blocks.specs.Sets.{is_in, trails}
 use Rattle.collation_table.specs.Table.{TableMap}
 use Rattle.collation_pattern.specs.Compiled.{Compiled}
 use Rattle.collation_letters.specs.Apart.{IsNext}
-use Rattle.collation_letters.specs.Letters.{IsClean, IsLetter}
-use Rattle.collation_skip.specs.Blocks.{IsClassifiedBy}
+use Rattle.collation_letters.specs.Letters.{IsLetter}
+use Rattle.collation_skip.specs.Blocks.{IsClassifiedBy, LeavesNone, most}
 use Rattle.collation_skip.specs.declared.two_byte_blocks.Ending.{Ending}
 use Rattle.collation_skip.specs.declared.two_byte_sets.TwoByteClasses.{TwoByteClasses}
 
@@ -37,9 +37,9 @@ pub record AreSetsRight (table : TableMap) (pattern : Compiled) (classes : TwoBy
 
 -- ---- where the text may be left
 
--- A character whose last key the pattern does not have ends within the first `len` bytes of a piece, and the one that follows is there, to
--- which no unit reaches.
-pub record IsEnding (table : TableMap) (pattern : Compiled) (piece : List ℕ) (len : ℕ) (it : Ending) : Type 0 where
+-- A character behind which no key waits, for a place of the pattern, ends within the first `len` bytes of a piece, and the one that follows
+-- is there, to which no unit reaches.
+pub record IsEnding (table : TableMap) (pattern : Compiled) (place : ℕ) (piece : List ℕ) (len : ℕ) (it : Ending) : Type 0 where
   pub begins : trails (slice_index piece it.start) ≡ 0
   pub inside : it.start < len
   pub whole : 128 ≤ slice_index piece it.start → suc it.start < len
@@ -47,7 +47,7 @@ pub record IsEnding (table : TableMap) (pattern : Compiled) (piece : List ℕ) (
   pub end : it.end ≡ it.start + len_utf8 it.character
   pub character : SpellsCharacter (take (len_utf8 it.character) (drop it.start piece)) it.character
   pub letter : IsLetter table pattern (it.character ∷ []) it.letter
-  pub clean : IsClean it.letter
+  pub clean : LeavesNone (most pattern.keys place) it.letter
   pub room : it.end + len_utf8 it.next ≤ length piece
   pub next : SpellsCharacter (take (len_utf8 it.next) (drop it.end piece)) it.next
   pub following : IsLetter table pattern (it.next ∷ []) it.following

@@ -10,11 +10,11 @@ use byte_blocks::{len_to_last, passed_len};
 use collation_elements::{units_stay_apart, weighers_go_on};
 use collation_letters::{Letters, laws_of_characters, laws_of_symbols};
 use collation_pattern::Pattern;
+use collation_pattern::laws::laws_of_borders;
 use collation_table::Weights;
 
 /// Passes by text of ASCII at the front of a piece, where no key waits, by right classes: at most `reach` bytes, and to the end of a
-/// character with a key that the pattern does not have. `None` where it finds no such character behind which it may stop: `looked` is
-/// then how many bytes it looked over.
+/// character behind which no key waits. `None` where it finds no such character: `looked` is then at least how many bytes it looked over.
 pub(crate) fn pass_blocks<W: Weights>(
     table: &W,
     pattern: &Pattern,
@@ -32,12 +32,13 @@ pub(crate) fn pass_blocks<W: Weights>(
 {
     laws_of_characters();
     laws_of_symbols();
+    laws_of_borders();
     units_stay_apart();
     weighers_go_on();
     let len = passed_len(&classes.sets, piece, piece.len().min(reach));
     let end = len_to_last(&classes.clean, piece, followed_len(piece, len));
     if end == 0 {
-        *looked = len;
+        *looked = len.max(*looked);
         return None;
     }
     let next = piece[end] as char;

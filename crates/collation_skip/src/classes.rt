@@ -1,12 +1,13 @@
 //! The classes of the bytes of ASCII: what a search has to know of their characters to pass them in blocks.
 ghost use Rattle.std.specs.Prelude.{◌≡◌, ◌≢◌, ◌<◌, ◌≤◌, ◌∷◌, [], length, false, true, IfSome};
 ghost use Rattle.collation_table.specs.Table.{TableMap};
-ghost use Rattle.collation_letters.specs.Letters.{IsClean, IsLetter};
+ghost use Rattle.collation_letters.specs.Letters.{IsLetter};
 ghost use Rattle.collation_letters.specs.Store.{AreLetters};
 ghost use Rattle.byte_blocks.specs.Sets.{in_set};
-ghost use Rattle.collation_skip.specs.Blocks.{AreClassesRight, IsClassRight};
+ghost use Rattle.collation_skip.specs.Blocks.{AreClassesRight, IsClassRight, LeavesNone, most};
 
-use crate::kinds::{Kind, kind_of};
+use crate::kinds::{Kind, kind_of, leaves_none};
+use crate::pace::SAMPLE;
 use byte_blocks::{AsciiSets, block_passes, in_set as in_ascii, put};
 use collation_letters::{Letter, Letters};
 use collation_pattern::Pattern;
@@ -15,12 +16,9 @@ use collation_table::Weights;
 /// How many places of a pattern are tried.
 const MOST_ASCII_PLACES: usize = 16;
 
-/// How many bytes of a text a place is tried on.
-pub(crate) const SAMPLE: usize = 1_024;
-
 /// A place of a pattern, and sets of bytes of ASCII for it: those that can't be passed halt; the last key of `key` may be the pattern's at
 /// the place; `later` have no key, or their last one may be the pattern's behind the place; out of `joins` a unit may reach, and into `inner`.
-/// Behind one of `clean`, a cluster with a key that the pattern does not have, the text may be left.
+/// Behind one of `clean`, a cluster behind which no key waits, the text may be left.
 #[derive(Clone, Copy, Debug)]
 pub(crate) struct Classes {
     pub(crate) place: usize,
@@ -58,21 +56,28 @@ pub(crate) fn classes_for<W: Weights>(
             fewest = expected;
         }
     }
-    best.clean = clean_bytes(table, pattern, letters);
+    best.clean = clean_bytes(table, pattern, letters, best.place);
     if are_right(table, pattern, letters, &best) {
         return Some(best);
     }
     None
 }
 
-/// The set of the bytes behind which a text may be left.
-fn clean_bytes<W: Weights>(table: &W, pattern: &Pattern, letters: &mut Letters) -> [u8; 16]
-    requires { AreLetters (W.table table.now) pattern.now letters.old }
+/// The set of the bytes behind which a text may be left, for a place of the pattern.
+fn clean_bytes<W: Weights>(
+    table: &W,
+    pattern: &Pattern,
+    letters: &mut Letters,
+    place: usize,
+) -> [u8; 16]
+    requires right { AreLetters (W.table table.now) pattern.now letters.old }
+    requires place { place < length pattern.now.keys }
     ensures { AreLetters (W.table table.now) pattern.now letters.new }
 {
     let mut clean = [0; 16];
     for byte in 0..128u8 {
-        if letters.letter(table, pattern, byte as char).is_clean() {
+        let letter = letters.letter(table, pattern, byte as char);
+        if leaves_none(pattern, &letter, place) {
             put(&mut clean, byte);
         }
     }
@@ -197,7 +202,8 @@ fn is_right(pattern: &Pattern, classes: &Classes, byte: u8, letter: &Letter) -> 
     ensures class { result ≡ true → (table : TableMap)
         → IsLetter table pattern.now (byte ∷ []) letter.now
         → IsClassRight table pattern.now classes.now byte }
-    ensures clean { result ≡ true → in_set classes.now.clean byte ≢ 0 → IsClean letter.now }
+    ensures clean { result ≡ true → in_set classes.now.clean byte ≢ 0
+        → LeavesNone (most pattern.now.keys classes.now.place) letter.now }
 {
     let kind = kind_of(pattern, letter, classes.place);
     if !has(&classes.sets.halt, byte, kind.halt) {
@@ -212,7 +218,8 @@ fn is_right(pattern: &Pattern, classes: &Classes, byte: u8, letter: &Letter) -> 
     if !has(&classes.sets.joins, byte, kind.joins) {
         return false;
     }
-    if !has_only_if(&classes.clean, byte, letter.is_clean()) {
+    let leaves = leaves_none(pattern, letter, classes.place);
+    if !has_only_if(&classes.clean, byte, leaves) {
         return false;
     }
     has(&classes.sets.inner, byte, kind.inner)

@@ -1,8 +1,8 @@
-//! What a character of ASCII is to a place of the pattern, by its letter.
+//! What a character is to a place of the pattern, by its letter.
 ghost use Rattle.std.specs.Prelude.{◌≡◌, ◌<◌, ◌∷◌, [], ℕ, false, true, length};
 ghost use Rattle.collation_table.specs.Table.{TableMap};
 ghost use Rattle.collation_letters.specs.Letters.{IsLetter};
-ghost use Rattle.collation_skip.specs.Blocks.{IsLone, IsNotAt, IsOfKind, most};
+ghost use Rattle.collation_skip.specs.Blocks.{IsLone, IsNotAt, IsOfKind, LeavesNone, most};
 
 use collation_letters::{FOREIGN, Letter, NO_SYMBOL, Role, laws_of_symbols};
 use collation_pattern::Pattern;
@@ -31,6 +31,22 @@ pub(crate) fn most_matched(pattern: &Pattern, place: usize) -> usize
 {
     let last = pattern.keys().len() - 1;
     if place < last { place + 1 } else { last }
+}
+
+/// Whether no key of the pattern waits behind a cluster with this letter, where as many have matched before it as may have in text that is
+/// passed.
+pub(crate) fn leaves_none(pattern: &Pattern, letter: &Letter, place: usize) -> bool
+    requires { place < length pattern.now.keys }
+    ensures { result ≡ true → LeavesNone (most pattern.now.keys place) letter.now }
+{
+    let matched = most_matched(pattern, place);
+    let symbol = letter.symbols.third;
+    match letter.role {
+        Role::Plain => {
+            symbol != NO_SYMBOL && (symbol == FOREIGN || symbol as usize - 1 > matched)
+        }
+        _ => false,
+    }
 }
 
 /// What a character with this letter is to a place of the pattern.

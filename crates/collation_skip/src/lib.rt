@@ -33,5 +33,6 @@ mod two_byte_sets;
 
 pub use crate::ascii::AsciiBlocks;
 pub use crate::automaton::Automaton;
+pub use crate::pace::{Pace, WORTH};
 pub use crate::passed::Passed;
 pub use crate::skip::Skip;

@@ -1,8 +1,8 @@
 //! The moves of the automaton: the state behind one byte more.
-ghost use Rattle.std.specs.Prelude.{◌≡◌, ◌≢◌, ◌∷◌, ◌++◌, ℕ, List, [], false, IfSome};
+ghost use Rattle.std.specs.Prelude.{◌≡◌, ◌≢◌, ◌<◌, ◌∷◌, ◌++◌, ℕ, List, [], false, true, IfSome};
 ghost use Rattle.utf8_cut.specs.Sequences.{SpellsCharacter};
 ghost use Rattle.collation_letters.specs.Apart.{IsNext};
-ghost use Rattle.collation_letters.specs.Letters.{IsLetter, is_mark};
+ghost use Rattle.collation_letters.specs.Letters.{IsLetter, begins_cluster, flag_after, is_mark};
 ghost use Rattle.collation_letters.specs.Store.{AreLetters};
 ghost use Rattle.collation_letters.specs.declared.letter.Role.TheVariants.{Steps};
 ghost use Rattle.collation_skip.specs.BegunBytes.{begun_bytes};
@@ -99,10 +99,23 @@ fn behind_letter<W: Weights>(
     if depth >= most {
         return None;
     }
-    let before = if state.letter.is_foreign() {
+    let before = len_to_leave(state, depth);
+    Some(State::behind(depth, following, c, before))
+}
+
+/// How many bytes the last letter of a state has, if the text may be left behind it, else 0. So many of the pattern's first keys have matched
+/// there.
+fn len_to_leave(state: &State, depth: usize) -> u8
+    ensures len { 0 < result → result ≡ state.now.len }
+    ensures none { 0 < result → depth ≡ 0 }
+    ensures begins { 0 < result → begins_cluster state.now.letter.role ≡ true }
+    ensures flag { 0 < result → flag_after state.now.letter.role false ≡ false }
+    ensures flag_after { 0 < result → flag_after state.now.letter.role true ≡ false }
+    ensures some { 0 < result → state.now.letter.symbols.third < 255 }
+{
+    if depth == 0 && state.letter.has_last_key() {
         state.len
     } else {
         0
-    };
-    Some(State::behind(depth, following, c, before))
+    }
 }

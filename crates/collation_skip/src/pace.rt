@@ -1,90 +1,157 @@
-//! Which way through text is asked, and when: counts of what each passed by. All ways answer alike, so no count can make an answer
-//! wrong, and no function here has a clause.
-use crate::two_byte_sets::TWO_BYTE_SAMPLE;
+//! Which way through text is asked, and when. Where nothing was passed by, at least as many bytes are walked over next as blocks looked
+//! over, and twice as many as the time before. All ways answer alike, so no count can make an answer wrong, and no function here has a
+//! clause.
+use crate::passed::Passed;
 
 /// How many bytes have to pass, so that blocks pay.
 pub(crate) const WORTH_BLOCKS: usize = 32;
 
-/// How many bytes have to pass, so that the automaton pays.
-const WORTH_MOVES: usize = 24;
+/// How many bytes have to pass, so that any way pays.
+pub const WORTH: usize = 24;
 
-/// How far the automaton goes at once where blocks pay: over what stopped them, in bytes.
-const SHORT_TURN: usize = 64;
+/// How far the automaton goes at once where blocks pay, over what stopped them, in bytes: twice as far once it passed little by at
+/// `MANY_TIMES` or more, since it leaves the last bytes, in which a match may begin, and of a long record these are many.
+const TURN: usize = 64;
 
-/// How far it goes there once it was not asked `MANY_REFUSALS` times in a row: of what it goes over, it leaves the last bytes, in which
-/// a match may begin, and of a long record these are many.
-const LONG_TURN: usize = 128;
+const MANY_TIMES: u32 = 32;
 
-const MANY_REFUSALS: u32 = 31;
+/// How many bytes are many, when it is seen whether the automaton comes to their end, but for `TURN` at most.
+const MANY_ASKED: usize = 512;
 
-/// How many bytes are much, when it is seen whether the automaton comes to their end, and how many may be left then.
-const MUCH_ASKED: usize = 512;
+/// The most bytes that are walked over before text is asked for again, unless more were looked over in vain. And how many turns the
+/// automaton is not asked at most, but for one.
+const LONGEST: u32 = 256;
 
-const LITTLE: usize = 64;
+/// How many bytes of a text a place is tried on.
+pub(crate) const SAMPLE: usize = 1_024;
 
-/// How many times at most the automaton is not asked where it did not pay.
-const LONGEST_REST: u32 = 255;
+/// The most bytes of one text alone for which no place is chosen.
+const LONGEST_WITHOUT_PLACE: usize = 6_000;
+
+/// How many bytes at the front of a text are ASCII where a place is chosen by it: of other scripts few blocks pass.
+const ASCII_FRONT: usize = 16;
 
 /// How many bytes the automaton passes by before sets are chosen for characters of two bytes: some times as many as it would pass by
 /// meanwhile.
 const FIRST_WAIT: usize = 524_288;
 
-/// How many texts are passed before it is seen whether these sets pay, and how many bytes each has to have, one with the other: where
-/// they are shorter, the automaton passes as much, and goes on where blocks stop.
-const TEXTS: usize = 64;
+/// How many bytes the sets have to pass by of each text, one with the other, and how many they may lack since they lacked none: where texts
+/// are shorter, the automaton passes as much, and goes on where blocks stop.
+const EACH_TEXT: usize = 96;
 
-const FEWEST_EACH: usize = 96;
+const MOST_LACKING: usize = 6_144;
 
 /// In how many bytes a character of two bytes is looked for, which tells that the next one will be met soon.
 const TWO_BYTES_WITHIN: usize = 256;
 
-/// What the ways passed by until now, as far as it decides which of them is asked.
+/// What was looked over and passed by until now, as far as it says which way is asked, and when.
 #[derive(Clone, Copy, Debug)]
-pub(crate) struct Pace {
+pub struct Pace {
+    /// How many bytes of what letters take next are walked over before a way is asked.
+    due: usize,
+    /// How many bytes are walked over behind each call: none where much was passed by, more where bytes were looked over in vain.
+    hold: usize,
+    /// The fewest bytes of a text by which a place is chosen for blocks. Where less than `SAMPLE` will do, short texts make it less; `SAMPLE`
+    /// wants a long one, and `usize::MAX` none.
+    wanted: usize,
     /// Whether the last text of ASCII passed in blocks.
     blocks_pay: bool,
-    /// How far the automaton goes next where blocks pay, in bytes.
-    short: usize,
-    /// Whether the automaton came to the end of what it was asked last, and that was much: then few stops are expected.
+    /// At which turn the automaton is, of those in which it could be asked: it is asked at powers of two, and each time that it passed little
+    /// by it goes on from there, up to 512.
+    times: u32,
+    /// Whether it goes two turns at once: from then on it does.
+    goes_far: bool,
+    /// Whether it came to the end of the last text of many bytes that it was asked: then few stops are expected.
     is_calm: bool,
-    /// How many times the automaton is not asked now, and how many times it was not the last time.
-    rest: u32,
-    last_rest: u32,
     /// Whether the last text that sets of two bytes passed by had such a character soon.
     are_sets_first: bool,
-    /// How many bytes the automaton has still to pass by before sets are chosen again, and how many it had the last time.
-    left: usize,
+    /// How many bytes the automaton has still to pass by before sets are chosen; where there are some, how many bytes more they may lack.
+    sets_left: usize,
+    /// How many bytes it has to pass by before the next ones.
     wait: usize,
-    /// How many texts the sets passed by, or did not, since it was seen whether they pay, and how many bytes these had.
-    texts: usize,
-    bytes: usize,
 }
 
 impl Pace {
-    /// Nothing was passed by yet.
-    pub(crate) fn new() -> Pace {
+    /// Nothing was passed by yet, and the first `due` bytes are walked over.
+    pub fn new(due: usize) -> Pace {
         Pace {
+            due,
+            hold: 0,
+            wanted: SAMPLE - 1,
             blocks_pay: false,
-            short: SHORT_TURN,
+            times: 2,
+            goes_far: false,
             is_calm: false,
-            rest: 0,
-            last_rest: 0,
             are_sets_first: false,
-            left: FIRST_WAIT,
+            sets_left: FIRST_WAIT,
             wait: FIRST_WAIT,
-            texts: 0,
-            bytes: 0,
         }
     }
 
-    /// Whether sets of two bytes are asked before blocks of ASCII; else after them.
-    pub(crate) fn are_sets_first(&self) -> bool {
-        self.are_sets_first
+    /// Prepares, before its first byte, for one text alone of `len` bytes, of which at least `due` are walked over: for a short one no place
+    /// is chosen, since that costs more than it saves, and for a longer one once, though its first pieces are short.
+    pub fn prepare(&mut self, due: usize, len: usize) {
+        self.due = self.due.max(due);
+        self.wanted = if len <= LONGEST_WITHOUT_PLACE {
+            usize::MAX
+        } else {
+            SAMPLE
+        };
     }
 
-    /// Whether the automaton is expected to come to the end of what it is asked.
-    pub(crate) fn is_calm(&self) -> bool {
-        self.is_calm
+    /// How many bytes of what letters take next are walked over before text is asked for.
+    pub fn due(&self) -> usize {
+        self.due
+    }
+
+    /// Text was asked for up to `at`: how many bytes are walked over from the front on until it is asked for again.
+    pub fn wait_from(&mut self, at: usize) -> usize {
+        self.due = at.saturating_add(self.hold);
+        self.due
+    }
+
+    /// Letters took so many bytes.
+    pub fn after_letters(&mut self, len: usize) {
+        self.due = self.due.saturating_sub(len);
+    }
+
+    /// So many bytes were looked over in vain: twice as many are walked over as before, or these.
+    pub fn lose(&mut self, looked: usize) {
+        self.hold = twice(self.hold).max(looked);
+    }
+
+    /// Text was passed by, if it was: none is walked over where that pays, a quarter of what was before where more than one letter passed or
+    /// the automaton is soon asked, else twice as much.
+    pub(crate) fn after(&mut self, passed: &Option<Passed>, looked: usize) {
+        let Some(passed) = passed else {
+            self.lose(looked);
+            return;
+        };
+        self.hold = if passed.end >= WORTH {
+            0
+        } else if passed.start > 0 || self.times <= LONGEST {
+            (self.hold / 4).min(LONGEST as usize)
+        } else {
+            twice(self.hold)
+        };
+    }
+
+    /// Whether a place is chosen for blocks by this text.
+    #[inline(always)]
+    pub(crate) fn is_wanted(&self, text: &[u8]) -> bool {
+        text.len() >= self.wanted && begins_with_ascii(text)
+    }
+
+    /// A place was chosen by a text of so many bytes: by a long one for good, by a short one until a long one comes.
+    pub(crate) fn after_choice(&mut self, len: usize) {
+        self.wanted = if len < SAMPLE { SAMPLE } else { usize::MAX };
+    }
+
+    /// There is no place. This text may be one of the short ones that make one due.
+    pub(crate) fn after_short(&mut self, text: &[u8]) {
+        if text.len() < self.wanted && self.wanted < SAMPLE && begins_with_ascii(text) {
+            self.wanted = self.wanted.saturating_sub(text.len()).max(WORTH_BLOCKS);
+        }
     }
 
     /// Blocks of ASCII passed by so many bytes: whether that was worth while.
@@ -98,83 +165,80 @@ impl Pace {
 
     /// Whether the automaton is not asked this time.
     pub(crate) fn rests(&mut self) -> bool {
-        if self.rest == 0 {
+        if self.times & self.times.wrapping_sub(1) == 0 {
             return false;
         }
-        self.rest -= 1;
+        self.times = self.times.wrapping_add(1);
         true
-    }
-
-    /// Whether the automaton is asked as seldom as may be, for it has not paid many times in a row.
-    pub(crate) fn has_long_rest(&self) -> bool {
-        self.last_rest == LONGEST_REST
     }
 
     /// The most bytes over which the automaton goes this time.
     pub(crate) fn most_moves(&mut self) -> usize {
-        let most = if self.blocks_pay {
-            self.short
-        } else {
+        let most = if !self.blocks_pay {
             usize::MAX
+        } else if self.goes_far {
+            2 * TURN
+        } else {
+            TURN
         };
         self.blocks_pay = false;
         most
     }
 
-    /// The automaton passed by so many bytes of those that it was asked, and blocks by so many. Where that was not worth while, it is not
-    /// asked one time, then 3, 7, and so on. Where it passed no more than blocks did, that says nothing. Once it goes `LONG_TURN`, it is
-    /// asked half as seldom each time that it is worth while.
-    pub(crate) fn after_moves(&mut self, asked: usize, passed: usize, in_blocks: usize) {
-        if asked >= MUCH_ASKED {
-            self.is_calm = passed >= asked - LITTLE;
-        }
-        if passed < WORTH_MOVES {
-            self.last_rest = next_rest(self.last_rest);
-            if self.last_rest >= MANY_REFUSALS {
-                self.short = LONG_TURN;
-            }
-        } else if passed > in_blocks.max(self.least(asked)) {
-            self.last_rest = if self.short > SHORT_TURN {
-                self.last_rest / 2
-            } else {
-                0
-            };
-        }
-        self.rest = self.last_rest;
+    /// Whether the automaton is expected to come to the end of what it is asked.
+    pub(crate) fn is_calm(&self) -> bool {
+        self.is_calm
     }
 
-    /// How many bytes have to pass, so that it was worth while to go `LONG_TURN`: half of them.
-    fn least(&self, asked: usize) -> usize {
-        if self.short > SHORT_TURN && asked <= LONG_TURN {
+    /// The automaton passed by so many bytes of those that it was asked, and blocks by so many. Where that was little, it is not asked one
+    /// time, then 3, 7, and so on. Where it passed no more than blocks did, or, once it goes far, no more than half of what it was asked, that
+    /// says nothing. Else it is asked at once, and once it goes far twice as soon.
+    pub(crate) fn after_moves(&mut self, asked: usize, passed: usize, in_blocks: usize) {
+        if asked >= MANY_ASKED {
+            self.is_calm = passed >= asked - TURN;
+        }
+        let least = if self.goes_far && asked <= 2 * TURN {
             asked / 2
         } else {
             0
+        };
+        if passed < WORTH {
+            self.goes_far = self.goes_far || self.times >= MANY_TIMES;
+            self.times = self.times.min(LONGEST);
+        } else if passed <= in_blocks.max(least) {
+            self.times /= 2;
+        } else if self.goes_far {
+            self.times = (self.times / 4).max(1);
+        } else {
+            self.times = 1;
         }
+        self.times = self.times.wrapping_add(1);
     }
 
-    /// The automaton passed by so many bytes: whether sets are chosen now, by a piece of so many. Where they were, it waits twice as
-    /// long for the next ones.
-    pub(crate) fn are_sets_due(&mut self, passed: usize, len: usize) -> bool {
-        self.left = self.left.saturating_sub(passed);
-        if self.left > 0 || len < TWO_BYTE_SAMPLE {
+    /// The automaton passed by so many bytes: whether sets are chosen now, by a piece of so many, where there are none.
+    pub(crate) fn are_sets_due(&mut self, has_sets: bool, passed: usize, len: usize) -> bool {
+        if has_sets {
             return false;
         }
+        self.sets_left = self.sets_left.saturating_sub(passed);
+        self.sets_left == 0 && len >= SAMPLE
+    }
+
+    /// Sets were chosen, or none pay: the next choice waits twice as long.
+    pub(crate) fn after_sets_choice(&mut self, is_some: bool) {
         self.wait = self.wait.saturating_mul(2);
-        self.left = self.wait;
-        true
+        self.sets_left = if is_some { MOST_LACKING } else { self.wait };
     }
 
     /// Sets passed by so many bytes, or none: whether they are kept, else there are none until they are chosen again.
     pub(crate) fn after_sets(&mut self, passed: usize) -> bool {
-        self.bytes = self.bytes.saturating_add(passed);
-        self.texts = self.texts.saturating_add(1);
-        if self.texts < TEXTS {
+        let left = self.sets_left.saturating_add(passed);
+        self.sets_left = left.saturating_sub(EACH_TEXT).min(MOST_LACKING);
+        if self.sets_left > 0 {
             return true;
         }
-        let pay = self.bytes >= TEXTS * FEWEST_EACH;
-        self.texts = 0;
-        self.bytes = 0;
-        pay
+        self.sets_left = self.wait;
+        false
     }
 
     /// Sets passed by this text, and that was worth while.
@@ -182,9 +246,20 @@ impl Pace {
     pub(crate) fn after_text(&mut self, text: &[u8]) {
         self.are_sets_first = !text[..text.len().min(TWO_BYTES_WITHIN)].is_ascii();
     }
+
+    /// Whether sets of two bytes are asked before blocks of ASCII; else after them.
+    pub(crate) fn are_sets_first(&self) -> bool {
+        self.are_sets_first
+    }
 }
 
-/// The rest after this one.
-fn next_rest(rest: u32) -> u32 {
-    rest.saturating_mul(2).saturating_add(1).min(LONGEST_REST)
+/// Twice as many bytes, up to `LONGEST`. Where it is none or one, one letter is walked over: so two come next.
+fn twice(hold: usize) -> usize {
+    hold.saturating_mul(2).max(2).min(LONGEST as usize)
+}
+
+/// Whether a text is ASCII at its front.
+#[inline(always)]
+fn begins_with_ascii(text: &[u8]) -> bool {
+    text[..text.len().min(ASCII_FRONT)].is_ascii()
 }

@@ -18,9 +18,7 @@ pub struct Skip {
     pub(crate) automaton: Automaton,
     pub(crate) blocks: AsciiBlocks,
     pub(crate) sets: Option<TwoByteClasses>,
-    pace: Pace,
-    /// How many bytes the sets looked over in the last call of `pass`, where they passed nothing by.
-    looked_by_sets: usize,
+    pub pace: Pace,
 }
 
 impl Skip {
@@ -31,16 +29,15 @@ impl Skip {
     ghost use Rattle.collation_skip.specs.Passed.{PassesTo};
     ghost use Rattle.collation_skip.specs.Skips.{IsSkipRight};
 
-    /// Nothing is known yet. Takes no memory.
-    pub fn new(alloc: Global) -> Skip
+    /// Nothing is known yet, and the first `due` bytes are walked over. Takes no memory.
+    pub fn new(alloc: Global, due: usize) -> Skip
         ensures { (table : TableMap) (pattern : Compiled) → IsSkipRight table pattern result }
     {
         Skip {
             automaton: Automaton::new(alloc),
             blocks: AsciiBlocks::new(),
             sets: None,
-            pace: Pace::new(),
-            looked_by_sets: 0,
+            pace: Pace::new(due),
         }
     }
 
@@ -61,49 +58,56 @@ impl Skip {
         ensures right { IsSkipRight (W.table table.now) pattern.now self.new }
         ensures letters { AreLetters (W.table table.now) pattern.now letters.new }
     {
-        self.looked_by_sets = 0;
-        let by_sets = self.pass_by_sets(table, pattern, letters, piece, reach, true);
+        let mut looked = 0;
+        let passed = self.pass_by_a_way(table, pattern, letters, piece, reach, &mut looked);
+        self.pace.after(&passed, looked);
+        passed
+    }
+
+    /// The ways, in their order: sets where they are expected, blocks; where the automaton rests, one character after the other; else sets, if
+    /// they were not asked, and the automaton. `looked` is at least how many bytes were looked over in vain in blocks.
+    #[inline(always)]
+    fn pass_by_a_way<W: Weights>(
+        &mut self,
+        table: &W,
+        pattern: &Pattern,
+        letters: &mut Letters,
+        piece: &[u8],
+        reach: usize,
+        looked: &mut usize,
+    ) -> Option<Passed>
+        requires right { IsSkipRight (W.table table.now) pattern.now self.old }
+        requires letters { AreLetters (W.table table.now) pattern.now letters.old }
+        ensures passes { IfSome result
+            (PassesTo (W.table table.now) pattern.now piece.now reach) }
+        ensures right { IsSkipRight (W.table table.now) pattern.now self.new }
+        ensures letters { AreLetters (W.table table.now) pattern.now letters.new }
+    {
+        let by_sets = self.pass_by_sets(table, pattern, letters, piece, reach, true, looked);
         if by_sets.is_some() {
             return by_sets;
         }
-        let by_blocks = self.blocks.pass(table, pattern, letters, piece, reach);
-        if self.pace.after_blocks(len_of(&by_blocks)) {
-            return by_blocks;
-        }
-        if self.pace.rests() {
-            if by_blocks.is_some() {
+        let pace = &mut self.pace;
+        let by_blocks = self
+            .blocks
+            .pass(table, pattern, letters, pace, piece, reach, looked);
+        let in_blocks = len_of(&by_blocks);
+        if by_blocks.is_some() {
+            if self.pace.after_blocks(in_blocks) || self.pace.rests() {
                 return by_blocks;
             }
+        } else if self.pace.rests() {
             return pass_foreign(pattern, letters, piece, reach);
         }
-        let by_sets = self.pass_by_sets(table, pattern, letters, piece, reach, false);
+        let by_sets = self.pass_by_sets(table, pattern, letters, piece, reach, false, looked);
         if by_sets.is_some() {
             return by_sets;
         }
-        let in_blocks = len_of(&by_blocks);
         let by_moves = self.pass_by_moves(table, pattern, letters, piece, reach, in_blocks);
         if len_of(&by_moves) > in_blocks {
             return by_moves;
         }
         by_blocks
-    }
-
-    /// Whether the automaton is asked as seldom as may be, for it has not paid many times in a row.
-    pub fn has_long_rest(&self) -> bool {
-        self.pace.has_long_rest()
-    }
-
-    /// Prepares, before its first byte, for one text alone of so many bytes: of a short one less is found out.
-    pub fn prepare(&mut self, len: usize)
-        ensures { (table : TableMap) (pattern : Compiled)
-            → IsSkipRight table pattern self.old → IsSkipRight table pattern self.new }
-    {
-        self.blocks.prepare(len);
-    }
-
-    /// How many bytes at least the last `pass` looked over in vain, in blocks, where it passed nothing by.
-    pub fn looked_over(&self) -> usize {
-        self.blocks.looked.max(self.looked_by_sets)
     }
 
     /// Passes by text of characters of one and of two bytes in blocks, asked before blocks of ASCII (`first`) or after them. `None` where
@@ -118,6 +122,7 @@ impl Skip {
         piece: &[u8],
         reach: usize,
         first: bool,
+        looked: &mut usize,
     ) -> Option<Passed>
         requires right { IsSkipRight (W.table table.now) pattern.now self.old }
         requires letters { AreLetters (W.table table.now) pattern.now letters.old }
@@ -132,15 +137,7 @@ impl Skip {
         let Some(sets) = &self.sets else {
             return None;
         };
-        let passed = pass_two_bytes(
-            table,
-            pattern,
-            letters,
-            sets,
-            piece,
-            reach,
-            &mut self.looked_by_sets,
-        );
+        let passed = pass_two_bytes(table, pattern, letters, sets, piece, reach, looked);
         if !self.pace.after_sets(len_of(&passed)) {
             self.sets = None;
         }
@@ -152,7 +149,8 @@ impl Skip {
         Some(passed)
     }
 
-    /// Passes by text by the automaton, beside blocks, which passed by `in_blocks` bytes. Chooses sets by the piece where these are due.
+    /// Passes by text by the automaton, beside blocks, which passed by `in_blocks` bytes. Chooses sets by the piece where there are none and
+    /// these are due.
     fn pass_by_moves<W: Weights>(
         &mut self,
         table: &W,
@@ -177,8 +175,10 @@ impl Skip {
         let passed = len_of(&by_moves);
         self.pace
             .after_moves(piece.len().min(reach), passed, in_blocks);
-        if self.pace.are_sets_due(passed, piece.len()) {
+        let has_sets = self.sets.is_some();
+        if self.pace.are_sets_due(has_sets, passed, piece.len()) {
             self.sets = sets_for(table, pattern, letters, piece);
+            self.pace.after_sets_choice(self.sets.is_some());
         }
         by_moves
     }

@@ -4,12 +4,14 @@ ghost use Rattle.collation_letters.specs.Store.{AreLetters};
 ghost use Rattle.collation_skip.specs.Passed.{PassesTo};
 ghost use Rattle.collation_skip.specs.TwoBytes.{AreSetsRight, IsEnding};
 
+use crate::kinds::leaves_none;
 use crate::passed::Passed;
 use crate::two_byte_sets::TwoByteClasses;
 use byte_blocks::{TRAILS, going_len};
 use collation_elements::{units_stay_apart, weighers_go_on};
 use collation_letters::{Letter, Letters, is_next, laws_of_characters, laws_of_symbols};
 use collation_pattern::Pattern;
+use collation_pattern::laws::laws_of_borders;
 use collation_table::Weights;
 use utf8_cut::sized_character;
 
@@ -19,9 +21,8 @@ const MOST_AT_ONCE: usize = 8_192;
 /// In how many bytes, the last of those that pass, a character is looked for behind which the text may be left.
 const WAY_BACK: usize = 512;
 
-/// Passes by text at the front of a piece, where no key waits, by right sets: at most `reach` bytes, and to the end of a character with
-/// a key that the pattern does not have. `None` where it finds no such character behind which it may stop: `looked` is then how many bytes
-/// it looked over.
+/// Passes by text at the front of a piece, where no key waits, by right sets: at most `reach` bytes, and to the end of a character behind
+/// which no key waits. `None` where it finds no such character: `looked` is then at least how many bytes it looked over.
 pub(crate) fn pass_two_bytes<W: Weights>(
     table: &W,
     pattern: &Pattern,
@@ -39,6 +40,7 @@ pub(crate) fn pass_two_bytes<W: Weights>(
 {
     laws_of_characters();
     laws_of_symbols();
+    laws_of_borders();
     units_stay_apart();
     weighers_go_on();
     let len = going_len(
@@ -46,8 +48,8 @@ pub(crate) fn pass_two_bytes<W: Weights>(
         piece,
         piece.len().min(reach).min(MOST_AT_ONCE),
     );
-    let Some(ending) = last_ending(table, pattern, letters, piece, len) else {
-        *looked = len;
+    let Some(ending) = last_ending(table, pattern, letters, classes.place, piece, len) else {
+        *looked = len.max(*looked);
         return None;
     };
     Some(Passed {
@@ -58,7 +60,7 @@ pub(crate) fn pass_two_bytes<W: Weights>(
     })
 }
 
-/// A character with a key that the pattern does not have, and the one that follows it, to which no unit reaches.
+/// A character behind which no key waits, and the one that follows it, to which no unit reaches.
 #[derive(Clone, Copy)]
 struct Ending {
     start: usize,
@@ -75,20 +77,22 @@ fn last_ending<W: Weights>(
     table: &W,
     pattern: &Pattern,
     letters: &mut Letters,
+    place: usize,
     piece: &[u8],
     len: usize,
 ) -> Option<Ending>
     requires right { AreLetters (W.table table.now) pattern.now letters.old }
+    requires place { place < length pattern.now.keys }
     requires len { len ≤ length piece.now }
     ensures right { AreLetters (W.table table.now) pattern.now letters.new }
     ensures ending { IfSome result
-        (IsEnding (W.table table.now) pattern.now piece.now len) }
+        (IsEnding (W.table table.now) pattern.now place piece.now len) }
 {
     let first = len.saturating_sub(WAY_BACK);
     let mut start = len;
     while start > first {
         start -= 1;
-        let ending = ending_at(table, pattern, letters, piece, len, start);
+        let ending = ending_at(table, pattern, letters, place, piece, len, start);
         if ending.is_some() {
             return ending;
         }
@@ -102,16 +106,18 @@ fn ending_at<W: Weights>(
     table: &W,
     pattern: &Pattern,
     letters: &mut Letters,
+    place: usize,
     piece: &[u8],
     len: usize,
     start: usize,
 ) -> Option<Ending>
     requires right { AreLetters (W.table table.now) pattern.now letters.old }
+    requires place { place < length pattern.now.keys }
     requires len { len ≤ length piece.now }
     requires start { start < len }
     ensures right { AreLetters (W.table table.now) pattern.now letters.new }
     ensures ending { IfSome result
-        (IsEnding (W.table table.now) pattern.now piece.now len) }
+        (IsEnding (W.table table.now) pattern.now place piece.now len) }
 {
     let first = piece[start];
     if TRAILS[(first / 16) as usize] != 0 || (first >= 128 && start + 1 >= len) {
@@ -120,7 +126,7 @@ fn ending_at<W: Weights>(
     let (character, character_len) = sized_character(&piece[start..])?;
     let letter = letters.letter(table, pattern, character);
     let end = start + character_len;
-    if end > len || !letter.is_clean() {
+    if end > len || !leaves_none(pattern, &letter, place) {
         return None;
     }
     let (next, _len) = sized_character(&piece[end..])?;

@@ -8,6 +8,7 @@ ghost use Rattle.byte_blocks.specs.Sets.{is_in};
 ghost use Rattle.collation_skip.specs.TwoBytes.{AreRightOf, AreSetsRight, IsSetRight};
 
 use crate::kinds::{Kind, kind_of};
+use crate::pace::SAMPLE;
 use byte_blocks::{ByteSet, NO_BYTES, TwoByteSets, block_goes_on};
 use collation_letters::{Letter, Letters};
 use collation_pattern::Pattern;
@@ -16,9 +17,6 @@ use utf8_cut::sized_character;
 
 /// How many places of a pattern are tried.
 const MOST_TWO_BYTE_PLACES: usize = 8;
-
-/// How many bytes of a text a place is tried on.
-pub(crate) const TWO_BYTE_SAMPLE: usize = 1_024;
 
 /// How many characters of a sample have to have a leading byte, so that this one is passed.
 const FEW: usize = 4;
@@ -76,7 +74,7 @@ fn leads_of(text: &[u8]) -> Option<ByteSet> {
     let mut counts = [0; 32];
     let mut leads = NO_BYTES;
     let mut found = 0usize;
-    for byte in text.iter().take(TWO_BYTE_SAMPLE) {
+    for byte in text.iter().take(SAMPLE) {
         if *byte >= 0xC0 && *byte < 0xE0 {
             let count = &mut counts[(*byte % 32) as usize];
             if *count == FEW {
@@ -170,7 +168,7 @@ fn halts(classes: &TwoByteClasses, text: &[u8]) -> usize
     ensures { result ≤ 1024 }
 {
     let mut count = 0;
-    for block in 0..TWO_BYTE_SAMPLE / 16 {
+    for block in 0..SAMPLE / 16 {
         let at = 16 * block + 2;
         if at + 16 <= text.len() && !block_goes_on(&classes.sets, text, at) {
             count += 1;

@@ -163,7 +163,8 @@ fn is_clean(letter: &Letter) -> bool {
     }
 }
 
-/// The last of the first `len` bytes of a piece whose character is a cluster with a key that the pattern does not have.
+/// The last of the first `len` bytes of a piece whose character is a cluster with a key that the pattern does not have. For patterns of one
+/// and of two keys these are all behind which text may be left.
 fn last_clean(ways: &mut Ways<'_>, piece: &[u8], len: usize) -> Option<usize> {
     for at in (0..len).rev() {
         if is_clean(&ways.letter(byte_at(piece, at) as char)) {

@@ -12,7 +12,7 @@ ghost use Rattle.collation_skip.specs.Skips.{IsSkipRight};
 
 use collation_letters::Letters;
 use collation_pattern::Pattern;
-use collation_skip::{AsciiBlocks, Automaton, Passed, Skip};
+use collation_skip::{AsciiBlocks, Automaton, Pace, Passed, Skip};
 use collation_table::Weights;
 
 /// What `Skip::pass` says.
@@ -78,8 +78,10 @@ fn blocks_say<W: Weights>(
     table: &W,
     pattern: &Pattern,
     letters: &mut Letters,
+    pace: &mut Pace,
     piece: &[u8],
     reach: usize,
+    looked: &mut usize,
 ) -> Option<Passed>
     requires right { AreLetters (W.table table.now) pattern.now letters.old }
     requires blocks { AreBlocksRight (W.table table.now) pattern.now blocks.old }
@@ -97,5 +99,5 @@ fn blocks_say<W: Weights>(
     ensures right { AreLetters (W.table table.now) pattern.now letters.new }
     ensures blocks { AreBlocksRight (W.table table.now) pattern.now blocks.new }
 {
-    blocks.pass(table, pattern, letters, piece, reach)
+    blocks.pass(table, pattern, letters, pace, piece, reach, looked)
 }

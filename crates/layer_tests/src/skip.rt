@@ -7,6 +7,7 @@ use crate::calls::{
 };
 use crate::ways::{Place, Ways, ways_of};
 use collation_pattern::Pattern;
+use collation_skip::Pace;
 use collation_table::Table;
 use std::alloc::Global;
 use std::process::Abort;
@@ -49,7 +50,7 @@ fn passed_is(
 }
 
 /// A pattern of one key, or of two, a text, and where it is left.
-const TEXTS: [(&str, &str, Option<Place>); 16] = [
+const TEXTS: [(&str, &str, Option<Place>); 18] = [
     ("b", "mmmmmmmmmm", Some((8, 9, 'm'))),
     ("b", "mmab", Some((2, 3, 'b'))),
     ("b", "mbm", Some((0, 1, 'b'))),
@@ -59,6 +60,9 @@ const TEXTS: [(&str, &str, Option<Place>); 16] = [
     ("ab", "mmabmm", Some((1, 2, 'a'))),
     ("ab", "mmamm", Some((3, 4, 'm'))),
     ("ab", "mmaamb", Some((4, 5, 'b'))),
+    // a key of the pattern behind which none has matched
+    ("ab", "mmbb", Some((2, 3, 'b'))),
+    ("ab", "mmab", Some((1, 2, 'a'))),
     // a character of three bytes, and one of four
     ("b", "m\u{4E00}m\u{20000}m", Some((5, 9, 'm'))),
     // a mark joins the letter before it; one of a lower class is left to the steps
@@ -179,7 +183,7 @@ const VARIABLE: [(&str, Place); 3] = [
     ("m \u{301}mm", (4, 5, 'm')),
 ];
 
-/// A space begins a cluster and has no key in shifted weighting, and so no key that the pattern does not have.
+/// A space begins a cluster and has no key in shifted weighting, and so text is not left behind it.
 #[test]
 fn variable_characters_are_passed_by(rt: HostRuntime) {
     for (text, want) in &VARIABLE {
@@ -311,11 +315,11 @@ const CONTROL: &str = "a toll at bottle to a\u{1}xle all a total at a tab. ";
 
 const DOT: &str = "a toll at bottle to t\u{B7}ll all a total at a tab. ";
 
-/// A pattern, a text, how many bytes of it may be passed by, and where it is left: all but for the last byte, up to a key that the
-/// pattern does not have.
+/// A pattern, a text, how many bytes of it may be passed by, and where it is left: all but for the last byte, up to one behind which no key
+/// waits.
 type Block<'a> = (&'a str, &'a str, usize, Option<Place>);
 
-const BLOCKS: [Block; 12] = [
+const BLOCKS: [Block; 13] = [
     ("ax", TELL, 47, Some((45, 46, ' '))),
     ("ax", TELL, 32, Some((31, 32, 'o'))),
     ("x", TELL, 47, Some((45, 46, ' '))),
@@ -327,7 +331,7 @@ const BLOCKS: [Block; 12] = [
     ("x", AXLE, 47, Some((20, 21, 'x'))),
     ("ax", CONTROL, 47, Some((19, 20, 'a'))),
     ("ax", DOT, 47, Some((19, 20, 't'))),
-    // back to a key that the pattern does not have; nothing where there is none
+    // back to one behind which no key waits; nothing where there is none
     (
         "totx",
         "tototototoeototototototototototototot",
@@ -335,6 +339,13 @@ const BLOCKS: [Block; 12] = [
         Some((10, 11, 'o')),
     ),
     ("totx", "tototototototototototototototototot", 35, None),
+    // also back to one that stands in the pattern behind the two of its place alone
+    (
+        "axto",
+        "tototototototototototototototototot",
+        33,
+        Some((32, 33, 'o')),
+    ),
 ];
 
 /// Compares what passes by in blocks: nothing before a long text came, then this much.
@@ -359,4 +370,69 @@ fn waits_for_a_long_text(rt: HostRuntime) {
     let settings = ("ax", THREE, KEPT);
     let [before, after] = in_blocks(&rt, rt.alloc(), settings, &[b't'; 1_024], TELL, 47);
     holds(&rt, before.is_none() && after.is_some(), &TELL);
+}
+
+/// Compares how many bytes are walked over behind each try in vain that looked over so many.
+fn losses_are(rt: &impl Abort, pace: &mut Pace, looked: &[usize], want: &[usize]) {
+    for (at, len) in looked.iter().enumerate() {
+        pace.lose(*len);
+        let due = pace.wait_from(0);
+        same_at(rt, &Some(due), &want.get(at).copied(), &at);
+    }
+}
+
+/// Behind a try in vain twice as many bytes are walked over as before, up to 256, and no fewer than were looked over. What letters take
+/// counts.
+#[test]
+fn bytes_are_walked_over_behind_tries_in_vain(rt: HostRuntime) {
+    let mut pace = Pace::new(30);
+    same_at(&rt, &pace.due(), &30, &"new");
+    let looked = [0, 0, 0, 20, 0, 0, 0, 0, 1_000, 0];
+    let want = [2, 4, 8, 20, 40, 80, 160, 256, 1_000, 256];
+    losses_are(&rt, &mut pace, &looked, &want);
+    pace.after_letters(200);
+    same_at(&rt, &pace.due(), &56, &"taken");
+    same_at(&rt, &pace.wait_from(100), &356, &"behind 100");
+    pace.prepare(1_000, 2_000);
+    same_at(&rt, &pace.due(), &1_000, &"prepared");
+}
+
+/// Whether the automaton is asked of a text, of which it passes little by: it goes over keys of the pattern too, and characters one by one
+/// stop before these.
+fn is_asked(rt: &impl Abort, ways: &mut Ways<'_>) -> bool {
+    let place = ways.pass(b"mbbm", 4);
+    let is_asked = place == Some((2, 3, 'm'));
+    if !is_asked {
+        same_at(rt, &place, &Some((0, 1, 'b')), &"where it rests");
+    }
+    is_asked
+}
+
+/// Compares how many times the automaton is not asked each time before it is.
+fn rests_are(rt: &impl Abort, ways: &mut Ways<'_>, rests: &[usize]) {
+    for rest in rests {
+        for time in 0..=*rest {
+            same_at(rt, &is_asked(rt, ways), &(time == *rest), &(time, *rest));
+        }
+    }
+}
+
+/// Where the automaton passed little by it rests twice as often as before, and once, up to 255 times. Once it has rested 31 times, it rests
+/// half as often where it passed much by.
+#[test]
+fn automaton_rests(rt: HostRuntime) {
+    let alloc = rt.alloc();
+    let table = table_of(&rt, alloc, TABLE, None);
+    let pattern = compile(&rt, alloc, &table, ("ab", ONE, KEPT));
+    let mut ways = ways_of(&rt, alloc, &table, &pattern);
+    rests_are(&rt, &mut ways, &[0, 1, 3, 7, 15, 31, 63, 127, 255, 255]);
+    for time in 0..255 {
+        same_at(&rt, &is_asked(&rt, &mut ways), &false, &time);
+    }
+    let much = repeated(&rt, alloc, "\u{4E00}", 40);
+    let place = ways.pass(much.as_bytes(), 120);
+    same_at(&rt, &place, &Some((114, 117, '\u{4E00}')), &"much");
+    rests_are(&rt, &mut ways, &[127, 255]);
+    drop(ways);
+    drop(table);
 }

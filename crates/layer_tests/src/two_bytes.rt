@@ -155,7 +155,7 @@ fn going_len(text: &[u8], limit: usize) -> usize {
     len
 }
 
-/// Whether a character ends here that is none of the pattern's, before a whole one.
+/// Whether a character ends here that is none of the pattern's first two, before a whole one.
 fn may_end(text: &[u8], end: usize) -> bool {
     let last = byte_at(text, end.wrapping_sub(1));
     let len = match byte_at(text, end) {
@@ -163,7 +163,7 @@ fn may_end(text: &[u8], end: usize) -> bool {
         0x80..=0xBF => return false,
         _ => 2,
     };
-    last < 0xC0 && !matches!(last, 0xB0..=0xB2) && end.saturating_add(len) <= text.len()
+    last < 0xC0 && !matches!(last, 0xB0..=0xB1) && end.saturating_add(len) <= text.len()
 }
 
 /// How much of a text passes in blocks, up to `limit`.
@@ -455,9 +455,9 @@ fn blocks_of_two_bytes_pass_so_much_at_once(rt: HostRuntime) {
     }
 }
 
-/// Compares how much passes by of a text with a match behind so many keys of the pattern.
+/// Compares how much passes by of a text with a match behind so many keys of the pattern, behind which the text may not be left.
 fn way_back_is(rt: &impl Abort, alloc: Global, count: usize, is_found: bool) {
-    let mut own = repeated(rt, alloc, "в", count);
+    let mut own = repeated(rt, alloc, "б", count);
     put(rt, &mut own, "аб");
     let text = amid(rt, alloc, 200, &own);
     let want = probe_len(&text, is_found);
@@ -506,21 +506,24 @@ fn text_that_is_near_tells_the_turn(rt: HostRuntime) {
     turn_is(&rt, alloc, 256, false);
 }
 
-/// Compares whether sets are kept behind 63 texts of 98 bytes and one of so many.
-fn last_is(rt: &impl Abort, alloc: Global, len: usize, are_kept: bool) {
-    let text = calm(rt, alloc, 98);
+/// Compares whether sets are kept behind 95 texts that have 32 bytes each that are passed by, one of so many bytes, and some of 32 again.
+fn last_is(rt: &impl Abort, alloc: Global, len: usize, more: usize, are_kept: bool) {
+    let text = calm(rt, alloc, 34);
     let other = calm(rt, alloc, len);
     let probe = amid(rt, alloc, 200, "аб");
     let last = (probe.as_bytes(), 1, probe_len(&probe, are_kept));
-    rows_with_sets(rt, alloc, &[all(&text, 63), all(&other, 1), last], 0);
+    let rows = [all(&text, 95), all(&other, 1), all(&text, more), last];
+    rows_with_sets(rt, alloc, &rows, 0);
 }
 
-/// Sets are kept where 64 texts have 96 bytes each that are passed by, one with the other.
+/// Sets are kept as long as 96 bytes are passed by of each text, one with the other, or at most 6,143 fewer since none was lacking.
 #[test]
 fn short_texts_end_sets(rt: HostRuntime) {
     let alloc = rt.alloc();
-    last_is(&rt, alloc, 98, true);
-    last_is(&rt, alloc, 97, false);
+    last_is(&rt, alloc, 98, 0, true);
+    last_is(&rt, alloc, 98, 1, false);
+    last_is(&rt, alloc, 99, 1, true);
+    last_is(&rt, alloc, 99, 2, false);
 }
 
 /// Blocks pass by as much as there is up to a byte that does not go on, of whatever length the text is.
@@ -541,7 +544,7 @@ fn text_of_keys(rt: &impl Abort, alloc: Global) -> String {
 fn keys_are(rt: &impl Abort, alloc: Global, table: &Table) {
     let pattern = compile(rt, alloc, table, ("бвг", ONE, KEPT));
     let text = text_of_keys(rt, alloc);
-    let before = [(text.as_bytes(), 107, text.len().saturating_sub(5))];
+    let before = [(text.as_bytes(), 107, text.len().saturating_sub(1))];
     let rows = [(text.as_bytes(), 24, 480)];
     rows_are(rt, alloc, table, &pattern, &before, &rows, 0);
 }

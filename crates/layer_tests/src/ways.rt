@@ -9,7 +9,7 @@ ghost use Rattle.collation_skip.specs.Skips.{IsSkipRight};
 
 use collation_letters::{Letter, Letters};
 use collation_pattern::Pattern;
-use collation_skip::{AsciiBlocks, Automaton, Passed, Skip};
+use collation_skip::{AsciiBlocks, Automaton, Pace, Passed, Skip};
 use collation_table::Table;
 use std::alloc::{AllocError, Global};
 use std::process::Abort;
@@ -32,6 +32,7 @@ pub(crate) struct Ways<'a> {
     automaton: Automaton,
     other: Automaton,
     blocks: AsciiBlocks,
+    pace: Pace,
     skip: Skip,
     ghost letters_right: { AreLetters table.now.rows pattern.now letters } by { Prim.hlevel props },
     ghost automaton_right: { AreRowsRight table.now.rows pattern.now automaton } by { Prim.hlevel props },
@@ -47,7 +48,8 @@ impl<'a> Ways<'a> {
         let automaton = Automaton::new(alloc);
         let other = Automaton::new(alloc);
         let blocks = AsciiBlocks::new();
-        let skip = Skip::new(alloc);
+        let pace = Pace::new(0);
+        let skip = Skip::new(alloc, 0);
         Ok(Ways {
             table,
             pattern,
@@ -55,6 +57,7 @@ impl<'a> Ways<'a> {
             automaton,
             other,
             blocks,
+            pace,
             skip,
         })
     }
@@ -84,10 +87,17 @@ impl<'a> Ways<'a> {
 
     /// Where blocks of ASCII do.
     pub(crate) fn pass_blocks(&mut self, piece: &[u8], reach: usize) -> Option<Place> {
-        let letters = &mut self.letters;
+        let mut looked = 0;
         place_of(
-            self.blocks
-                .pass(self.table, self.pattern, letters, piece, reach),
+            self.blocks.pass(
+                self.table,
+                self.pattern,
+                &mut self.letters,
+                &mut self.pace,
+                piece,
+                reach,
+                &mut looked,
+            ),
         )
     }
 

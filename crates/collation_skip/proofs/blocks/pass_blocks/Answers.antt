@@ -6,6 +6,7 @@ use Rattle.std.proofs.lemmas.Str.{len_utf8_ascii, IsUtf8-from_ascii, chars-IsAsc
 use Rattle.collation_skip.specs.declared.classes.Classes.{Classes}
 use Rattle.byte_blocks.specs.Ascii.{Passes}
 use Rattle.collation_skip.specs.Passed.{IsPassed}
+use Rattle.collation_skip.proofs.BorderSteps.{Borders}
 use Rattle.collation_skip.proofs.BlockLemmas.{ascii-take, passed-of, spells-ascii}
 use Rattle.collation_skip.proofs.PassedLemmas.{passed-had}
 use Rattle.collation_skip.proofs.AsciiLemmas.{RunLaws, ascii-at}
@@ -46,6 +47,13 @@ returns-clause-passes g c =
       before = c.units_stay_apart.ensures.before;
       goes_on = c.weighers_go_on.ensures;
     } in
+    let borders : Borders = record {
+      last = c.laws_of_borders.ensures.last;
+      grow = c.laws_of_borders.ensures.grow;
+      none = c.laws_of_symbols.ensures.none;
+      one = c.laws_of_symbols.ensures.one;
+      foreign = c.laws_of_symbols.ensures.foreign;
+    } in
     let ascii = ascii-take piece end (omega (arith, here, most, long)) (λ i less. ascii-at classes piece len i p (omega (arith, less, here, most))) in
     let limit = c.passed_len-len.ensures.within in
     let room = subst (λ n. n < length piece) (sym next) behind.0 in
@@ -60,5 +68,5 @@ returns-clause-passes g c =
       passed = λ at. subst (λ (cs : List ℕ). IsPassed table pattern at (at + start) cs (get_or piece end 0)) (sym (chars-IsAscii (take end piece) ascii))
           (subst (λ n. IsPassed table pattern at (at + start) (take n piece) (get_or piece n 0)) next
           (passed-had table pattern at (at + start) (take (suc start) piece) (get_or piece (suc start) 0)
-          (∥∥₁_map clean (λ it. passed-of laws c.laws_of_symbols.ensures.listed table pattern classes c.requires.classes piece len start p within room last it.0 it.1 it.2 at))));
+          (∥∥₁_map clean (λ it. passed-of laws c.laws_of_symbols.ensures.listed borders table pattern classes c.requires.classes piece len start p within room last it.0 it.1 it.2 at))));
     }

@@ -1,7 +1,7 @@
 use Rattle.std.proofs.Common.{◌≡◌, ◌≢◌, ℕ, ◌+◌, ◌<◌, subst, arith, inl, inr}
 use Rattle.std.proofs.lemmas.Bool.{cases_lt}
 use Rattle.byte_blocks.specs.Sets.{in_set}
-use Rattle.collation_skip.specs.Blocks.{IsClassRight, IsCleanCharacter}
+use Rattle.collation_skip.specs.Blocks.{IsClassRight, IsCleanCharacter, most}
 use Rattle.collation_skip.proofs.classes.are_right.Goals as goal
 
 -- one byte more
@@ -21,5 +21,5 @@ loop-byte-preserved g c =
     record {
       right = c.letter-letter.ensures.right;
       each = one-more (IsClassRight table pattern classes) c.loop-byte.byte c.loop-byte.invariant.each (said.class right table c.letter-letter.ensures.letter);
-      clean = one-more (λ b. in_set classes.clean b ≢ 0 → ∥ IsCleanCharacter table pattern b ∥₁) c.loop-byte.byte c.loop-byte.invariant.clean (λ some. ∣ (c.letter-letter.result, c.letter-letter.ensures.letter, said.clean right some) ∣₁);
+      clean = one-more (λ b. in_set classes.clean b ≢ 0 → ∥ IsCleanCharacter table pattern (most pattern.keys classes.place) b ∥₁) c.loop-byte.byte c.loop-byte.invariant.clean (λ some. ∣ (c.letter-letter.result, c.letter-letter.ensures.letter, said.clean right some) ∣₁);
     }

@@ -17,3 +17,6 @@ returns-clause-class c = λ yes table h.
       closed = λ j. says.closed (joins j);
       apart = λ i. says.apart (inner i);
     }
+
+pub returns-clause-clean : goal.returns-clause-clean
+returns-clause-clean c = λ yes some. c.leaves_none-leaves.ensures (c.has_only_if.ensures c.if-not-has_only_if.false some)

@@ -5,6 +5,9 @@ use Rattle.std.proofs.lemmas.Bool.{eqb-false}
 use Rattle.std.proofs.lemmas.List.{length-drop, take_rest}
 use Rattle.utf8_cut.specs.Sequences.{SpellsCharacter}
 use Rattle.collation_elements.specs.declared.keys.Key.{Key}
+use Rattle.collation_elements.specs.ItemParts.{item_keys}
+use Rattle.collation_skip.specs.Reached.{items_from}
+use Rattle.collation_skip.proofs.BorderSteps.{none-foreign}
 use Rattle.collation_skip.proofs.ForeignLemmas.{ForeignLaws, AreQuiet, quiet-so_far, passed-on, text-on}
 use Rattle.collation_skip.proofs.foreign.pass_foreign.Goals as goal
 
@@ -42,8 +45,9 @@ loop-end-preserved c =
       text = text-on piece end len here i.len i.text i.next;
       letter = λ table are. letter table pattern are;
       passed = λ table are _ at.
-          let quiet : AreQuiet table pattern at (chars (take end piece)) here = quiet-so_far laws table pattern piece end (at + c.loop-end.start) here at c.loop-end.letter some (i.letter table are) clean (λ yes. i.passed table are yes at) in
-          passed-on laws table pattern piece end len here next at c.loop-end.letter within i.len i.text i.next quiet (i.letter table are) clean
+          let quiet : AreQuiet table pattern at (chars (take end piece)) here = quiet-so_far table pattern piece end (at + c.loop-end.start) here at c.loop-end.letter some (i.letter table are) clean (λ yes. i.passed table are yes at) in
+          passed-on laws.points table pattern piece end len here next at c.loop-end.letter within i.len i.text i.next quiet (i.letter table are) clean.0 (let zero = clean.1 in omega (arith, zero))
+          (λ keys symbols. none-foreign pattern.keys keys (item_keys (items_from table pattern at (chars (take end piece)))) c.loop-end.letter.symbols.third laws.one laws.foreign clean.1 symbols)
           (apart table pattern (at + end) (here ∷ []) next (i.letter table are) (letter table pattern are));
     }
 

@@ -2,11 +2,10 @@ use Rattle.std.proofs.Common.{◌≡◌, ◌∙◌, ◌<◌, Bool, length, true,
 use Rattle.collation_elements.specs.declared.keys.Key.{Key}
 use Rattle.std.proofs.Math.Logic.{∥∥₁_map}
 use Rattle.collation_letters.specs.declared.letter.Letter.{Letter}
-use Rattle.collation_letters.specs.Letters.{flag_after, IsLetter}
+use Rattle.collation_letters.specs.Letters.{IsLetter}
 use Rattle.collation_letters.proofs.LetterLemmas.{letter-without_apart}
 use Rattle.collation_skip.proofs.ReachedLemmas.{MayBeLeft, reached-next}
 use Rattle.collation_skip.proofs.moves.behind_letter.Goals as goal
-use Rattle.collation_skip.proofs.moves.behind_letter.Goals.{then-is_foreign, else-is_foreign}
 
 pub returns : goal.returns
 returns g c =
@@ -15,19 +14,16 @@ returns g c =
     let s = c.args.state.now in
     let t = c.behind.result in
     let laws = c.laws_of_characters.ensures in
-    let flag : c.is_foreign.result ≡ true → (after : Bool) → flag_after s.letter.role after ≡ false =
-    λ yes. elim [ true ↦ c.is_foreign.ensures.flag_after yes | false ↦ c.is_foreign.ensures.flag yes ] in
-    let clean : 0 < t.before → MayBeLeft s t = elim c.if-is_foreign.branch [
-      | then-is_foreign w ↦ λ some.
-          let yes = w.if-is_foreign.true in
-          record {
-            len = c.behind.ensures.before ∙ w.before-is;
-            begins = c.is_foreign.ensures.begins yes;
-            flag = flag yes;
-            symbols = c.is_foreign.ensures.symbols yes;
-          }
-      | else-is_foreign w ↦ λ some. absurd (omega (arith, some, c.behind.ensures.before, w.before-is))
-    ] in
+    let leaves = c.len_to_leave-before.ensures in
+    let clean : 0 < t.before → MayBeLeft s t = λ some.
+    let yes : 0 < c.len_to_leave-before.result = omega (arith, some, c.behind.ensures.before) in
+    record {
+      len = c.behind.ensures.before ∙ leaves.len yes;
+      begins = leaves.begins yes;
+      flag = elim [ true ↦ leaves.flag_after yes | false ↦ leaves.flag yes ];
+      some = leaves.some yes;
+      none = c.behind.ensures.depth ∙ leaves.none yes;
+    } in
     let letter = subst (λ (l : Letter). IsLetter table pattern (c.args.c ∷ []) l) (sym c.behind.ensures.letter) (letter-without_apart table pattern (c.args.c ∷ []) c.args.following c.requires.letter) in
     let below : t.depth < length pattern.keys = omega (arith, c.behind.ensures.depth, c.if-depth-most.false, c.min-most.ensures, ap (λ (l : List Key). length l) c.keys.ensures) in
     record {

@@ -1,6 +1,6 @@
 use Rattle.std.proofs.Common.{arith}
 use Rattle.collation_skip.proofs.AsciiLemmas.{RunLaws}
-use Rattle.collation_skip.proofs.ForeignLemmas.{ForeignLaws}
+use Rattle.collation_skip.proofs.BorderSteps.{Borders}
 use Rattle.collation_skip.proofs.TwoByteCharacters.{ending-of}
 use Rattle.collation_skip.proofs.two_byte_blocks.pass_two_bytes.Goals as goal
 
@@ -11,8 +11,10 @@ returns-clause-passes g c =
       before = c.units_stay_apart.ensures.before;
       goes_on = c.weighers_go_on.ensures;
     } in
-    let foreign : ForeignLaws = record {
-      points = c.laws_of_characters.ensures;
+    let borders : Borders = record {
+      last = c.laws_of_borders.ensures.last;
+      grow = c.laws_of_borders.ensures.grow;
+      none = c.laws_of_symbols.ensures.none;
       one = c.laws_of_symbols.ensures.one;
       foreign = c.laws_of_symbols.ensures.foreign;
     } in
@@ -20,7 +22,7 @@ returns-clause-passes g c =
     let within = is.within in
     let len = c.going_len-len.ensures in
     let fits = len.within in
-    let passed = ending-of laws foreign (g.W.Weights.table c.args.table.now) c.args.pattern.now c.args.classes.now c.requires.classes c.args.piece.now c.going_len-len.result len.passes (λ j. (c.type_inv.piece j).fits) c.in-Some.ending is in
+    let passed = ending-of laws borders (g.W.Weights.table c.args.table.now) c.args.pattern.now c.args.classes.now c.requires.classes c.args.piece.now c.going_len-len.result len.passes (λ j. (c.type_inv.piece j).fits) c.in-Some.ending is in
     record {
       within = is.room;
       order = omega (arith, is.end);

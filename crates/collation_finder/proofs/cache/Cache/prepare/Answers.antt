@@ -1,4 +1,4 @@
 use Rattle.collation_finder.proofs.cache.Cache.prepare.Goals as goal
 
 pub returns : goal.returns
-returns c = λ table pattern h. (h.0, c.prepare.ensures table pattern h.1)
+returns c = λ table pattern h. (h.0, h.1)

@@ -1,4 +1,0 @@
-use Rattle.collation_skip.proofs.skip.Skip.prepare.Goals as goal
-
-pub returns : goal.returns
-returns c = λ table pattern h. (h.0, c.prepare.ensures table pattern h.1, h.2)
