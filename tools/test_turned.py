@@ -106,7 +106,7 @@ class Turned(unittest.TestCase):
                 "colfind_run/all_lost: there is no clause `missing` of `run_with`\n"
                 "colfind_run/all_lost: there is no clause `done` of `run_without`\n"
                 "colfind_run/silent: no line says what it turns\n"
-                "no edit of the gate turns `run_with` `memory` of colfind_run\n"
+                "no edit turns `run_with` `memory` of colfind_run\n"
                 "4 clauses, 5 edits, 4 faults\n",
             ),
         )

@@ -37,12 +37,12 @@ use Rattle.collation_walk.proofs.WalkSteps.{border_none, found_before, walks-key
 -- ---- borders
 
 -- some keys, of which one is the last
-record Last (keys : List Key) : Type 0 where
+record LastKey (keys : List Key) : Type 0 where
   before : List Key
   key : Key
   are : keys ≡ before ++ key ∷ []
 
-last-of : (keys : List Key) → 0 < length keys → Last keys
+last-of : (keys : List Key) → 0 < length keys → LastKey keys
 last-of [] some = absurd (omega (arith, some))
 last-of (k ∷ []) some = record { before = []; key = k; are = refl }
 last-of (k ∷ (l ∷ keys)) some =

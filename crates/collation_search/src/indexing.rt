@@ -305,7 +305,8 @@ fn bytes_by_steps(text: &[u8]) -> usize {
     usize::MAX
 }
 
-/// How many bytes of a text are walked over before any are passed by, as far as its length and its front say: all or none.
+/// How many bytes of a text are walked over before any are passed by, as far as its length and its front say: all or none. None where the
+/// front is of ASCII: blocks serve it, for which no more is found than the letters that it has.
 fn walked_len(text: &[u8]) -> usize {
     let len = text.len();
     if len <= LONGEST_WALKED {
@@ -315,6 +316,9 @@ fn walked_len(text: &[u8]) -> usize {
         return 0;
     }
     let (ascii, others) = different_bytes(&text[..FRONT.min(len)]);
+    if others == 0 {
+        return 0;
+    }
     let count = others
         .saturating_mul(TIMES_PAST_ASCII)
         .saturating_add(ascii);

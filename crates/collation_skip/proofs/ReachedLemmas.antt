@@ -2,6 +2,7 @@
 use Rattle.std.specs.Char.{len_utf8}
 use Rattle.std.specs.Str.{chars, IsUtf8}
 use Rattle.std.proofs.Common.{◌≡◌, ◌≢◌, ◌∙◌, ℕ, ◌+◌, ◌<◌, ◌≤◌, Bool, true, false, List, [], ◌∷◌, ◌++◌, length, min, map, Contains, refl, sym, ap, ap₂, subst, arith, append_assoc}
+use Rattle.std.proofs.lemmas.Bool.{false≢true}
 use Rattle.std.proofs.lemmas.List.{append-nil}
 use Rattle.std.proofs.lemmas.Str.{IsUtf8-append, chars-append, len_utf8_bounds}
 use Rattle.utf8_cut.specs.Sequences.{SpellsCharacter}
@@ -37,7 +38,7 @@ use Rattle.collation_skip.specs.declared.begun.Begun.TheVariants.{Whole}
 use Rattle.collation_skip.specs.declared.state.State.{State}
 use Rattle.collation_skip.specs.BegunBytes.{begun_bytes}
 use Rattle.collation_skip.specs.Passed.{IsQuiet}
-use Rattle.collation_skip.specs.Reached.{items_from, IsReached}
+use Rattle.collation_skip.specs.Reached.{items_from, IsKept, IsReached}
 use Rattle.collation_skip.proofs.ItemLemmas.{letter_items, keys-append, keys-letter, quiet-more, later-more}
 
 -- ---- the items of a letter more
@@ -88,7 +89,9 @@ reached-begun table pattern s begun at bytes byte is r =
       characters = r.characters;
       begins = r.begins;
       is_next = r.is_next;
+      own = r.own;
       letter = r.letter;
+      kept = r.kept;
       depth = r.depth;
       below = r.below;
       quiet = r.quiet;
@@ -114,10 +117,14 @@ further table pattern s at bytes byte c spelled r =
       characters = chars-append r.text more r.is_text ∙ ap₂ (λ (x y : List ℕ). x ++ y) r.characters one.1;
     }
 
+-- a letter that is kept as it is
+pub kept-whole : (pattern : List Key) (depth : ℕ) (l : Letter) → IsKept pattern depth l l false
+kept-whole pattern depth l = record { role = refl; closed = refl; whole = λ _. refl; some = λ yes. absurd (false≢true yes); none = λ yes. absurd (false≢true yes) }
+
 -- a character with which the last letter goes on
 pub reached-longer : (table : TableMap) (pattern : Compiled) (s : State) (l : Letter) (at : ℕ) (bytes : List ℕ) (byte c : ℕ) → SpellsCharacter (begun_bytes s.begun ++ byte ∷ []) c →
     (r : IsReached table pattern s at bytes) → IsLetter table pattern (r.first ∷ (r.others ++ c ∷ [])) l →
-    IsReached table pattern (record { depth = s.depth; letter = l; character = 0; len = 0; before = 0; begun = Whole }) at (bytes ++ byte ∷ [])
+    IsReached table pattern (record { depth = s.depth; letter = l; is_spent = false; character = 0; len = 0; before = 0; begun = Whole }) at (bytes ++ byte ∷ [])
 reached-longer table pattern s l at bytes byte c spelled r h =
     let f = further table pattern s at bytes byte c spelled r in
     record {
@@ -130,7 +137,9 @@ reached-longer table pattern s l at bytes byte c spelled r h =
       characters = f.characters ∙ append_assoc r.before (r.first ∷ r.others) (c ∷ []);
       begins = r.begins;
       is_next = r.is_next;
+      own = l;
       letter = h;
+      kept = kept-whole pattern.keys s.depth l;
       depth = r.depth;
       below = r.below;
       quiet = r.quiet;
@@ -150,6 +159,11 @@ pub record MayBeLeft (s t : State) : Type 0 where
   pub some : s.letter.symbols.third < 255
   pub none : t.depth ≡ 0
 
+-- a letter of which a last key is kept has one
+kept-some : (pattern : List Key) (depth : ℕ) (own kept : Letter) (is_spent : Bool) → IsKept pattern depth own kept is_spent → kept.symbols.third < 255 → own.symbols.third < 255
+kept-some pattern depth own kept true is some = is.some refl
+kept-some pattern depth own kept false is some = subst (λ (l : Letter). l.symbols.third < 255) (is.whole refl) some
+
 pub begins-more : LetterLaws → (table : TableMap) (at : ℕ) (before : List ℕ) (first : ℕ) (others : List ℕ) → begins_with_starter (points_from at before) ≡ true → IsNext table at before first →
     begins_with_starter (points_from at (before ++ first ∷ others)) ≡ true
 begins-more laws table at [] first others h next =
@@ -161,20 +175,25 @@ begins-more laws table at (b ∷ before) first others h next =
     ∙ begins-append (points_from at (b ∷ before)) (points_from (at + byte_len (b ∷ before)) (first ∷ others)) (begun_from laws at b before (b ∷ before) refl) h
 
 pub reached-next : LetterLaws → PointsAreShifted → (table : TableMap) (pattern : Compiled) (s t : State) (at : ℕ) (bytes : List ℕ) (byte c : ℕ) → SpellsCharacter (begun_bytes s.begun ++ byte ∷ []) c →
-    s.letter.role ≢ Steps → is_mark s.letter.role ≡ false → ((start : ℕ) (cs : List ℕ) → IsLetter table pattern cs s.letter → IsNext table start cs c) →
-    ((before keys : List Key) → AreLastSymbols pattern.keys keys (listed s.letter.symbols) → border pattern.keys before ≡ s.depth → border pattern.keys (before ++ keys) ≡ t.depth) →
-    t.depth < length pattern.keys → IsLetter table pattern (c ∷ []) t.letter → t.len ≡ len_utf8 c → (t.letter.is_closed ≡ false → c ≡ t.character) → t.begun ≡ Whole → (0 < t.before → MayBeLeft s t) →
-    IsReached table pattern s at bytes → IsReached table pattern t at (bytes ++ byte ∷ [])
-reached-next laws shift table pattern s t at bytes byte c spelled known starter apart deeper below h len character begun clean r =
+    s.letter.role ≢ Steps → is_mark s.letter.role ≡ false →
+    ((start : ℕ) (cs : List ℕ) (own : Letter) → own.role ≡ s.letter.role → own.is_closed ≡ s.letter.is_closed → IsLetter table pattern cs own → IsNext table start cs c) →
+    ((own : Letter) → IsKept pattern.keys s.depth own s.letter s.is_spent →
+    (before keys : List Key) → AreLastSymbols pattern.keys keys (listed own.symbols) → border pattern.keys before ≡ s.depth → border pattern.keys (before ++ keys) ≡ t.depth) →
+    t.depth < length pattern.keys → (l : Letter) → IsLetter table pattern (c ∷ []) l → IsKept pattern.keys t.depth l t.letter t.is_spent → t.len ≡ len_utf8 c → (t.letter.is_closed ≡ false → c ≡ t.character) → t.begun ≡ Whole →
+    (0 < t.before → MayBeLeft s t) → IsReached table pattern s at bytes → IsReached table pattern t at (bytes ++ byte ∷ [])
+reached-next laws shift table pattern s t at bytes byte c spelled known starter apart deeper_than below l h kept len character begun clean r =
+    let own = r.own in
+    let role = r.kept.role in
+    let deeper = deeper_than own r.kept in
     let f = further table pattern s at bytes byte c spelled r in
     let last = r.first ∷ r.others in
     let start = at + byte_len r.before in
     let items = items_from table pattern at r.before in
-    let more = items-more laws shift table pattern at r.before r.first r.others s.letter r.is_next known starter r.letter in
-    let mine = letter_items (begins_cluster s.letter.role) start more.keys in
+    let more = items-more laws shift table pattern at r.before r.first r.others own r.is_next (λ steps. known (sym role ∙ steps)) (ap is_mark role ∙ starter) r.letter in
+    let mine = letter_items (begins_cluster own.role) start more.keys in
     let keys : item_keys (items_from table pattern at (r.before ++ last)) ≡ item_keys items ++ more.keys =
-    ap item_keys more.items ∙ keys-append items mine ∙ ap (λ (l : List Key). item_keys items ++ l) (keys-letter (begins_cluster s.letter.role) start more.keys) in
-    let next = next-more laws table at r.first c r.before r.others last refl r.is_next (apart start last r.letter) in
+    ap item_keys more.items ∙ keys-append items mine ∙ ap (λ (l : List Key). item_keys items ++ l) (keys-letter (begins_cluster own.role) start more.keys) in
+    let next = next-more laws table at r.first c r.before r.others last refl r.is_next (apart start last own role r.kept.closed r.letter) in
     let begins = begins-more laws table at r.before r.first r.others r.begins r.is_next in
     let long = (len_utf8_bounds c).0 in
     record {
@@ -187,12 +206,14 @@ reached-next laws shift table pattern s t at bytes byte c spelled known starter 
       characters = f.characters;
       begins = begins;
       is_next = next;
+      own = l;
       letter = h;
+      kept = kept;
       depth = ap (border pattern.keys) keys ∙ deeper (item_keys items) more.keys more.symbols r.depth;
       below = below;
-      quiet = subst (IsQuiet pattern.keys) (sym more.items) (quiet-more pattern.keys items (begins_cluster s.letter.role) start more.keys r.quiet (subst (λ n. n < length pattern.keys) (sym r.depth) r.below));
+      quiet = subst (IsQuiet pattern.keys) (sym more.items) (quiet-more pattern.keys items (begins_cluster own.role) start more.keys r.quiet (subst (λ n. n < length pattern.keys) (sym r.depth) r.below));
       later = subst (λ (l : List Item). (start : ℕ) → Contains l (ClusterStart start) → at ≤ start) (sym more.items)
-          (later-more items (begins_cluster s.letter.role) start more.keys at r.later (omega arith));
+          (later-more items (begins_cluster own.role) start more.keys at r.later (omega arith));
       one = λ some. (refl, sym len);
       character = λ some. character;
       behind = λ some. let is = clean some in (
@@ -210,12 +231,12 @@ reached-next laws shift table pattern s t at bytes byte c spelled known starter 
                   is_next = next;
                   before = items;
                   keys = more.keys;
-                  items = more.items ∙ ap (λ b. items ++ letter_items b start more.keys) is.begins;
-                  flag = more.flag ∙ is.flag (after_units table pattern.variable false (units table (points_from at r.before)));
+                  items = more.items ∙ ap (λ b. items ++ letter_items b start more.keys) (ap begins_cluster role ∙ is.begins);
+                  flag = more.flag ∙ ap (λ x. flag_after x (after_units table pattern.variable false (units table (points_from at r.before)))) role ∙ is.flag (after_units table pattern.variable false (units table (points_from at r.before)));
                   quiet = quiet-more pattern.keys items true start [] r.quiet (subst (λ n. n < length pattern.keys) (sym r.depth) r.below);
                   later = r.later;
                   after_start = omega arith;
-                  some = let few = more.symbols.few in omega (arith, listed-some s.letter.symbols is.some, few);
+                  some = let few = more.symbols.few in omega (arith, listed-some own.symbols (kept-some pattern.keys s.depth own s.letter s.is_spent r.kept is.some), few);
                   none_waits = deeper (item_keys items) more.keys more.symbols r.depth ∙ is.none;
                 };
               },
@@ -233,9 +254,9 @@ no-item [] after i e = cc
 no-item (f ∷ first) after i e = cc
 
 pub reached-first : (table : TableMap) (pattern : Compiled) (s : State) (at : ℕ) (bytes : List ℕ) (c : ℕ) → SpellsCharacter bytes c → begins_with_starter (points_from 0 (c ∷ [])) ≡ true →
-    0 < length pattern.keys → IsLetter table pattern (c ∷ []) s.letter → s.depth ≡ 0 → s.len ≡ len_utf8 c → (s.letter.is_closed ≡ false → c ≡ s.character) → s.begun ≡ Whole → s.before ≡ 0 →
+    0 < length pattern.keys → (l : Letter) → IsLetter table pattern (c ∷ []) l → IsKept pattern.keys s.depth l s.letter s.is_spent → s.depth ≡ 0 → s.len ≡ len_utf8 c → (s.letter.is_closed ≡ false → c ≡ s.character) → s.begun ≡ Whole → s.before ≡ 0 →
     IsReached table pattern s at bytes
-reached-first table pattern s at bytes c spelled starter some h depth len character begun before =
+reached-first table pattern s at bytes c spelled starter some l h kept depth len character begun before =
     let one = one_char bytes c spelled in
     let none : points_from at [] ≡ [] = from_none at in
     let nothing : items_from table pattern at [] ≡ [] = ap (λ (ps : List Point). items_of table pattern.strength pattern.variable false (units table ps)) none in
@@ -249,7 +270,9 @@ reached-first table pattern s at bytes c spelled starter some h depth len charac
       characters = one.1;
       begins = ap begins_with_starter none;
       is_next = next-none table at c starter;
+      own = l;
       letter = h;
+      kept = kept;
       depth = ap (λ (l : List Item). border pattern.keys (item_keys l)) nothing ∙ none-ends pattern.keys ∙ sym depth;
       below = omega (arith, depth, some);
       quiet = λ first after start e. absurd (no-item first after (ClusterStart start) (sym nothing ∙ e));

@@ -1,9 +1,10 @@
 -- What a state of the automaton says of the bytes behind which it stands, and what a right move is.
-use Rattle.std.specs.Prelude.{◌≡◌, ℕ, ◌+◌, ◌<◌, ◌≤◌, false, true, List, [], ◌∷◌, ◌++◌, length, Contains}
+use Rattle.std.specs.Prelude.{◌≡◌, ℕ, ◌+◌, ◌<◌, ◌≤◌, Bool, false, true, List, [], ◌∷◌, ◌++◌, length, Contains}
 use Rattle.std.specs.Char.{len_utf8}
 use Rattle.std.specs.Str.{chars, IsUtf8}
 use Rattle.nfd_points.specs.Points.{byte_len, points_from, begins_with_starter}
 use Rattle.collation_table.specs.Table.{TableMap}
+use Rattle.collation_elements.specs.declared.keys.Key.{Key}
 use Rattle.collation_elements.specs.declared.keys.Item.{Item}
 use Rattle.collation_elements.specs.declared.keys.Item.TheVariants.{ClusterStart}
 use Rattle.collation_elements.specs.Items.{items as items_of}
@@ -12,7 +13,9 @@ use Rattle.collation_elements.specs.Units.{units}
 use Rattle.collation_pattern.specs.Border.{border}
 use Rattle.collation_pattern.specs.Compiled.{Compiled}
 use Rattle.collation_letters.specs.Apart.{IsNext}
+use Rattle.collation_letters.specs.declared.letter.Letter.{Letter}
 use Rattle.collation_letters.specs.Letters.{IsLetter}
+use Rattle.collation_letters.specs.Symbols.{AreLastSymbols, listed}
 use Rattle.collation_skip.specs.declared.state.State.{State}
 use Rattle.collation_skip.specs.BegunBytes.{begun_bytes}
 use Rattle.collation_skip.specs.Passed.{IsPassed, IsQuiet}
@@ -29,6 +32,16 @@ pub record IsBehind (table : TableMap) (pattern : Compiled) (at len : ℕ) (befo
   pub len_is : len_utf8 character ≡ len
   pub passed : IsPassed table pattern at (at + byte_len earlier) before last
 
+-- How a letter is kept, where so many of the pattern's first keys end the keys before it: as it is, or, where none ends those up to
+-- its last key, spent: without its symbols.
+pub record IsKept (pattern : List Key) (depth : ℕ) (own kept : Letter) (is_spent : Bool) : Type 0 where
+  pub role : own.role ≡ kept.role
+  pub closed : own.is_closed ≡ kept.is_closed
+  pub whole : is_spent ≡ false → kept ≡ own
+  pub some : is_spent ≡ true → own.symbols.third < 255
+  pub none : is_spent ≡ true → (before keys : List Key) → AreLastSymbols pattern keys (listed own.symbols) → border pattern before ≡ depth
+      → border pattern (before ++ keys) ≡ 0
+
 -- Behind these bytes, the first of which stands at an offset: they are characters, the last of which are those of the state's letter,
 -- and the bytes of one that is not whole. No unit reaches from the characters before the letter to it, no match ends among them, and so
 -- many of the pattern's first keys end their keys.
@@ -42,7 +55,9 @@ pub record IsReached (table : TableMap) (pattern : Compiled) (state : State) (at
   pub characters : chars text ≡ before ++ first ∷ others
   pub begins : begins_with_starter (points_from at before) ≡ true
   pub is_next : IsNext table at before first
-  pub letter : IsLetter table pattern (first ∷ others) state.letter
+  pub own : Letter
+  pub letter : IsLetter table pattern (first ∷ others) own
+  pub kept : IsKept pattern.keys state.depth own state.letter state.is_spent
   pub depth : border pattern.keys (item_keys (items_from table pattern at before)) ≡ state.depth
   pub below : state.depth < length pattern.keys
   pub quiet : IsQuiet pattern.keys (items_from table pattern at before)

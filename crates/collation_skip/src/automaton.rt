@@ -220,6 +220,6 @@ impl Automaton {
         if !letter.is_starter() || pattern.keys().is_empty() {
             return None;
         }
-        self.row_of(State::behind(0, letter, first, 0))
+        self.row_of(State::behind(pattern, 0, letter, first, 0))
     }
 }

@@ -4,7 +4,7 @@ ghost use Rattle.collation_table.specs.Table.{TableMap};
 ghost use Rattle.collation_letters.specs.Letters.{IsLetter};
 ghost use Rattle.collation_letters.specs.Store.{AreLetters};
 ghost use Rattle.byte_blocks.specs.Sets.{in_set};
-ghost use Rattle.collation_skip.specs.Blocks.{AreClassesRight, IsClassRight, LeavesNone, most};
+ghost use Rattle.collation_skip.specs.Blocks.{AreClassesRight, IsClassRight, IsCleanCharacter, LeavesNone, most};
 
 use crate::kinds::{Kind, kind_of, leaves_none};
 use crate::pace::SAMPLE;
@@ -15,6 +15,21 @@ use collation_table::Weights;
 
 /// How many places of a pattern are tried.
 const MOST_ASCII_PLACES: usize = 16;
+
+/// How many different bytes a text alone has at least.
+const FEWEST_DIFFERENT: u32 = 16;
+
+/// All bytes of ASCII.
+const ALL: [u8; 16] = [0xFF; 16];
+
+/// What a character is of which nothing is known.
+const UNKNOWN_KIND: Kind = Kind {
+    halt: true,
+    key: true,
+    later: true,
+    joins: true,
+    inner: true,
+};
 
 /// A place of a pattern, and sets of bytes of ASCII for it: those that can't be passed halt; the last key of `key` may be the pattern's at
 /// the place; `later` have no key, or their last one may be the pattern's behind the place; out of `joins` a unit may reach, and into `inner`.
@@ -30,71 +45,111 @@ pub(crate) struct Classes {
 const MOST_COUNTED: usize = 128;
 
 /// The classes for the place of the pattern at which the fewest stops are expected, by a text; `None` where they are not known to be right.
+/// Where they serve this text alone, no letter is found for bytes that it does not have, and the first place is taken, for a choice costs
+/// more than it saves; and there are none where the text has few different bytes, for the automaton has few moves then.
 pub(crate) fn classes_for<W: Weights>(
     table: &W,
     pattern: &Pattern,
     letters: &mut Letters,
     text: &[u8],
+    is_alone: bool,
 ) -> Option<Classes>
     requires { AreLetters (W.table table.now) pattern.now letters.old }
     ensures right { AreLetters (W.table table.now) pattern.now letters.new }
     ensures classes { IfSome result
         (λ classes. AreClassesRight (W.table table.now) pattern.now classes) }
 {
-    let count = pattern.keys().len();
-    if count == 0 {
+    if pattern.keys().is_empty() {
         return None;
     }
-    let places = (count - 1).min(MOST_ASCII_PLACES);
-    let mut best = classes_at(table, pattern, letters, 0);
+    let there = if is_alone { ascii_of(text) } else { ALL };
+    if size(&there) < FEWEST_DIFFERENT {
+        return None;
+    }
+    find_letters(table, pattern, letters, &there);
+    let mut best = if is_alone {
+        classes_at(pattern, letters, 0)
+    } else {
+        best_classes(pattern, letters, text)
+    };
+    best.clean = clean_bytes(pattern, letters, best.place);
+    if are_right(pattern, letters, &best) {
+        return Some(best);
+    }
+    None
+}
+
+/// The classes for the place of the pattern at which the fewest stops are expected, by a text, without the bytes behind which a text may be
+/// left.
+fn best_classes(pattern: &Pattern, letters: &Letters, text: &[u8]) -> Classes
+    requires { 0 < length pattern.now.keys }
+    ensures { result.place < length pattern.now.keys }
+{
+    let places = (pattern.keys().len() - 1).min(MOST_ASCII_PLACES);
+    let mut best = classes_at(pattern, letters, 0);
     let mut fewest = stops(&best, text);
     for place in 1..places {
-        let classes = classes_at(table, pattern, letters, place);
+        let classes = classes_at(pattern, letters, place);
         let expected = stops(&classes, text);
         if expected < fewest {
             best = classes;
             fewest = expected;
         }
     }
-    best.clean = clean_bytes(table, pattern, letters, best.place);
-    if are_right(table, pattern, letters, &best) {
-        return Some(best);
+    best
+}
+
+/// The bytes of ASCII that a text has.
+fn ascii_of(text: &[u8]) -> [u8; 16] {
+    let mut there = [0; 16];
+    for byte in text {
+        if *byte < 128 {
+            put(&mut there, *byte);
+        }
     }
-    None
+    there
+}
+
+/// How many bytes of ASCII are in a set.
+fn size(set: &[u8; 16]) -> u32 {
+    let mut size = 0u32;
+    for column in set {
+        size = size.wrapping_add(column.count_ones());
+    }
+    size
+}
+
+/// Finds the letters of these bytes of ASCII.
+fn find_letters<W: Weights>(table: &W, pattern: &Pattern, letters: &mut Letters, there: &[u8; 16])
+    requires { AreLetters (W.table table.now) pattern.now letters.old }
+    ensures { AreLetters (W.table table.now) pattern.now letters.new }
+{
+    for byte in 0..128u8 {
+        if in_ascii(there, byte) != 0 {
+            let _ = letters.letter(table, pattern, byte as char);
+        }
+    }
 }
 
 /// The set of the bytes behind which a text may be left, for a place of the pattern.
-fn clean_bytes<W: Weights>(
-    table: &W,
-    pattern: &Pattern,
-    letters: &mut Letters,
-    place: usize,
-) -> [u8; 16]
-    requires right { AreLetters (W.table table.now) pattern.now letters.old }
-    requires place { place < length pattern.now.keys }
-    ensures { AreLetters (W.table table.now) pattern.now letters.new }
+fn clean_bytes(pattern: &Pattern, letters: &Letters, place: usize) -> [u8; 16]
+    requires { place < length pattern.now.keys }
 {
     let mut clean = [0; 16];
     for byte in 0..128u8 {
-        let letter = letters.letter(table, pattern, byte as char);
-        if leaves_none(pattern, &letter, place) {
-            put(&mut clean, byte);
+        if let Some(letter) = letters.known(byte as char) {
+            if leaves_none(pattern, &letter, place) {
+                put(&mut clean, byte);
+            }
         }
     }
     clean
 }
 
-/// The classes for a place of the pattern, without the bytes behind which a text may be left.
-fn classes_at<W: Weights>(
-    table: &W,
-    pattern: &Pattern,
-    letters: &mut Letters,
-    place: usize,
-) -> Classes
-    requires right { AreLetters (W.table table.now) pattern.now letters.old }
-    requires place { place < length pattern.now.keys }
-    ensures right { AreLetters (W.table table.now) pattern.now letters.new }
-    ensures place { result.place ≡ place }
+/// The classes for a place of the pattern, without the bytes behind which a text may be left. Nothing passes a byte whose letter is not known.
+fn classes_at(pattern: &Pattern, letters: &Letters, place: usize) -> Classes
+    requires { place < length pattern.now.keys }
+    ensures { result.place ≡ place }
 {
     let mut classes = Classes {
         place,
@@ -108,8 +163,11 @@ fn classes_at<W: Weights>(
         clean: [0; 16],
     };
     for byte in 0..128u8 {
-        let letter = letters.letter(table, pattern, byte as char);
-        add(&mut classes, byte, kind_of(pattern, &letter, place));
+        let kind = match letters.known(byte as char) {
+            Some(letter) => kind_of(pattern, &letter, place),
+            None => UNKNOWN_KIND,
+        };
+        add(&mut classes, byte, kind);
     }
     classes
 }
@@ -176,24 +234,52 @@ fn halts(classes: &Classes, text: &[u8]) -> usize
 }
 
 /// Whether the classes are right.
-fn are_right<W: Weights>(
-    table: &W,
-    pattern: &Pattern,
-    letters: &mut Letters,
-    classes: &Classes,
-) -> bool
-    requires right { AreLetters (W.table table.now) pattern.now letters.old }
-    requires place { classes.now.place < length pattern.now.keys }
-    ensures right { AreLetters (W.table table.now) pattern.now letters.new }
-    ensures classes { result ≡ true → AreClassesRight (W.table table.now) pattern.now classes.now }
+fn are_right(pattern: &Pattern, letters: &Letters, classes: &Classes) -> bool
+    requires { classes.now.place < length pattern.now.keys }
+    ensures { result ≡ true → (table : TableMap) → AreLetters table pattern.now letters.now
+        → AreClassesRight table pattern.now classes.now }
 {
     for byte in 0..128u8 {
-        let letter = letters.letter(table, pattern, byte as char);
-        if !is_right(pattern, classes, byte, &letter) {
+        if !is_right_of_known(pattern, letters, classes, byte) {
             return false;
         }
     }
     true
+}
+
+/// Whether the classes are right for a byte, by the letter of its character, if that is known.
+fn is_right_of_known(pattern: &Pattern, letters: &Letters, classes: &Classes, byte: u8) -> bool
+    requires { classes.now.place < length pattern.now.keys }
+    ensures class { result ≡ true → (table : TableMap) → AreLetters table pattern.now letters.now
+        → IsClassRight table pattern.now classes.now byte }
+    ensures clean { result ≡ true → (table : TableMap) → AreLetters table pattern.now letters.now
+        → in_set classes.now.clean byte ≢ 0
+        → ∥ IsCleanCharacter table pattern.now
+        (most pattern.now.keys classes.now.place) byte ∥₁ }
+{
+    let Some(letter) = letters.known(byte as char) else {
+        return is_barred(classes, byte);
+    };
+    is_right(pattern, classes, byte, &letter)
+}
+
+/// Whether nothing passes a byte, and no text is left behind it: that is right whatever its character is.
+fn is_barred(classes: &Classes, byte: u8) -> bool
+    ensures halt { result ≡ true → in_set classes.now.sets.halt byte ≢ 0 }
+    ensures joins { result ≡ true → in_set classes.now.sets.joins byte ≢ 0 }
+    ensures inner { result ≡ true → in_set classes.now.sets.inner byte ≢ 0 }
+    ensures clean { result ≡ true → in_set classes.now.clean byte ≡ 0 }
+{
+    if in_ascii(&classes.sets.halt, byte) == 0 {
+        return false;
+    }
+    if in_ascii(&classes.sets.joins, byte) == 0 {
+        return false;
+    }
+    if in_ascii(&classes.sets.inner, byte) == 0 {
+        return false;
+    }
+    in_ascii(&classes.clean, byte) == 0
 }
 
 /// Whether the classes are right for a byte whose character has this letter.

@@ -1,12 +1,16 @@
 //! The moves of the automaton: the state behind one byte more.
-ghost use Rattle.std.specs.Prelude.{◌≡◌, ◌≢◌, ◌<◌, ◌∷◌, ◌++◌, ℕ, List, [], false, true, IfSome};
+ghost use Rattle.std.specs.Prelude.{◌≡◌, ◌≢◌, ◌<◌, ◌≤◌, ◌∷◌, ◌++◌, ℕ, List, [], length, false, true, IfSome};
 ghost use Rattle.utf8_cut.specs.Sequences.{SpellsCharacter};
+ghost use Rattle.collation_elements.specs.declared.keys.Key.{Key as KeyValue};
+ghost use Rattle.collation_pattern.specs.Border.{border};
 ghost use Rattle.collation_letters.specs.Apart.{IsNext};
 ghost use Rattle.collation_letters.specs.Letters.{IsLetter, begins_cluster, flag_after, is_mark};
 ghost use Rattle.collation_letters.specs.Store.{AreLetters};
+ghost use Rattle.collation_letters.specs.Symbols.{AreLastSymbols, listed};
+ghost use Rattle.collation_letters.specs.declared.letter.Letter.{Letter as LetterValue};
 ghost use Rattle.collation_letters.specs.declared.letter.Role.TheVariants.{Steps};
 ghost use Rattle.collation_skip.specs.BegunBytes.{begun_bytes};
-ghost use Rattle.collation_skip.specs.Reached.{IsMove};
+ghost use Rattle.collation_skip.specs.Reached.{IsKept, IsMove};
 
 use crate::begun::Decoded;
 use crate::depth::depth_after;
@@ -58,6 +62,9 @@ fn behind_character<W: Weights>(
         → IsMove (W.table table.now) pattern.now state.now byte to) }
 {
     if following.role.is_mark() {
+        if state.is_spent {
+            return None;
+        }
         return Some(state.with_letter(state.letter.with_mark(following)?));
     }
     if is_next(&state.letter, &following) {
@@ -82,8 +89,9 @@ fn behind_letter<W: Weights>(
     following: Letter,
 ) -> Option<State>
     requires letter { IsLetter (W.table table.now) pattern.now (c ∷ []) following }
-    requires next { (at : ℕ) (cs : List ℕ)
-        → IsLetter (W.table table.now) pattern.now cs state.now.letter
+    requires next { (at : ℕ) (cs : List ℕ) (own : LetterValue)
+        → own.role ≡ state.now.letter.role → own.is_closed ≡ state.now.letter.is_closed
+        → IsLetter (W.table table.now) pattern.now cs own
         → IsNext (W.table table.now) at cs c }
     requires known { (state.now.letter.role ≢ Steps) × (is_mark state.now.letter.role ≡ false) }
     ensures moves { IfSome result (λ to. (byte : ℕ)
@@ -95,12 +103,28 @@ fn behind_letter<W: Weights>(
     if state.depth >= most {
         return None;
     }
-    let depth = depth_after(pattern, state.depth, state.letter.symbols);
+    let depth = depth_behind(pattern, state);
     if depth >= most {
         return None;
     }
     let before = len_to_leave(state, depth);
-    Some(State::behind(depth, following, c, before))
+    Some(State::behind(pattern, depth, following, c, before))
+}
+
+/// How many of the pattern's first keys have matched behind the last letter of a state.
+fn depth_behind(pattern: &Pattern, state: &State) -> usize
+    requires { state.now.depth ≤ length pattern.now.keys }
+    ensures { (own : LetterValue) → IsKept pattern.now.keys state.now.depth own
+        state.now.letter state.now.is_spent
+        → (before keys : List KeyValue)
+        → AreLastSymbols pattern.now.keys keys (listed own.symbols)
+        → border pattern.now.keys before ≡ state.now.depth
+        → border pattern.now.keys (before ++ keys) ≡ result }
+{
+    if !state.is_spent {
+        return depth_after(pattern, state.depth, state.letter.symbols);
+    }
+    0
 }
 
 /// How many bytes the last letter of a state has, if the text may be left behind it, else 0. So many of the pattern's first keys have matched

@@ -25,8 +25,13 @@ const LONGEST: u32 = 256;
 /// How many bytes of a text a place is tried on.
 pub(crate) const SAMPLE: usize = 1_024;
 
-/// The most bytes of one text alone for which no place is chosen.
-const LONGEST_WITHOUT_PLACE: usize = 6_000;
+/// The most bytes of one text alone for which a place is chosen that serves no other one, and by how many of ASCII it is.
+const LONGEST_ALONE: usize = 6_000;
+
+const SAMPLE_ALONE: usize = 192;
+
+/// At which turn the automaton is that is not asked any more: it would be more than two thousand million times from then on.
+const NEVER: u32 = 0x8000_0001;
 
 /// How many bytes at the front of a text are ASCII where a place is chosen by it: of other scripts few blocks pass.
 const ASCII_FRONT: usize = 16;
@@ -54,6 +59,8 @@ pub struct Pace {
     /// The fewest bytes of a text by which a place is chosen for blocks. Where less than `SAMPLE` will do, short texts make it less; `SAMPLE`
     /// wants a long one, and `usize::MAX` none.
     wanted: usize,
+    /// Whether the place serves one text alone: then only the bytes that this has pass, and where they do the automaton is not asked.
+    is_alone: bool,
     /// Whether the last text of ASCII passed in blocks.
     blocks_pay: bool,
     /// At which turn the automaton is, of those in which it could be asked: it is asked at powers of two, and each time that it passed little
@@ -78,6 +85,7 @@ impl Pace {
             due,
             hold: 0,
             wanted: SAMPLE - 1,
+            is_alone: false,
             blocks_pay: false,
             times: 2,
             goes_far: false,
@@ -88,15 +96,17 @@ impl Pace {
         }
     }
 
-    /// Prepares, before its first byte, for one text alone of `len` bytes, of which at least `due` are walked over: for a short one no place
-    /// is chosen, since that costs more than it saves, and for a longer one once, though its first pieces are short.
+    /// Prepares, before its first byte, for one text alone of `len` bytes, of which at least `due` are walked over: for a short one a place
+    /// is chosen by less, and for a longer one once, though its first pieces are short.
     pub fn prepare(&mut self, due: usize, len: usize) {
         self.due = self.due.max(due);
-        self.wanted = if len <= LONGEST_WITHOUT_PLACE {
-            usize::MAX
-        } else {
-            SAMPLE
-        };
+        self.is_alone = len <= LONGEST_ALONE;
+        self.wanted = if self.is_alone { SAMPLE_ALONE } else { SAMPLE };
+    }
+
+    /// Whether the place serves one text alone.
+    pub(crate) fn is_for_one_text(&self) -> bool {
+        self.is_alone
     }
 
     /// How many bytes of what letters take next are walked over before text is asked for.
@@ -139,17 +149,31 @@ impl Pace {
     /// Whether a place is chosen for blocks by this text.
     #[inline(always)]
     pub(crate) fn is_wanted(&self, text: &[u8]) -> bool {
-        text.len() >= self.wanted && begins_with_ascii(text)
+        text.len() >= self.wanted
+            && begins_with_ascii(text)
+            && (!self.is_alone || text[..text.len().min(SAMPLE_ALONE)].is_ascii())
     }
 
-    /// A place was chosen by a text of so many bytes: by a long one for good, by a short one until a long one comes.
-    pub(crate) fn after_choice(&mut self, len: usize) {
-        self.wanted = if len < SAMPLE { SAMPLE } else { usize::MAX };
+    /// A place was sought by a text of so many bytes, and found or not: by a long one, or for one text alone, for good, by a short one until
+    /// a long one comes.
+    pub(crate) fn after_choice(&mut self, len: usize, is_some: bool) {
+        self.wanted = if len < SAMPLE && !self.is_alone {
+            SAMPLE
+        } else {
+            usize::MAX
+        };
+        if self.is_alone && is_some {
+            self.times = NEVER;
+        }
     }
 
     /// There is no place. This text may be one of the short ones that make one due.
     pub(crate) fn after_short(&mut self, text: &[u8]) {
-        if text.len() < self.wanted && self.wanted < SAMPLE && begins_with_ascii(text) {
+        if text.len() < self.wanted
+            && self.wanted < SAMPLE
+            && begins_with_ascii(text)
+            && !self.is_alone
+        {
             self.wanted = self.wanted.saturating_sub(text.len()).max(WORTH_BLOCKS);
         }
     }
@@ -230,14 +254,14 @@ impl Pace {
         self.sets_left = if is_some { MOST_LACKING } else { self.wait };
     }
 
-    /// Sets passed by so many bytes, or none: whether they are kept, else there are none until they are chosen again.
+    /// Sets passed by so many bytes, or none: whether they are kept. Else there are none, and the next are waited for as long as these.
     pub(crate) fn after_sets(&mut self, passed: usize) -> bool {
         let left = self.sets_left.saturating_add(passed);
         self.sets_left = left.saturating_sub(EACH_TEXT).min(MOST_LACKING);
         if self.sets_left > 0 {
             return true;
         }
-        self.sets_left = self.wait;
+        self.sets_left = self.wait / 2;
         false
     }
 

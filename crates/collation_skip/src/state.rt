@@ -1,8 +1,21 @@
 //! A state of the automaton: what is known behind some bytes.
-ghost use Rattle.std.specs.Prelude.{◌≡◌, true};
+ghost use Rattle.std.specs.Prelude.{◌≡◌, ◌<◌, ◌≤◌, ◌++◌, List, length, false, true};
+ghost use Rattle.collation_elements.specs.declared.keys.Key.{Key as KeyValue};
+ghost use Rattle.collation_pattern.specs.Border.{border};
+ghost use Rattle.collation_letters.specs.Symbols.{AreLastSymbols, listed};
 
 use crate::begun::Begun;
-use collation_letters::Letter;
+use crate::depth::depth_after;
+use collation_letters::{FOREIGN, Letter, NO_SYMBOL, Symbols};
+use collation_pattern::Pattern;
+
+/// From which character on it is asked whether a letter is spent: these are Han, Hangul and kana, of which there are so many that each with
+/// each begun character would be a state, and behind which marks hardly stand.
+const FIRST_OF_MANY: char = '\u{2E80}';
+
+/// How many keys a pattern has for which all letters are kept as they are: most are foreign to it, so few differ, and moves that would serve
+/// once are not found.
+const FEW_KEYS: usize = 16;
 
 /// What is known behind some bytes. What it means stands in `specs/Reached.antt`.
 #[derive(Clone, Copy, Debug)]
@@ -11,6 +24,8 @@ pub(crate) struct State {
     pub(crate) depth: usize,
     /// The last letter: a character, one with the marks behind it, or two that are one mapped string.
     pub(crate) letter: Letter,
+    /// Whether it is kept without its symbols, for behind it no key of the pattern waits. No mark joins it then.
+    pub(crate) is_spent: bool,
     /// The character that it is, where a unit may reach out of it.
     pub(crate) character: char,
     /// How many bytes it has, if it is one character, else 0.
@@ -22,22 +37,33 @@ pub(crate) struct State {
 }
 
 impl State {
-    ghost use Rattle.std.specs.Prelude.{◌≡◌, true, false};
+    ghost use Rattle.std.specs.Prelude.{◌≡◌, ◌≤◌, length, true, false};
     ghost use Rattle.std.specs.Char.{len_utf8};
+    ghost use Rattle.collation_skip.specs.Reached.{IsKept};
     ghost use Rattle.collation_skip.specs.declared.begun.Begun.TheVariants.{Whole};
 
     /// Behind a letter that is one character, before which stands a character of so many bytes up to which the text may be passed by.
-    pub(crate) fn behind(depth: usize, letter: Letter, c: char, before: u8) -> State
+    pub(crate) fn behind(
+        pattern: &Pattern,
+        depth: usize,
+        letter: Letter,
+        c: char,
+        before: u8,
+    ) -> State
+        requires { depth ≤ length pattern.now.keys }
         ensures depth { result.depth ≡ depth }
-        ensures letter { result.letter ≡ record letter { is_apart = false } }
+        ensures letter { IsKept pattern.now.keys depth (record letter { is_apart = false })
+            result.letter result.is_spent }
         ensures character { letter.is_closed ≡ false → result.character ≡ c }
         ensures len { result.len ≡ len_utf8 c }
         ensures before { result.before ≡ before }
         ensures begun { result.begun ≡ Whole }
     {
+        let is_spent = is_spent(pattern, depth, &letter, c);
         State {
             depth,
-            letter: letter.without_apart(),
+            letter: kept(letter, is_spent),
+            is_spent,
             character: if letter.is_closed { '\0' } else { c },
             len: c.len_utf8() as u8,
             before,
@@ -52,6 +78,7 @@ impl State {
         State {
             depth: self.depth,
             letter: self.letter,
+            is_spent: self.is_spent,
             character: self.character,
             len: self.len,
             before: 0,
@@ -65,6 +92,7 @@ impl State {
             ≡ record {
               depth = self.now.depth;
               letter = record letter { is_apart = false };
+              is_spent = false;
               character = 0;
               len = 0;
               before = 0;
@@ -74,6 +102,7 @@ impl State {
         State {
             depth: self.depth,
             letter: letter.without_apart(),
+            is_spent: false,
             character: '\0',
             len: 0,
             before: 0,
@@ -87,10 +116,48 @@ impl State {
     {
         self.depth == other.depth
             && are_same(&self.letter, &other.letter)
+            && self.is_spent == other.is_spent
             && self.character == other.character
             && self.len == other.len
             && self.before == other.before
             && self.begun == other.begun
+    }
+}
+
+/// Whether no key of the pattern waits behind a letter that is this character, before which so many of its first keys have matched.
+fn is_spent(pattern: &Pattern, depth: usize, letter: &Letter, c: char) -> bool
+    requires { depth ≤ length pattern.now.keys }
+    ensures some { result ≡ true → letter.now.symbols.third < 255 }
+    ensures none { result ≡ true → (before keys : List KeyValue)
+        → AreLastSymbols pattern.now.keys keys (listed letter.now.symbols)
+        → border pattern.now.keys before ≡ depth → border pattern.now.keys (before ++ keys) ≡ 0 }
+{
+    if c < FIRST_OF_MANY || pattern.keys().len() <= FEW_KEYS || !letter.has_last_key() {
+        return false;
+    }
+    depth_after(pattern, depth, letter.symbols) == 0
+}
+
+/// A letter as a state keeps it: without its symbols where it is spent, as if its last key were one that the pattern does not have.
+fn kept(letter: Letter, is_spent: bool) -> Letter
+    ensures role { letter.role ≡ result.role }
+    ensures closed { letter.is_closed ≡ result.is_closed }
+    ensures whole { is_spent ≡ false → result ≡ record letter { is_apart = false } }
+{
+    if !is_spent {
+        return letter.without_apart();
+    }
+    Letter {
+        role: letter.role,
+        is_closed: letter.is_closed,
+        is_apart: false,
+        points: 1,
+        class: 0,
+        symbols: Symbols {
+            first: NO_SYMBOL,
+            second: NO_SYMBOL,
+            third: FOREIGN,
+        },
     }
 }
 

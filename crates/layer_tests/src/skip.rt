@@ -50,7 +50,7 @@ fn passed_is(
 }
 
 /// A pattern of one key, or of two, a text, and where it is left.
-const TEXTS: [(&str, &str, Option<Place>); 18] = [
+const TEXTS: [(&str, &str, Option<Place>); 22] = [
     ("b", "mmmmmmmmmm", Some((8, 9, 'm'))),
     ("b", "mmab", Some((2, 3, 'b'))),
     ("b", "mbm", Some((0, 1, 'b'))),
@@ -65,6 +65,23 @@ const TEXTS: [(&str, &str, Option<Place>); 18] = [
     ("ab", "mmab", Some((1, 2, 'a'))),
     // a character of three bytes, and one of four
     ("b", "m\u{4E00}m\u{20000}m", Some((5, 9, 'm'))),
+    // a mark joins Han, and for a pattern of many keys does not; Han that such a pattern has, behind which none waits, or its first ones
+    ("b", "mm\u{4E00}\u{301}mm", Some((7, 8, 'm'))),
+    (
+        "bbbbbbbbbbbbbbbbb",
+        "mm\u{4E00}\u{301}mm",
+        Some((1, 2, '\u{4E00}')),
+    ),
+    (
+        "bbbbbbbbbbbbbbbbb\u{4E00}",
+        "mm\u{4E00}\u{4E00}mm",
+        Some((8, 9, 'm')),
+    ),
+    (
+        "\u{4E00}bbbbbbbbbbbbbbbbb",
+        "mm\u{4E00}\u{4E00}mb",
+        Some((8, 9, 'b')),
+    ),
     // a mark joins the letter before it; one of a lower class is left to the steps
     ("b", "me\u{301}mm", Some((4, 5, 'm'))),
     ("b", "mme\u{301}\u{327}mm", Some((1, 2, 'e'))),

@@ -97,7 +97,7 @@ following g c =
       spelled = subst (λ (bs : List ℕ). SpellsCharacter (take (len_utf8 next) bs) next) rest some.1;
       part = i.part;
       first = i.first;
-      ends = c.is_next.ensures.apart c.if-not-is_next.false (g.W.Weights.table c.args.query.now.table.now) c.args.query.now.pattern.now (c.args.front.offset + l.at) (chars (take (l.end - l.at) (drop l.at piece))) next i.letter c.letter-following.ensures.letter;
+      ends = c.is_next.ensures.apart c.if-not-is_next.false (g.W.Weights.table c.args.query.now.table.now) c.args.query.now.pattern.now (c.args.front.offset + l.at) (chars (take (l.end - l.at) (drop l.at piece))) next l.letter refl refl i.letter c.letter-following.ensures.letter;
     }
 
 come : (g : given.Over) (c : After-walk_letter g) → HasComeTo (g.W.Weights.table c.args.query.now.table.now) c.args.query.now.pattern.now c.args.front.piece.now c.args.front.offset c.args.front.reach c.args.from.next c.args.matcher.now c.walk_letter.new.matcher c.characters.end c.in-Some.next

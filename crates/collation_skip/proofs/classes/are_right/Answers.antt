@@ -1,4 +1,4 @@
-use Rattle.std.proofs.Common.{◌≡◌, ◌≢◌, ℕ, ◌+◌, ◌<◌, subst, arith, inl, inr}
+use Rattle.std.proofs.Common.{◌≡◌, ◌≢◌, ℕ, ◌+◌, ◌<◌, ◌≤◌, subst, arith, inl, inr}
 use Rattle.std.proofs.lemmas.Bool.{cases_lt}
 use Rattle.byte_blocks.specs.Sets.{in_set}
 use Rattle.collation_skip.specs.Blocks.{IsClassRight, IsCleanCharacter, most}
@@ -12,14 +12,21 @@ one-more P byte before here c less = elim (cases_lt c byte) [
 ]
 
 pub loop-byte-preserved : goal.loop-byte-preserved
-loop-byte-preserved g c =
-    let table = g.W.Weights.table c.args.table.now in
+loop-byte-preserved c =
     let pattern = c.args.pattern.now in
     let classes = c.args.classes.now in
-    let said = c.is_right.ensures in
-    let right = c.if-not-is_right.false in
+    let said = c.is_right_of_known.ensures in
+    let right = c.if-not-is_right_of_known.false in
     record {
-      right = c.letter-letter.ensures.right;
-      each = one-more (IsClassRight table pattern classes) c.loop-byte.byte c.loop-byte.invariant.each (said.class right table c.letter-letter.ensures.letter);
-      clean = one-more (λ b. in_set classes.clean b ≢ 0 → ∥ IsCleanCharacter table pattern (most pattern.keys classes.place) b ∥₁) c.loop-byte.byte c.loop-byte.invariant.clean (λ some. ∣ (c.letter-letter.result, c.letter-letter.ensures.letter, said.clean right some) ∣₁);
+      each = λ table are. one-more (IsClassRight table pattern classes) c.loop-byte.byte (c.loop-byte.invariant.each table are) (said.class right table are);
+      clean = λ table are. one-more (λ b. in_set classes.clean b ≢ 0 → ∥ IsCleanCharacter table pattern (most pattern.keys classes.place) b ∥₁) c.loop-byte.byte (c.loop-byte.invariant.clean table are) (said.clean right table are);
+    }
+
+pub returns : goal.returns
+returns c = λ yes table are.
+    let all : 128 ≤ c.loop-byte.byte = omega (arith, c.loop-byte-test.false) in
+    record {
+      place = c.requires;
+      each = λ b less. c.loop-byte.invariant.each table are b (omega (arith, less, all));
+      clean = λ b less. c.loop-byte.invariant.clean table are b (omega (arith, less, all));
     }

@@ -1,6 +1,6 @@
 use Rattle.std.specs.Char.{len_utf8}
 use Rattle.std.specs.Str.{chars}
-use Rattle.std.proofs.Common.{◌∙◌, ℕ, ◌+◌, ◌≤◌, ◌<◌, List, [], ◌∷◌, length, take, drop, sym, ap, subst, arith}
+use Rattle.std.proofs.Common.{◌∙◌, ℕ, ◌+◌, ◌≤◌, ◌<◌, List, [], ◌∷◌, length, take, drop, refl, sym, ap, subst, arith}
 use Rattle.std.proofs.lemmas.Bool.{eqb-false}
 use Rattle.std.proofs.lemmas.List.{length-drop, take_rest}
 use Rattle.utf8_cut.specs.Sequences.{SpellsCharacter}
@@ -48,7 +48,7 @@ loop-end-preserved c =
           let quiet : AreQuiet table pattern at (chars (take end piece)) here = quiet-so_far table pattern piece end (at + c.loop-end.start) here at c.loop-end.letter some (i.letter table are) clean (λ yes. i.passed table are yes at) in
           passed-on laws.points table pattern piece end len here next at c.loop-end.letter within i.len i.text i.next quiet (i.letter table are) clean.0 (let zero = clean.1 in omega (arith, zero))
           (λ keys symbols. none-foreign pattern.keys keys (item_keys (items_from table pattern at (chars (take end piece)))) c.loop-end.letter.symbols.third laws.one laws.foreign clean.1 symbols)
-          (apart table pattern (at + end) (here ∷ []) next (i.letter table are) (letter table pattern are));
+          (apart table pattern (at + end) (here ∷ []) next c.loop-end.letter refl refl (i.letter table are) (letter table pattern are));
     }
 
 pub returns-clause-passes : goal.returns-clause-passes

@@ -1,5 +1,5 @@
 use Rattle.std.specs.Char.{len_utf8}
-use Rattle.std.proofs.Common.{rules, ℕ, List, [], ◌∷◌, ◌+◌, take, subst}
+use Rattle.std.proofs.Common.{rules, ℕ, List, [], ◌∷◌, ◌+◌, take, refl, subst}
 use Rattle.std.proofs.lemmas.List.{take_rest}
 use Rattle.utf8_cut.specs.Sequences.{SpellsCharacter}
 use Rattle.collation_skip.proofs.two_byte_blocks.ending_at.Goals as goal
@@ -21,5 +21,5 @@ returns-clause-ending g c =
       room = search rules;
       next = subst (λ (bs : List ℕ). SpellsCharacter (take (len_utf8 next) bs) next) (take_rest piece (c.args.start + c.in_ok-character.character_len)) c.in_ok-next.ensures.some.1;
       following = c.letter-following.ensures.letter;
-      apart = λ at. c.is_next.ensures.apart c.if-not-is_next.false (g.W.Weights.table c.args.table.now) c.args.pattern.now at (character ∷ []) next c.letter-letter.ensures.letter c.letter-following.ensures.letter;
+      apart = λ at. c.is_next.ensures.apart c.if-not-is_next.false (g.W.Weights.table c.args.table.now) c.args.pattern.now at (character ∷ []) next c.letter-letter.result refl refl c.letter-letter.ensures.letter c.letter-following.ensures.letter;
     }
