@@ -67,13 +67,13 @@ impl Cache {
     }
 
     /// Prepares, before its first byte, for one text alone of `len` bytes: at least `by_steps` of these go by steps, and at least
-    /// `due` are walked over before any are passed by.
-    pub fn prepare(&mut self, by_steps: usize, due: usize, len: usize)
+    /// `due` are walked over before any are passed by; it has many different bytes of ASCII, if `has_many`.
+    pub fn prepare(&mut self, by_steps: usize, due: usize, len: usize, has_many: bool)
         ensures { (table : TableMap) (pattern : Compiled)
             → IsCacheRight table pattern self.old → IsCacheRight table pattern self.new }
     {
         self.by_steps = self.by_steps.max(by_steps);
-        self.skip.pace.prepare(due, len);
+        self.skip.pace.prepare(due, len, has_many);
     }
 
     /// Whether a piece, whose bytes `by_steps` does not count any more, goes by steps alone: where it and the pieces before it are short, as

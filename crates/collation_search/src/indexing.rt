@@ -46,6 +46,9 @@ const FRONT: usize = 128;
 
 const TIMES_PAST_ASCII: usize = 3;
 
+/// How many different bytes of ASCII are many there: where there are fewer, few moves are found.
+const MANY_OF_ASCII: usize = 20;
+
 /// The first range of the answer to a text, if there is one, though a fault may stand after it: its start and its end, in
 /// bytes from the beginning of the text, the end not included. The pattern was compiled with this table.
 ///
@@ -124,7 +127,8 @@ impl<'a, W: Weights> Search<'a, W> {
         ensures sought { sought self.new ≡ sought self.old }
     {
         let by_steps = bytes_by_steps(text);
-        self.cache.prepare(by_steps, walked_len(text), text.len());
+        let (walked, has_many) = walked_len(text);
+        self.cache.prepare(by_steps, walked, text.len(), has_many);
     }
 
     /// The first range of the answer to a text, if there is one, though a fault may stand after it: its start and its end, in
@@ -305,27 +309,24 @@ fn bytes_by_steps(text: &[u8]) -> usize {
     usize::MAX
 }
 
-/// How many bytes of a text are walked over before any are passed by, as far as its length and its front say: all or none. None where the
-/// front is of ASCII: blocks serve it, for which no more is found than the letters that it has.
-fn walked_len(text: &[u8]) -> usize {
+/// How many bytes of a text are walked over before any are passed by, as far as its length and its front say, all or none; and whether the
+/// front has many different bytes of ASCII, and no others. Blocks serve such a text, for which no more is found than its letters.
+fn walked_len(text: &[u8]) -> (usize, bool) {
     let len = text.len();
     if len <= LONGEST_WALKED {
-        return len;
-    }
-    if len > LONGEST_WALKED_OF_MANY {
-        return 0;
+        return (len, false);
     }
     let (ascii, others) = different_bytes(&text[..FRONT.min(len)]);
-    if others == 0 {
-        return 0;
+    if others == 0 && ascii >= MANY_OF_ASCII {
+        return (0, true);
     }
     let count = others
         .saturating_mul(TIMES_PAST_ASCII)
         .saturating_add(ascii);
-    if len <= count.saturating_mul(WALKED_FOR_EACH) {
-        len
+    if len <= LONGEST_WALKED_OF_MANY.min(count.saturating_mul(WALKED_FOR_EACH)) {
+        (len, false)
     } else {
-        0
+        (0, false)
     }
 }
 

@@ -16,9 +16,6 @@ use collation_table::Weights;
 /// How many places of a pattern are tried.
 const MOST_ASCII_PLACES: usize = 16;
 
-/// How many different bytes a text alone has at least.
-const FEWEST_DIFFERENT: u32 = 16;
-
 /// All bytes of ASCII.
 const ALL: [u8; 16] = [0xFF; 16];
 
@@ -46,7 +43,7 @@ const MOST_COUNTED: usize = 128;
 
 /// The classes for the place of the pattern at which the fewest stops are expected, by a text; `None` where they are not known to be right.
 /// Where they serve this text alone, no letter is found for bytes that it does not have, and the first place is taken, for a choice costs
-/// more than it saves; and there are none where the text has few different bytes, for the automaton has few moves then.
+/// more than it saves.
 pub(crate) fn classes_for<W: Weights>(
     table: &W,
     pattern: &Pattern,
@@ -63,9 +60,6 @@ pub(crate) fn classes_for<W: Weights>(
         return None;
     }
     let there = if is_alone { ascii_of(text) } else { ALL };
-    if size(&there) < FEWEST_DIFFERENT {
-        return None;
-    }
     find_letters(table, pattern, letters, &there);
     let mut best = if is_alone {
         classes_at(pattern, letters, 0)
@@ -108,15 +102,6 @@ fn ascii_of(text: &[u8]) -> [u8; 16] {
         }
     }
     there
-}
-
-/// How many bytes of ASCII are in a set.
-fn size(set: &[u8; 16]) -> u32 {
-    let mut size = 0u32;
-    for column in set {
-        size = size.wrapping_add(column.count_ones());
-    }
-    size
 }
 
 /// Finds the letters of these bytes of ASCII.

@@ -25,7 +25,7 @@ const LONGEST: u32 = 256;
 /// How many bytes of a text a place is tried on.
 pub(crate) const SAMPLE: usize = 1_024;
 
-/// The most bytes of one text alone for which a place is chosen that serves no other one, and by how many of ASCII it is.
+/// The most bytes of one text alone for which no place is chosen but one that serves no other text, and by how many of ASCII that is.
 const LONGEST_ALONE: usize = 6_000;
 
 const SAMPLE_ALONE: usize = 192;
@@ -96,12 +96,19 @@ impl Pace {
         }
     }
 
-    /// Prepares, before its first byte, for one text alone of `len` bytes, of which at least `due` are walked over: for a short one a place
-    /// is chosen by less, and for a longer one once, though its first pieces are short.
-    pub fn prepare(&mut self, due: usize, len: usize) {
+    /// Prepares, before its first byte, for one text alone of `len` bytes, of which at least `due` are walked over, and which has many different
+    /// bytes of ASCII, if it has: for a short one a place is chosen by less then, else none, and for a longer one once, though its first pieces
+    /// are short.
+    pub fn prepare(&mut self, due: usize, len: usize, has_many: bool) {
         self.due = self.due.max(due);
-        self.is_alone = len <= LONGEST_ALONE;
-        self.wanted = if self.is_alone { SAMPLE_ALONE } else { SAMPLE };
+        self.is_alone = has_many && len <= LONGEST_ALONE;
+        self.wanted = if self.is_alone {
+            SAMPLE_ALONE
+        } else if len <= LONGEST_ALONE {
+            usize::MAX
+        } else {
+            SAMPLE
+        };
     }
 
     /// Whether the place serves one text alone.

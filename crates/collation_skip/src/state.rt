@@ -15,7 +15,7 @@ const FIRST_OF_MANY: char = '\u{2E80}';
 
 /// How many keys a pattern has for which all letters are kept as they are: most are foreign to it, so few differ, and moves that would serve
 /// once are not found.
-const FEW_KEYS: usize = 16;
+const FEW_KEYS: usize = 12;
 
 /// What is known behind some bytes. What it means stands in `specs/Reached.antt`.
 #[derive(Clone, Copy, Debug)]
@@ -125,6 +125,7 @@ impl State {
 }
 
 /// Whether no key of the pattern waits behind a letter that is this character, before which so many of its first keys have matched.
+#[inline(always)]
 fn is_spent(pattern: &Pattern, depth: usize, letter: &Letter, c: char) -> bool
     requires { depth ≤ length pattern.now.keys }
     ensures some { result ≡ true → letter.now.symbols.third < 255 }
@@ -139,6 +140,7 @@ fn is_spent(pattern: &Pattern, depth: usize, letter: &Letter, c: char) -> bool
 }
 
 /// A letter as a state keeps it: without its symbols where it is spent, as if its last key were one that the pattern does not have.
+#[inline(always)]
 fn kept(letter: Letter, is_spent: bool) -> Letter
     ensures role { letter.role ≡ result.role }
     ensures closed { letter.is_closed ≡ result.is_closed }

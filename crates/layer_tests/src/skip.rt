@@ -410,7 +410,7 @@ fn bytes_are_walked_over_behind_tries_in_vain(rt: HostRuntime) {
     pace.after_letters(200);
     same_at(&rt, &pace.due(), &56, &"taken");
     same_at(&rt, &pace.wait_from(100), &356, &"behind 100");
-    pace.prepare(1_000, 2_000);
+    pace.prepare(1_000, 2_000, false);
     same_at(&rt, &pace.due(), &1_000, &"prepared");
 }
 
