@@ -310,7 +310,7 @@ fn bytes_by_steps(text: &[u8]) -> usize {
 }
 
 /// How many bytes of a text are walked over before any are passed by, as far as its length and its front say, all or none; and whether the
-/// front has many different bytes of ASCII, and no others. Blocks serve such a text, for which no more is found than its letters.
+/// front has many different bytes, all of ASCII. Blocks serve such a text, for which few letters are found, and no moves.
 fn walked_len(text: &[u8]) -> (usize, bool) {
     let len = text.len();
     if len <= LONGEST_WALKED {

@@ -25,12 +25,13 @@ const LONGEST: u32 = 256;
 /// How many bytes of a text a place is tried on.
 pub(crate) const SAMPLE: usize = 1_024;
 
-/// The most bytes of one text alone for which no place is chosen but one that serves no other text, and by how many of ASCII that is.
+/// Up to how many bytes a text alone has no place, or, where many of its bytes differ, one that serves it alone, chosen by at least
+/// `SAMPLE_ALONE` bytes.
 const LONGEST_ALONE: usize = 6_000;
 
 const SAMPLE_ALONE: usize = 192;
 
-/// At which turn the automaton is that is not asked any more: it would be more than two thousand million times from then on.
+/// At which turn the automaton rests for good: two thousand million times.
 const NEVER: u32 = 0x8000_0001;
 
 /// How many bytes at the front of a text are ASCII where a place is chosen by it: of other scripts few blocks pass.
@@ -59,7 +60,8 @@ pub struct Pace {
     /// The fewest bytes of a text by which a place is chosen for blocks. Where less than `SAMPLE` will do, short texts make it less; `SAMPLE`
     /// wants a long one, and `usize::MAX` none.
     wanted: usize,
-    /// Whether the place serves one text alone: then only the bytes that this has pass, and where they do the automaton is not asked.
+    /// Whether a place would serve one text alone: then only the bytes pass that the piece has by which it is chosen, and the automaton rests,
+    /// until little passes.
     is_alone: bool,
     /// Whether the last text of ASCII passed in blocks.
     blocks_pay: bool,
@@ -96,9 +98,9 @@ impl Pace {
         }
     }
 
-    /// Prepares, before its first byte, for one text alone of `len` bytes, of which at least `due` are walked over, and which has many different
-    /// bytes of ASCII, if it has: for a short one a place is chosen by less then, else none, and for a longer one once, though its first pieces
-    /// are short.
+    /// Prepares, before its first byte, for one text alone of `len` bytes, of which at least `due` are walked over. For a short one a place is
+    /// chosen where its front has many different bytes, all of ASCII (`has_many`), and else none; for a longer one once, though its first
+    /// pieces are short.
     pub fn prepare(&mut self, due: usize, len: usize, has_many: bool) {
         self.due = self.due.max(due);
         self.is_alone = has_many && len <= LONGEST_ALONE;
@@ -111,7 +113,7 @@ impl Pace {
         };
     }
 
-    /// Whether the place serves one text alone.
+    /// Whether a place would serve one text alone.
     pub(crate) fn is_for_one_text(&self) -> bool {
         self.is_alone
     }
@@ -132,9 +134,13 @@ impl Pace {
         self.due = self.due.saturating_sub(len);
     }
 
-    /// So many bytes were looked over in vain: twice as many are walked over as before, or these.
+    /// So many bytes were looked over in vain: twice as many are walked over as before, or these. Where these are many, the automaton that
+    /// rested for good is asked: other characters came than those by which a place was chosen.
     pub fn lose(&mut self, looked: usize) {
         self.hold = twice(self.hold).max(looked);
+        if self.hold >= LONGEST as usize && self.times >= NEVER {
+            self.times = 1;
+        }
     }
 
     /// Text was passed by, if it was: none is walked over where that pays, a quarter of what was before where more than one letter passed or
@@ -156,13 +162,11 @@ impl Pace {
     /// Whether a place is chosen for blocks by this text.
     #[inline(always)]
     pub(crate) fn is_wanted(&self, text: &[u8]) -> bool {
-        text.len() >= self.wanted
-            && begins_with_ascii(text)
-            && (!self.is_alone || text[..text.len().min(SAMPLE_ALONE)].is_ascii())
+        text.len() >= self.wanted && begins_with_ascii(text)
     }
 
-    /// A place was sought by a text of so many bytes, and found or not: by a long one, or for one text alone, for good, by a short one until
-    /// a long one comes.
+    /// A place was sought by a text of so many bytes, and found, if it was: by a long one, or for one text alone, for good, by a short one
+    /// until a long one comes.
     pub(crate) fn after_choice(&mut self, len: usize, is_some: bool) {
         self.wanted = if len < SAMPLE && !self.is_alone {
             SAMPLE
@@ -261,7 +265,7 @@ impl Pace {
         self.sets_left = if is_some { MOST_LACKING } else { self.wait };
     }
 
-    /// Sets passed by so many bytes, or none: whether they are kept. Else there are none, and the next are waited for as long as these.
+    /// Sets passed by so many bytes, or none: whether they are kept. Else there are none, and the next are waited for as long as all before.
     pub(crate) fn after_sets(&mut self, passed: usize) -> bool {
         let left = self.sets_left.saturating_add(passed);
         self.sets_left = left.saturating_sub(EACH_TEXT).min(MOST_LACKING);

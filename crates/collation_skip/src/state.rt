@@ -9,12 +9,8 @@ use crate::depth::depth_after;
 use collation_letters::{FOREIGN, Letter, NO_SYMBOL, Symbols};
 use collation_pattern::Pattern;
 
-/// From which character on it is asked whether a letter is spent: these are Han, Hangul and kana, of which there are so many that each with
-/// each begun character would be a state, and behind which marks hardly stand.
-const FIRST_OF_MANY: char = '\u{2E80}';
-
-/// How many keys a pattern has for which all letters are kept as they are: most are foreign to it, so few differ, and moves that would serve
-/// once are not found.
+/// How many keys a pattern has at most for which all letters are kept as they are: most are foreign to it, so few differ, and a full table
+/// of states ends what would be found for characters that come once.
 const FEW_KEYS: usize = 12;
 
 /// What is known behind some bytes. What it means stands in `specs/Reached.antt`.
@@ -133,10 +129,16 @@ fn is_spent(pattern: &Pattern, depth: usize, letter: &Letter, c: char) -> bool
         → AreLastSymbols pattern.now.keys keys (listed letter.now.symbols)
         → border pattern.now.keys before ≡ depth → border pattern.now.keys (before ++ keys) ≡ 0 }
 {
-    if c < FIRST_OF_MANY || pattern.keys().len() <= FEW_KEYS || !letter.has_last_key() {
+    if !is_of_many(c) || pattern.keys().len() <= FEW_KEYS || !letter.has_last_key() {
         return false;
     }
     depth_after(pattern, depth, letter.symbols) == 0
+}
+
+/// Whether a character is of Han or Hangul: of these there are so many that each with each begun character would be a state, and marks hardly
+/// stand behind them.
+fn is_of_many(c: char) -> bool {
+    matches!(c, '\u{3400}'..='\u{9FFF}' | '\u{AC00}'..='\u{D7A3}' | '\u{20000}'..='\u{3FFFF}')
 }
 
 /// A letter as a state keeps it: without its symbols where it is spent, as if its last key were one that the pattern does not have.

@@ -49,7 +49,7 @@ fn passed_is(
     places_are(rt, places, [want, want], settings.0);
 }
 
-/// A pattern of one key, or of two, a text, and where it is left.
+/// A pattern of one key, of two, or of many, a text, and where it is left.
 const TEXTS: [(&str, &str, Option<Place>); 22] = [
     ("b", "mmmmmmmmmm", Some((8, 9, 'm'))),
     ("b", "mmab", Some((2, 3, 'b'))),
@@ -65,7 +65,7 @@ const TEXTS: [(&str, &str, Option<Place>); 22] = [
     ("ab", "mmab", Some((1, 2, 'a'))),
     // a character of three bytes, and one of four
     ("b", "m\u{4E00}m\u{20000}m", Some((5, 9, 'm'))),
-    // a mark joins Han, and for a pattern of many keys does not; Han that such a pattern has, behind which none waits, or its first ones
+    // a mark joins Han, and for a pattern of many keys does not; Han that this has, behind which no key waits, or the first ones
     ("b", "mm\u{4E00}\u{301}mm", Some((7, 8, 'm'))),
     (
         "bbbbbbbbbbbbbbbbb",

@@ -209,14 +209,14 @@ const AMID: [(&str, bool); 6] = [
     ("s\u{AD}a", true),
 ];
 
-/// Texts of some 1,400 bytes, of which blocks pass what has the bytes of the front.
+/// Texts of some 1,600 bytes, of which blocks pass what has the bytes of the front.
 #[test]
 fn first_range_of_a_text_of_ascii(rt: HostRuntime) {
     let alloc = rt.alloc();
     let table = read(&rt, alloc, TABLE);
     let pattern = compile(&rt, alloc, &table, "sa", ONE, KEPT);
     let query = for_all(&table, &pattern);
-    let many = repeated(&rt, alloc, "the mace: hubba! ca-ch, 12? (bAe) ", 20);
+    let many = repeated(&rt, alloc, "the mace: hubba! ca-ch, 12? (bAe) Jukv ", 20);
     for (part, want) in AMID {
         let text = joined(&rt, alloc, &[many.as_str(), part, many.as_str()]);
         let is_found = compare_first(&rt, alloc, &query, text.as_bytes());
