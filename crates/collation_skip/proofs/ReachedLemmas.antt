@@ -38,7 +38,7 @@ use Rattle.collation_skip.specs.declared.begun.Begun.TheVariants.{Whole}
 use Rattle.collation_skip.specs.declared.state.State.{State}
 use Rattle.collation_skip.specs.BegunBytes.{begun_bytes}
 use Rattle.collation_skip.specs.Passed.{IsQuiet}
-use Rattle.collation_skip.specs.Reached.{items_from, IsKept, IsReached}
+use Rattle.collation_skip.specs.Reached.{items_from, IsHeldAs, IsReached}
 use Rattle.collation_skip.proofs.ItemLemmas.{letter_items, keys-append, keys-letter, quiet-more, later-more}
 
 -- ---- the items of a letter more
@@ -118,7 +118,7 @@ further table pattern s at bytes byte c spelled r =
     }
 
 -- a letter that is kept as it is
-pub kept-whole : (pattern : List Key) (depth : ℕ) (l : Letter) → IsKept pattern depth l l false
+pub kept-whole : (pattern : List Key) (depth : ℕ) (l : Letter) → IsHeldAs pattern depth l l false
 kept-whole pattern depth l = record { role = refl; closed = refl; whole = λ _. refl; some = λ yes. absurd (false≢true yes); none = λ yes. absurd (false≢true yes) }
 
 -- a character with which the last letter goes on
@@ -160,7 +160,7 @@ pub record MayBeLeft (s t : State) : Type 0 where
   pub none : t.depth ≡ 0
 
 -- a letter of which a last key is kept has one
-kept-some : (pattern : List Key) (depth : ℕ) (own kept : Letter) (is_spent : Bool) → IsKept pattern depth own kept is_spent → kept.symbols.third < 255 → own.symbols.third < 255
+kept-some : (pattern : List Key) (depth : ℕ) (own kept : Letter) (is_spent : Bool) → IsHeldAs pattern depth own kept is_spent → kept.symbols.third < 255 → own.symbols.third < 255
 kept-some pattern depth own kept true is some = is.some refl
 kept-some pattern depth own kept false is some = subst (λ (l : Letter). l.symbols.third < 255) (is.whole refl) some
 
@@ -177,9 +177,9 @@ begins-more laws table at (b ∷ before) first others h next =
 pub reached-next : LetterLaws → PointsAreShifted → (table : TableMap) (pattern : Compiled) (s t : State) (at : ℕ) (bytes : List ℕ) (byte c : ℕ) → SpellsCharacter (begun_bytes s.begun ++ byte ∷ []) c →
     s.letter.role ≢ Steps → is_mark s.letter.role ≡ false →
     ((start : ℕ) (cs : List ℕ) (own : Letter) → own.role ≡ s.letter.role → own.is_closed ≡ s.letter.is_closed → IsLetter table pattern cs own → IsNext table start cs c) →
-    ((own : Letter) → IsKept pattern.keys s.depth own s.letter s.is_spent →
+    ((own : Letter) → IsHeldAs pattern.keys s.depth own s.letter s.is_spent →
     (before keys : List Key) → AreLastSymbols pattern.keys keys (listed own.symbols) → border pattern.keys before ≡ s.depth → border pattern.keys (before ++ keys) ≡ t.depth) →
-    t.depth < length pattern.keys → (l : Letter) → IsLetter table pattern (c ∷ []) l → IsKept pattern.keys t.depth l t.letter t.is_spent → t.len ≡ len_utf8 c → (t.letter.is_closed ≡ false → c ≡ t.character) → t.begun ≡ Whole →
+    t.depth < length pattern.keys → (l : Letter) → IsLetter table pattern (c ∷ []) l → IsHeldAs pattern.keys t.depth l t.letter t.is_spent → t.len ≡ len_utf8 c → (t.letter.is_closed ≡ false → c ≡ t.character) → t.begun ≡ Whole →
     (0 < t.before → MayBeLeft s t) → IsReached table pattern s at bytes → IsReached table pattern t at (bytes ++ byte ∷ [])
 reached-next laws shift table pattern s t at bytes byte c spelled known starter apart deeper_than below l h kept len character begun clean r =
     let own = r.own in
@@ -254,7 +254,7 @@ no-item [] after i e = cc
 no-item (f ∷ first) after i e = cc
 
 pub reached-first : (table : TableMap) (pattern : Compiled) (s : State) (at : ℕ) (bytes : List ℕ) (c : ℕ) → SpellsCharacter bytes c → begins_with_starter (points_from 0 (c ∷ [])) ≡ true →
-    0 < length pattern.keys → (l : Letter) → IsLetter table pattern (c ∷ []) l → IsKept pattern.keys s.depth l s.letter s.is_spent → s.depth ≡ 0 → s.len ≡ len_utf8 c → (s.letter.is_closed ≡ false → c ≡ s.character) → s.begun ≡ Whole → s.before ≡ 0 →
+    0 < length pattern.keys → (l : Letter) → IsLetter table pattern (c ∷ []) l → IsHeldAs pattern.keys s.depth l s.letter s.is_spent → s.depth ≡ 0 → s.len ≡ len_utf8 c → (s.letter.is_closed ≡ false → c ≡ s.character) → s.begun ≡ Whole → s.before ≡ 0 →
     IsReached table pattern s at bytes
 reached-first table pattern s at bytes c spelled starter some l h kept depth len character begun before =
     let one = one_char bytes c spelled in

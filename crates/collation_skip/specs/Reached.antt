@@ -32,9 +32,9 @@ pub record IsBehind (table : TableMap) (pattern : Compiled) (at len : ℕ) (befo
   pub len_is : len_utf8 character ≡ len
   pub passed : IsPassed table pattern at (at + byte_len earlier) before last
 
--- How a letter is kept, where so many of the pattern's first keys end the keys before it: as it is, or, where none ends those up to
+-- How a letter is held, where so many of the pattern's first keys end the keys before it: as it is, or, where none ends those up to
 -- its last key, spent: without its symbols.
-pub record IsKept (pattern : List Key) (depth : ℕ) (own kept : Letter) (is_spent : Bool) : Type 0 where
+pub record IsHeldAs (pattern : List Key) (depth : ℕ) (own kept : Letter) (is_spent : Bool) : Type 0 where
   pub role : own.role ≡ kept.role
   pub closed : own.is_closed ≡ kept.is_closed
   pub whole : is_spent ≡ false → kept ≡ own
@@ -57,7 +57,7 @@ pub record IsReached (table : TableMap) (pattern : Compiled) (state : State) (at
   pub is_next : IsNext table at before first
   pub own : Letter
   pub letter : IsLetter table pattern (first ∷ others) own
-  pub kept : IsKept pattern.keys state.depth own state.letter state.is_spent
+  pub kept : IsHeldAs pattern.keys state.depth own state.letter state.is_spent
   pub depth : border pattern.keys (item_keys (items_from table pattern at before)) ≡ state.depth
   pub below : state.depth < length pattern.keys
   pub quiet : IsQuiet pattern.keys (items_from table pattern at before)

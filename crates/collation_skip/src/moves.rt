@@ -10,7 +10,7 @@ ghost use Rattle.collation_letters.specs.Symbols.{AreLastSymbols, listed};
 ghost use Rattle.collation_letters.specs.declared.letter.Letter.{Letter as LetterValue};
 ghost use Rattle.collation_letters.specs.declared.letter.Role.TheVariants.{Steps};
 ghost use Rattle.collation_skip.specs.BegunBytes.{begun_bytes};
-ghost use Rattle.collation_skip.specs.Reached.{IsKept, IsMove};
+ghost use Rattle.collation_skip.specs.Reached.{IsHeldAs, IsMove};
 
 use crate::begun::Decoded;
 use crate::depth::depth_after;
@@ -114,7 +114,7 @@ fn behind_letter<W: Weights>(
 /// How many of the pattern's first keys have matched behind the last letter of a state.
 fn depth_behind(pattern: &Pattern, state: &State) -> usize
     requires { state.now.depth ≤ length pattern.now.keys }
-    ensures { (own : LetterValue) → IsKept pattern.now.keys state.now.depth own
+    ensures { (own : LetterValue) → IsHeldAs pattern.now.keys state.now.depth own
         state.now.letter state.now.is_spent
         → (before keys : List KeyValue)
         → AreLastSymbols pattern.now.keys keys (listed own.symbols)

@@ -35,7 +35,7 @@ pub(crate) struct State {
 impl State {
     ghost use Rattle.std.specs.Prelude.{◌≡◌, ◌≤◌, length, true, false};
     ghost use Rattle.std.specs.Char.{len_utf8};
-    ghost use Rattle.collation_skip.specs.Reached.{IsKept};
+    ghost use Rattle.collation_skip.specs.Reached.{IsHeldAs};
     ghost use Rattle.collation_skip.specs.declared.begun.Begun.TheVariants.{Whole};
 
     /// Behind a letter that is one character, before which stands a character of so many bytes up to which the text may be passed by.
@@ -48,7 +48,7 @@ impl State {
     ) -> State
         requires { depth ≤ length pattern.now.keys }
         ensures depth { result.depth ≡ depth }
-        ensures letter { IsKept pattern.now.keys depth (record letter { is_apart = false })
+        ensures letter { IsHeldAs pattern.now.keys depth (record letter { is_apart = false })
             result.letter result.is_spent }
         ensures character { letter.is_closed ≡ false → result.character ≡ c }
         ensures len { result.len ≡ len_utf8 c }

@@ -4,7 +4,7 @@ use Rattle.std.proofs.Math.Logic.{∥∥₁_map}
 use Rattle.collation_letters.specs.declared.letter.Letter.{Letter}
 use Rattle.collation_letters.specs.Letters.{IsLetter}
 use Rattle.collation_letters.proofs.LetterLemmas.{letter-without_apart}
-use Rattle.collation_skip.specs.Reached.{IsKept}
+use Rattle.collation_skip.specs.Reached.{IsHeldAs}
 use Rattle.collation_skip.proofs.ReachedLemmas.{MayBeLeft, reached-next}
 use Rattle.collation_skip.proofs.moves.behind_letter.Goals as goal
 
@@ -28,7 +28,7 @@ returns g c =
     let l : Letter = record c.args.following { is_apart = false } in
     let letter : IsLetter table pattern (c.args.c ∷ []) l = letter-without_apart table pattern (c.args.c ∷ []) c.args.following c.requires.letter in
     let depth = sym c.behind.ensures.depth in
-    let kept = subst (λ n. IsKept pattern.keys n l t.letter t.is_spent) depth c.behind.ensures.letter in
+    let kept = subst (λ n. IsHeldAs pattern.keys n l t.letter t.is_spent) depth c.behind.ensures.letter in
     let below : t.depth < length pattern.keys = omega (arith, c.behind.ensures.depth, c.if-depth-most.false, c.min-most.ensures, ap (λ (l : List Key). length l) c.keys.ensures) in
     record {
       moves = λ byte spelled at bytes h. ∥∥₁_map h (λ r.

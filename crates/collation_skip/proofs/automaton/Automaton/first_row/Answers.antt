@@ -5,7 +5,7 @@ use Rattle.collation_elements.specs.declared.keys.Key.{Key}
 use Rattle.collation_letters.specs.declared.letter.Letter.{Letter}
 use Rattle.collation_letters.specs.Letters.{IsLetter}
 use Rattle.collation_letters.proofs.LetterLemmas.{letter-without_apart}
-use Rattle.collation_skip.specs.Reached.{IsKept}
+use Rattle.collation_skip.specs.Reached.{IsHeldAs}
 use Rattle.collation_skip.proofs.ReachedLemmas.{reached-first}
 use Rattle.collation_skip.proofs.RunLemmas.{if-some, stands-first}
 use Rattle.collation_skip.proofs.automaton.Automaton.first_row.Goals as goal
@@ -19,7 +19,7 @@ returns-clause-stands g c =
     let starter = c.is_starter.ensures c.if-not-is_starter.false table pattern (first ∷ []) c.letter-letter.ensures.letter in
     let l : Letter = record c.letter-letter.result { is_apart = false } in
     let letter : IsLetter table pattern (first ∷ []) l = letter-without_apart table pattern (first ∷ []) c.letter-letter.result c.letter-letter.ensures.letter in
-    let kept = subst (λ n. IsKept pattern.keys n l s.letter s.is_spent) (sym c.behind.ensures.depth) c.behind.ensures.letter in
+    let kept = subst (λ n. IsHeldAs pattern.keys n l s.letter s.is_spent) (sym c.behind.ensures.depth) c.behind.ensures.letter in
     let some : 0 < length pattern.keys =
     let none = eqb-false (length c.keys.result.now) 0 (sym c.is_empty.ensures ∙ c.if-is_empty.false) in
     let keys = ap (λ (l : List Key). length l) c.keys.ensures in omega (arith, none, keys) in
