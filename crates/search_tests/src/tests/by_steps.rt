@@ -198,28 +198,3 @@ fn first_range_of_short_texts(rt: HostRuntime) {
     }
     holds(&rt, 100 < found && found < 1_640, &found);
 }
-
-/// What stands amid a text of ASCII, and whether the pattern is found there: also behind bytes that do not stand before it.
-const AMID: [(&str, bool); 6] = [
-    ("", false),
-    ("sa", true),
-    ("9 sa 9", true),
-    ("é sa", true),
-    ("s~a", false),
-    ("s\u{AD}a", true),
-];
-
-/// Texts of some 1,600 bytes, of which blocks pass what has the bytes of the front.
-#[test]
-fn first_range_of_a_text_of_ascii(rt: HostRuntime) {
-    let alloc = rt.alloc();
-    let table = read(&rt, alloc, TABLE);
-    let pattern = compile(&rt, alloc, &table, "sa", ONE, KEPT);
-    let query = for_all(&table, &pattern);
-    let many = repeated(&rt, alloc, "the mace: hubba! ca-ch, 12? (bAe) Jukv ", 20);
-    for (part, want) in AMID {
-        let text = joined(&rt, alloc, &[many.as_str(), part, many.as_str()]);
-        let is_found = compare_first(&rt, alloc, &query, text.as_bytes());
-        holds(&rt, is_found == want, &part);
-    }
-}
