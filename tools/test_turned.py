@@ -111,11 +111,11 @@ class Turned(unittest.TestCase):
             ),
         )
 
-    def test_the_gate_tries_ten_edits_of_a_crate_at_most(self):
-        for number in range(11):
+    def test_the_gate_tries_four_edits_of_a_crate_at_most(self):
+        for number in range(5):
             self.edit(f"colfind_c/must-fail/edit_{number}", "c_free")
         self.run_tool("--write")
-        self.assertEqual(self.run_tool("--check"), (1, "colfind_c: the gate tries 11 edits\n4 clauses, 15 edits, 1 faults\n"))
+        self.assertEqual(self.run_tool("--check"), (1, "colfind_c: the gate tries 5 edits\n4 clauses, 9 edits, 1 faults\n"))
 
     def test_this_repository_has_no_fault(self):
         tool = [Path(__file__).parent / "turned", "--check"]

@@ -10,7 +10,7 @@ use Rattle.collation_table.specs.Table.{TableMap, BeginsNoLongerString, Continue
 use Rattle.collation_elements.specs.Units.{code_points, Cut, first_unit, prefix_length, units}
 use Rattle.collation_elements.proofs.Longest.{longest_prefix_within-le}
 use Rattle.collation_elements.proofs.Alone.{units-alone}
-use Rattle.collation_elements.proofs.ContextUnits.{units-cons, first_unit-prefix, first_unit-shorter}
+use Rattle.collation_elements.proofs.ContextUnits.{units-cons, first_unit-prefix, first_unit-last, first_unit-shorter}
 
 pub units-all_alone : (T : TableMap) (ps more : List Point) → All (λ p. BeginsNoLongerString T p.cp) ps → units T (ps ++ more) ≡ units T ps ++ units T more
 units-all_alone T [] more none = refl
@@ -59,3 +59,18 @@ units-before_within (suc n) T (p ∷ ps) d more few starter none =
 
 pub units-before_starter : (T : TableMap) (ps : List Point) (d : Point) (more : List Point) → is_starter d ≡ true → ContinuesNoString T d.cp → units T (ps ++ d ∷ more) ≡ units T ps ++ units T (d ∷ more)
 units-before_starter T ps d more starter none = units-before_within (length ps) T ps d more (omega arith) starter none
+
+-- ---- a last point that stands in no mapped string after the first place
+
+units-last_within : (n : ℕ) (T : TableMap) (ps : List Point) (d : Point) → length ps ≤ n → ContinuesNoString T d.cp → units T (ps ++ d ∷ []) ≡ units T ps ++ units T (d ∷ [])
+units-last_within n T [] d few none = refl
+units-last_within zero T (p ∷ ps) d few none = absurd (omega arith)
+units-last_within (suc n) T (p ∷ ps) d few none =
+    let same = first_unit-last T p ps d none (prefix_length-before T p ps d [] none) in
+    units-cons T p (ps ++ d ∷ [])
+    ∙ ap (λ (cut : Cut). cut.unit ∷ units T cut.rest) same
+    ∙ ap (λ us. (first_unit T p ps).unit ∷ us) (units-last_within n T (first_unit T p ps).rest d (omega (arith, first_unit-shorter T p ps)) none)
+    ∙ ap (λ us. us ++ units T (d ∷ [])) (sym (units-cons T p ps))
+
+pub units-last_point : (T : TableMap) (ps : List Point) (d : Point) → ContinuesNoString T d.cp → units T (ps ++ d ∷ []) ≡ units T ps ++ units T (d ∷ [])
+units-last_point T ps d none = units-last_within (length ps) T ps d (omega arith) none

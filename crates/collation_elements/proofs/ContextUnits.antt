@@ -1,14 +1,14 @@
 -- Units do not reach across a starter at which one of them begins: the units before it are those of the prefix by itself,
 -- and the units from it on are those of the rest by itself.
 use Rattle.std.proofs.Common.{◌≡◌, ℕ, zero, suc, ◌+◌, ◌-◌, ◌≤◌, max, Bool, true, false, List, [], ◌∷◌, ◌++◌, length, take, drop, refl, sym, ap, ap₂, ◌∙◌, subst, arith, inl, inr, length-append, append_assoc, append-nil, eq-or-lt_of_le, if◌then◌else◌, true≢false}
-use Rattle.std.proofs.lemmas.Bool.{cond-true, cond-false, cases_Bool, and_parts, and_from, not_from_false, not_from_true}
+use Rattle.std.proofs.lemmas.Bool.{cond-true, cond-false, cases_Bool, and_parts, and_from, and_right, not_from_false, not_from_true}
 use Rattle.std.proofs.lemmas.List.{take-append-drop, length-take-le, length-drop, length-map, map-append, take-append-le, drop-append-le}
 use Rattle.std.proofs.lemmas.List.Folds.{list_all-append}
 use Rattle.std.specs.List.{list_all}
 use Rattle.nfd_points.specs.declared.points.Point.{Point}
 use Rattle.nfd_points.specs.Points.{is_starter}
 use Rattle.nfd_points.specs.Reordering.{is_non_starter}
-use Rattle.collation_table.specs.Table.{TableMap, is_mapped, longest_prefix, longest_prefix_within}
+use Rattle.collation_table.specs.Table.{TableMap, ContinuesNoString, is_mapped, longest_prefix, longest_prefix_within}
 use Rattle.collation_elements.specs.Units.{code_points, joins, Cut, extended, first_unit, units_within, units, prefix_length}
 use Rattle.collation_elements.proofs.Longest.{prefix_length-le}
 
@@ -46,6 +46,37 @@ extended-at_starter table unit between (c ∷ cs) s later h =
                 extended-left table unit between c (cs ++ s ∷ later) mark stays
                 ∙ extended-at_starter table unit (between ++ c ∷ []) cs s later h
                 ∙ ap (with_more (s ∷ later)) (sym (extended-left table unit between c cs mark stays))
+          ]
+    ]
+
+-- and it leaves a last point that stands in no mapped string after the first place
+joins-none : (table : TableMap) (u : Point) (us between : List Point) (d : Point) → ContinuesNoString table d.cp → joins table (u ∷ us) between d ≡ false
+joins-none table u us between d none =
+    let parts : code_points ((u ∷ us) ++ d ∷ []) ≡ u.cp ∷ (code_points us ++ d.cp ∷ []) = map-append (λ (q : Point). q.cp) (u ∷ us) (d ∷ []) in
+    and_right _ _ (ap (is_mapped table) parts ∙ none u.cp (code_points us) [])
+
+pub extended-at_last : (table : TableMap) (unit us between cs : List Point) (u d : Point) → unit ≡ u ∷ us → ContinuesNoString table d.cp → extended table unit between (cs ++ d ∷ []) ≡ with_more (d ∷ []) (extended table unit between cs)
+extended-at_last table unit us between [] u d some none =
+    elim (cases_Bool (is_starter d)) [
+      | inl starter ↦ extended-stop table unit between d [] starter
+      | inr mark ↦ extended-left table unit between d [] mark (ap (λ x. joins table x between d) some ∙ joins-none table u us between d none)
+    ]
+extended-at_last table unit us between (c ∷ cs) u d some none =
+    elim (cases_Bool (is_starter c)) [
+      | inl starter ↦
+          extended-stop table unit between c (cs ++ d ∷ []) starter
+          ∙ ap (λ l. record { unit = unit; rest = l }) (sym (append_assoc between (c ∷ cs) (d ∷ [])))
+          ∙ ap (with_more (d ∷ [])) (sym (extended-stop table unit between c cs starter))
+      | inr mark ↦
+          elim (cases_Bool (joins table unit between c)) [
+            | inl joined ↦
+                extended-taken table unit between c (cs ++ d ∷ []) mark joined
+                ∙ extended-at_last table (unit ++ c ∷ []) (us ++ c ∷ []) between cs u d (ap (λ l. l ++ c ∷ []) some) none
+                ∙ ap (with_more (d ∷ [])) (sym (extended-taken table unit between c cs mark joined))
+            | inr stays ↦
+                extended-left table unit between c (cs ++ d ∷ []) mark stays
+                ∙ extended-at_last table unit us (between ++ c ∷ []) cs u d some none
+                ∙ ap (with_more (d ∷ [])) (sym (extended-left table unit between c cs mark stays))
           ]
     ]
 
@@ -168,6 +199,26 @@ first_unit-prefix table p ps s later h le =
     ap (λ l. max 1 (longest_prefix table l)) parts ∙ ap (max 1) (longest_prefix-prefix table (code_points (p ∷ ps)) (code_points (s ∷ later)) low) in
     ap (λ n. cut_at table n ((p ∷ ps) ++ s ∷ later)) same
     ∙ cut_at-prefix table (prefix_length table (p ∷ ps)) (p ∷ ps) s later h (prefix_length-le table (p ∷ ps) (omega arith))
+
+-- and so is a last point that stands in no mapped string after the first place
+pub first_unit-last : (table : TableMap) (p : Point) (ps : List Point) (d : Point) → ContinuesNoString table d.cp → prefix_length table (p ∷ (ps ++ d ∷ [])) ≤ length (p ∷ ps) → first_unit table p (ps ++ d ∷ []) ≡ with_more (d ∷ []) (first_unit table p ps)
+first_unit-last table p ps d none le =
+    let all : List Point = p ∷ ps in
+    let parts : code_points (p ∷ (ps ++ d ∷ [])) ≡ code_points all ++ code_points (d ∷ []) = map-append (λ (q : Point). q.cp) all (d ∷ []) in
+    let low : longest_prefix table (code_points all ++ code_points (d ∷ [])) ≤ length (code_points all) =
+    subst (λ l. longest_prefix table l ≤ length (code_points all)) parts (omega (arith, length-code_points all)) in
+    let n = prefix_length table all in
+    let same : prefix_length table (p ∷ (ps ++ d ∷ [])) ≡ n =
+    ap (λ l. max 1 (longest_prefix table l)) parts ∙ ap (max 1) (longest_prefix-prefix table (code_points all) (code_points (d ∷ [])) low) in
+    let within = prefix_length-le table all (omega arith) in
+    let begun = take-head n p ps (one_at_least (longest_prefix table (code_points all))) in
+    ap (λ m. cut_at table m (all ++ d ∷ [])) same
+    ∙ ap₂ (λ prefix rest. extended table prefix [] rest) (take-append-le n all (d ∷ []) within) (drop-append-le n all (d ∷ []) within)
+    ∙ extended-at_last table (take n all) begun.0 [] (drop n all) p d begun.1 none
+  where
+    take-head : (n : ℕ) (p : Point) (ps : List Point) → 1 ≤ n → (others : List Point) × (take n (p ∷ ps) ≡ p ∷ others)
+    take-head zero p ps some = absurd (omega arith)
+    take-head (suc n) p ps some = (take n ps, refl)
 
 -- ---- all units
 

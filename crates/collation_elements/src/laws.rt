@@ -35,7 +35,8 @@ pub fn closed_points_append()
 
 /// The units of points and of those that follow are those of both by themselves, where with no code point of the first ones a
 /// mapped string of two or more begins, or where a starter follows whose code point stands in no mapped string after the first
-/// place. Two points are a unit, whatever follows them, where their code points are a mapped string and no longer one begins with it.
+/// place, or one last point of which that holds. Two points are a unit, whatever follows them, where their code points are a mapped
+/// string and no longer one begins with it.
 pub fn units_stay_apart()
     ensures alone { (table : TableMap) (ps more : List Point)
         → All (λ p. BeginsNoLongerString table p.cp) ps
@@ -44,6 +45,9 @@ pub fn units_stay_apart()
         → is_starter d ≡ true
         → ContinuesNoString table d.cp
         → units table (ps ++ d ∷ more) ≡ units table ps ++ units table (d ∷ more) }
+    ensures last { (table : TableMap) (ps : List Point) (d : Point)
+        → ContinuesNoString table d.cp
+        → units table (ps ++ d ∷ []) ≡ units table ps ++ units table (d ∷ []) }
     ensures pair { MappedPairsAreUnits }
 {}
 

@@ -1,7 +1,7 @@
 -- Where a character begins a unit: where no unit reaches into it anywhere, and at the beginning of a text.
 use Rattle.std.proofs.Common.{◌≡◌, ◌∙◌, ℕ, true, List, [], ◌∷◌, ◌++◌, slice_get, sym, ap, arith}
 use Rattle.nfd_points.specs.declared.points.Point.{Point}
-use Rattle.nfd_points.specs.Points.{byte_len, points, points_from, begins_with_starter, ordered}
+use Rattle.nfd_points.specs.Points.{byte_len, points, points_from, begins_with_starter}
 use Rattle.collation_table.specs.Table.{TableMap}
 use Rattle.collation_elements.specs.Units.{units}
 use Rattle.collation_pattern.specs.Compiled.{Compiled}
@@ -10,7 +10,7 @@ use Rattle.collation_letters.specs.Letters.{IsLetter}
 use Rattle.collation_letters.specs.declared.letter.Letter.{Letter}
 use Rattle.collation_letters.proofs.ApartLemmas.{ordered_none}
 use Rattle.collation_finder.specs.TakenAtOnce.{BeginsUnit}
-use Rattle.collation_finder.proofs.TakenAtOnceLemmas.{begun, begins_anywhere, from_none, from_one}
+use Rattle.collation_finder.proofs.TakenAtOnceLemmas.{begun, begins_anywhere, from_one}
 use Rattle.collation_finder.proofs.CharacterLemmas.{apart-at}
 use Rattle.collation_finder.proofs.Untaken.{UnitsEndBefore, no-bytes}
 
@@ -31,6 +31,6 @@ begins-first table offset c start begins = record {
   starter = begins_anywhere 0 offset c (ap begins_with_starter (sym (from_one 0 c)) ∙ begins);
   ends = λ taken at x is more.
       let none : taken ≡ [] = no-bytes taken (omega (arith, at, start)) in
-      let nothing : points taken ≡ [] = ap points none ∙ ap ordered (from_none 0) ∙ ordered_none in
+      let nothing : points taken ≡ [] = ap points none ∙ ordered_none 0 in
       ap (λ (t : List Point). units table (t ++ x ∷ more)) nothing ∙ ap (λ (t : List Point). units table t ++ units table (x ∷ more)) (sym nothing);
 }

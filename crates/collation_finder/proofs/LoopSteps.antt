@@ -5,11 +5,12 @@ use Rattle.std.proofs.Common.{◌≡◌, ◌∙◌, ℕ, ◌+◌, ◌-◌, true,
 use Rattle.std.proofs.lemmas.List.{length-drop}
 use Rattle.std.proofs.lemmas.Str.{IsUtf8-nil, chars-nil}
 use Rattle.utf8_cut.specs.Sequences.{SpellsCharacter}
-use Rattle.nfd_points.specs.Points.{byte_len, points_of, points_from, begins_with_starter}
+use Rattle.nfd_points.specs.Points.{byte_len, points_of, begins_with_starter}
 use Rattle.collation_table.specs.Table.{TableMap}
 use Rattle.collation_elements.specs.Units.{units}
 use Rattle.collation_pattern.specs.Compiled.{Compiled}
 use Rattle.collation_letters.specs.Apart.{IsNext}
+use Rattle.collation_letters.specs.Letters.{ordered_from}
 use Rattle.collation_walk.specs.declared.matching.Matcher.{Matcher}
 use Rattle.collation_elements.specs.Windows.{Held}
 use Rattle.nfd_points.specs.Reordering.{Waiting}
@@ -17,7 +18,7 @@ use Rattle.collation_finder.specs.TakenAtOnce.{CanBeTakenAtOnce, IsPausedBefore}
 use Rattle.collation_walk.specs.Walked.{HasWalkedOn}
 use Rattle.collation_finder.specs.LetterRun.{AreNext, HasComeTo}
 use Rattle.collation_letters.specs.Laws.{LetterLaws}
-use Rattle.collation_finder.proofs.TakenAtOnceLemmas.{apart-none, apart-more, units-apart, from_none}
+use Rattle.collation_finder.proofs.TakenAtOnceLemmas.{apart-none, apart-more, units-apart, ordered_none}
 use Rattle.collation_finder.proofs.CharacterLemmas.{on-none, on-more, text-part, chars-len, chars-more, one_char, spells-after}
 use Rattle.collation_finder.proofs.PauseLemmas.{paused-on}
 
@@ -25,7 +26,7 @@ use Rattle.collation_finder.proofs.PauseLemmas.{paused-on}
 pub come-none : LetterLaws → (table : TableMap) (pattern : Compiled) (piece : List ℕ) (offset reach first : ℕ) (matcher : Matcher) → len_utf8 first ≤ length piece → SpellsCharacter (take (len_utf8 first) piece) first →
     begins_with_starter (points_of offset first) ≡ true → HasComeTo table pattern piece offset reach first matcher matcher 0 first []
 come-none laws table pattern piece offset reach first matcher within spelled begins =
-    let none : points_from offset (chars (take 0 piece)) ≡ [] = ap (points_from offset) chars-nil ∙ from_none offset in
+    let none : ordered_from offset (chars (take 0 piece)) ≡ [] = ap (ordered_from offset) chars-nil ∙ ordered_none offset in
     record {
       near = omega arith;
       within = omega (arith, within);
@@ -33,7 +34,7 @@ come-none laws table pattern piece offset reach first matcher within spelled beg
       text = IsUtf8-nil;
       begun = ([], ap (λ (cs : List ℕ). cs ++ first ∷ []) chars-nil);
       apart = subst (λ (cs : List ℕ). CanBeTakenAtOnce table offset cs first) (sym chars-nil) (apart-none laws table offset first begins);
-      walked = on-none table pattern matcher (units table (points_from offset (chars (take 0 piece)))) (ap (units table) none);
+      walked = on-none table pattern matcher (units table (ordered_from offset (chars (take 0 piece)))) (ap (units table) none);
     }
 
 joined : (cs others : List ℕ) (c next : ℕ) → (cs ++ c ∷ others) ++ next ∷ [] ≡ (cs ++ c ∷ []) ++ (others ++ next ∷ [])
@@ -42,7 +43,7 @@ joined cs others c next = append_assoc cs (c ∷ others) (next ∷ []) ∙ sym (
 -- and the next characters
 pub come-further : LetterLaws → (table : TableMap) (pattern : Compiled) (piece : List ℕ) (offset reach first at to c next : ℕ) (m m₁ m₂ : Matcher) (ranges found : List (ℕ × ℕ)) →
     HasComeTo table pattern piece offset reach first m m₁ at c ranges → AreNext table piece offset reach at to c next →
-    HasWalkedOn table pattern m₁ m₂ (units table (points_from (offset + at) (chars (take (to - at) (drop at piece))))) found →
+    HasWalkedOn table pattern m₁ m₂ (units table (ordered_from (offset + at) (chars (take (to - at) (drop at piece))))) found →
     HasComeTo table pattern piece offset reach first m m₂ to next (ranges ++ found)
 come-further laws table pattern piece offset reach first at to c next m m₁ m₂ ranges found h n goes =
     let cs = chars (take at piece) in
@@ -50,9 +51,9 @@ come-further laws table pattern piece offset reach first at to c next m m₁ m�
     let upto = text-part piece at to n.forth h.text n.part in
     let bytes : offset + byte_len cs ≡ offset + at = omega (arith, chars-len piece at (omega (arith, h.within)) h.text) in
     let ends : IsNext table (offset + byte_len cs) more next = subst (λ k. IsNext table k more next) (sym bytes) n.ends in
-    let cut : units table (points_from offset (chars (take to piece))) ≡ units table (points_from offset cs) ++ units table (points_from (offset + at) more) =
-    ap (λ (t : List ℕ). units table (points_from offset t)) upto.1 ∙ units-apart laws table offset c cs n.first.0 more n.first.1 h.apart
-    ∙ ap (λ k. units table (points_from offset cs) ++ units table (points_from k more)) bytes in
+    let cut : units table (ordered_from offset (chars (take to piece))) ≡ units table (ordered_from offset cs) ++ units table (ordered_from (offset + at) more) =
+    ap (λ (t : List ℕ). units table (ordered_from offset t)) upto.1 ∙ units-apart laws table offset c cs n.first.0 more n.first.1 h.apart
+    ∙ ap (λ k. units table (ordered_from offset cs) ++ units table (ordered_from k more)) bytes in
     record {
       near = n.near;
       within = n.within;
@@ -64,7 +65,7 @@ come-further laws table pattern piece offset reach first at to c next m m₁ m�
       );
       apart = subst (λ (t : List ℕ). CanBeTakenAtOnce table offset t next) (sym upto.1) (apart-more laws table offset c next cs n.first.0 more n.first.1 h.apart ends);
       walked = on-more table pattern m m₁ m₂
-          (units table (points_from offset cs)) (units table (points_from (offset + at) more)) (units table (points_from offset (chars (take to piece)))) ranges found cut h.walked goes;
+          (units table (ordered_from offset cs)) (units table (ordered_from (offset + at) more)) (units table (ordered_from offset (chars (take to piece)))) ranges found cut h.walked goes;
     }
 
 -- characters of which `rest` begins with the first n bytes
@@ -93,8 +94,8 @@ pub come-paused : LetterLaws → (table : TableMap) (pattern : Compiled) (piece 
 come-paused laws table pattern piece offset reach first at next m m' found waiting window taken ranges e paused place =
     let cs = chars (take at piece) in
     let run : CanBeTakenAtOnce table (byte_len taken) cs next = subst (λ k. CanBeTakenAtOnce table k cs next) place e.apart in
-    let on : HasWalkedOn table pattern m m' (units table (points_from (byte_len taken) cs)) found =
-    subst (λ k. HasWalkedOn table pattern m m' (units table (points_from k cs)) found) place e.walked in
+    let on : HasWalkedOn table pattern m m' (units table (ordered_from (byte_len taken) cs)) found =
+    subst (λ k. HasWalkedOn table pattern m m' (units table (ordered_from k cs)) found) place e.walked in
     paused-on laws table pattern waiting window m m' taken cs first next e.begun.0 ranges found e.begun.1 paused run on
 
 -- the character at a place of a piece

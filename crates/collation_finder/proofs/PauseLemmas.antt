@@ -19,7 +19,8 @@ use Rattle.collation_finder.specs.Matching.{HasMatched}
 use Rattle.collation_walk.specs.Walked.{HasWalked, HasWalkedOn}
 use Rattle.collation_walk.specs.Walks.{WalksOver}
 use Rattle.collation_letters.specs.Laws.{LetterLaws}
-use Rattle.collation_finder.proofs.TakenAtOnceLemmas.{UnitsSplitAt, begun, begins_anywhere, from_first, from_none, len_none, units-more, splits-more, ends_here, ends_there}
+use Rattle.collation_letters.specs.Letters.{ordered_from}
+use Rattle.collation_finder.proofs.TakenAtOnceLemmas.{UnitsSplitAt, begun, begun_ordered, begins_anywhere, from_first, from_none, len_none, ordered_none, units-more, splits-more, ends_first, ends_here, ends_there}
 
 not_both : (b rest : Bool) → b ≡ true → (not b && rest) ≡ true → ⊥
 not_both true rest starter h = cc
@@ -54,55 +55,58 @@ run_begins_anywhere laws start other (c ∷ cs) h =
     ∙ ap begins_with_starter (sym here.is) ∙ begins_anywhere start other c one
 
 pub points-on : LetterLaws → (table : TableMap) (taken cs : List ℕ) (next : ℕ) → CanBeTakenAtOnce table (byte_len taken) cs next →
-    points (taken ++ cs) ≡ points taken ++ points_from (byte_len taken) cs
+    points (taken ++ cs) ≡ points taken ++ ordered_from (byte_len taken) cs
 points-on laws table taken cs next h =
     let same : 0 + byte_len taken ≡ byte_len taken = omega arith in
     ap ordered (laws.parts 0 taken cs ∙ ap (λ i. points_from 0 taken ++ points_from i cs) same)
     ∙ laws.at_starters (points_from 0 taken) (points_from (byte_len taken) cs) (run_begins laws table (byte_len taken) cs next h)
-    ∙ ap (λ (t : List Point). points taken ++ t) h.in_order
 
 -- ---- its units
 
-units-on : LetterLaws → (table : TableMap) (ps : List Point) (start first : ℕ) (others cs : List ℕ) (next : ℕ) → cs ++ next ∷ [] ≡ first ∷ others → EndsBefore table ps start first →
-    units table (ps ++ points_from start cs) ≡ units table ps ++ units table (points_from start cs)
-units-on laws table ps start first others [] next same ends =
-    let nothing = from_none start in
+first-begins : LetterLaws → (start c : ℕ) (cs : List ℕ) → begins_with_starter (points_from start (c ∷ cs)) ≡ true → begins_with_starter (points_of start c) ≡ true
+first-begins laws start c cs h = begins-prefix (points_of start c) (points_from (start + len_utf8 c) cs) (ap begins_with_starter (sym (from_first start c cs)) ∙ h)
+
+units-on : LetterLaws → (table : TableMap) (ps : List Point) (start first : ℕ) (others cs : List ℕ) (next : ℕ) → cs ++ next ∷ [] ≡ first ∷ others → begins_with_starter (points_from start cs) ≡ true → EndsBefore table ps start first →
+    units table (ps ++ ordered_from start cs) ≡ units table ps ++ units table (ordered_from start cs)
+units-on laws table ps start first others [] next same starts ends =
+    let nothing = ordered_none start in
     ap (λ (t : List Point). units table (ps ++ t)) nothing ∙ ap (units table) (append-nil ps) ∙ sym (append-nil (units table ps))
     ∙ ap (λ (t : List Point). units table ps ++ units table t) (sym nothing)
-units-on laws table ps start first others (c ∷ cs) next same ends =
-    let b = begun laws.short start c in
+units-on laws table ps start first others (c ∷ cs) next same starts ends =
+    let begins = first-begins laws start c cs starts in
+    let b = begun_ordered laws start c cs (c ∷ cs) refl begins in
     let here : EndsBefore table ps start c = subst (EndsBefore table ps start) (sym (head-same c first (cs ++ next ∷ []) others same)) ends in
-    units-more table ps (points_from start (c ∷ cs)) (b.others ++ points_from (start + len_utf8 c) cs) b.first
-    (from_first start c cs ∙ ap (λ (t : List Point). t ++ points_from (start + len_utf8 c) cs) b.is) (ends_here table ps start c b here)
+    units-more table ps (ordered_from start (c ∷ cs)) b.others b.first b.is (ends_first laws table ps start c cs (c ∷ cs) refl begins here)
 
 ends-on : LetterLaws → (table : TableMap) (ps : List Point) (start first : ℕ) (others cs : List ℕ) (next : ℕ) → cs ++ next ∷ [] ≡ first ∷ others → EndsBefore table ps start first →
-    CanBeTakenAtOnce table start cs next → EndsBefore table (ps ++ points_from start cs) (start + byte_len cs) next
+    CanBeTakenAtOnce table start cs next → EndsBefore table (ps ++ ordered_from start cs) (start + byte_len cs) next
 ends-on laws table ps start first others [] next same ends h =
-    let nothing = from_none start in
+    let nothing = ordered_none start in
     let here : start ≡ start + byte_len [] = let none = len_none in omega (arith, none) in
-    subst (λ i. EndsBefore table (ps ++ points_from start []) i next) here
+    subst (λ i. EndsBefore table (ps ++ ordered_from start []) i next) here
     (subst (λ (t : List Point). EndsBefore table t start next) (sym (ap (λ (t : List Point). ps ++ t) nothing ∙ append-nil ps))
     (subst (EndsBefore table ps start) (sym (head-same next first [] others same)) ends))
 ends-on laws table ps start first others (c ∷ cs) next same ends h =
-    let b = begun laws.short start c in
+    let begins = first-begins laws start c cs (run_begins laws table start (c ∷ cs) next h) in
+    let b = begun_ordered laws start c cs (c ∷ cs) refl begins in
     let at = start + byte_len (c ∷ cs) in
     let after = begun laws.short at next in
     let here : EndsBefore table ps start c = subst (EndsBefore table ps start) (sym (head-same c first (cs ++ next ∷ []) others same)) ends in
-    ends_there table (ps ++ points_from start (c ∷ cs)) at next after
-    (splits-more table ps (points_from start (c ∷ cs)) (b.others ++ points_from (start + len_utf8 c) cs) b.first after.first
-    (from_first start c cs ∙ ap (λ (t : List Point). t ++ points_from (start + len_utf8 c) cs) b.is) (ends_here table ps start c b here)
-    (ends_here table (points_from start (c ∷ cs)) at next after h.ends))
+    ends_there table (ps ++ ordered_from start (c ∷ cs)) at next after
+    (splits-more table ps (ordered_from start (c ∷ cs)) b.others b.first after.first b.is (ends_first laws table ps start c cs (c ∷ cs) refl begins here)
+    (ends_here table (ordered_from start (c ∷ cs)) at next after h.ends))
 
 -- ---- both
 
 pub paused-on : LetterLaws → (table : TableMap) (pattern : Compiled) (waiting : Waiting) (window : Held) (matcher matcher' : Matcher) (taken cs : List ℕ) (first next : ℕ)
     (others : List ℕ) (ranges found : List (ℕ × ℕ)) → cs ++ next ∷ [] ≡ first ∷ others → IsPausedBefore table pattern waiting window matcher taken ranges first →
-    CanBeTakenAtOnce table (byte_len taken) cs next → HasWalkedOn table pattern matcher matcher' (units table (points_from (byte_len taken) cs)) found →
+    CanBeTakenAtOnce table (byte_len taken) cs next → HasWalkedOn table pattern matcher matcher' (units table (ordered_from (byte_len taken) cs)) found →
     IsPausedBefore table pattern waiting window matcher' (taken ++ cs) (ranges ++ found) next
 paused-on laws table pattern waiting window matcher matcher' taken cs first next others ranges found same h run walked =
     let all = points-on laws table taken cs next run in
     let at = byte_len taken in
-    let cut : units table (points (taken ++ cs)) ≡ units table (points taken) ++ units table (points_from at cs) = ap (units table) all ∙ units-on laws table (points taken) at first others cs next same h.ends in
+    let cut : units table (points (taken ++ cs)) ≡ units table (points taken) ++ units table (ordered_from at cs) =
+    ap (units table) all ∙ units-on laws table (points taken) at first others cs next same (run_begins laws table at cs next run) h.ends in
     record {
       paused = record {
         walked = subst (λ us. HasWalked table pattern matcher' us (ranges ++ found)) (sym cut) (walked (units table (points taken)) ranges h.paused.walked);

@@ -4,7 +4,7 @@ use Rattle.std.proofs.lemmas.List.{take-append-drop, take_rest}
 use Rattle.std.specs.List.{Contains}
 use Rattle.std.proofs.lemmas.List.Elements.{All-same, All-drop}
 use Rattle.nfd_points.specs.declared.points.Point.{Point}
-use Rattle.nfd_points.specs.Points.{decomposition, points_at, points_from}
+use Rattle.nfd_points.specs.Points.{decomposition, points_at}
 use Rattle.nfd_points.specs.Laws.{PointsAreShifted}
 use Rattle.nfd_points.specs.Reordering.{IsSoundPoint}
 use Rattle.collation_table.specs.Table.{TableMap}
@@ -13,25 +13,25 @@ use Rattle.collation_elements.specs.Windows.{Held}
 use Rattle.collation_pattern.specs.Compiled.{Compiled}
 use Rattle.collation_letters.specs.declared.letter.Letter.{Letter}
 use Rattle.collation_letters.specs.declared.letter.Role.TheVariants.{Plain}
-use Rattle.collation_letters.specs.Letters.{IsLetter}
+use Rattle.collation_letters.specs.Letters.{IsLetter, ordered_from}
 use Rattle.collation_walk.specs.declared.matching.Matcher.{Matcher}
 use Rattle.collation_walk.specs.Walked.{HasWalkedOn}
 use Rattle.collation_finder.specs.TakenAtOnce.{AreClosedHere}
 use Rattle.collation_finder.specs.Matching.{HasMatched}
-use Rattle.collation_finder.proofs.TakenAtOnceLemmas.{from_one}
-use Rattle.collation_finder.proofs.CharacterLemmas.{points_are_shifted}
+use Rattle.collation_letters.proofs.ApartLemmas.{ordered_one}
+use Rattle.collation_letters.proofs.CharacterLemmas.{ordered_is_shifted}
 
 -- the points of one character, where it stands
-pub alone_from : (p : Point) → p.ccc ≡ 0 → p.first ≡ true → IsSoundPoint p → decomposition p.cp ≡ p.cp ∷ [] → points_from p.offset (p.cp ∷ []) ≡ p ∷ []
+pub alone_from : (p : Point) → p.ccc ≡ 0 → p.first ≡ true → IsSoundPoint p → decomposition p.cp ≡ p.cp ∷ [] → ordered_from p.offset (p.cp ∷ []) ≡ p ∷ []
 unfolding points_at
 alone_from p ccc first sound one =
-    from_one p.offset p.cp ∙ ap (points_at p.offset true) one ∙ ap (λ n. record { cp = p.cp; ccc = n; offset = p.offset; first = true } ∷ []) (sym sound.class)
+    ordered_one p.offset p.cp ∙ ap (points_at p.offset true) one ∙ ap (λ n. record { cp = p.cp; ccc = n; offset = p.offset; first = true } ∷ []) (sym sound.class)
     ∙ ap (λ b. record { cp = p.cp; ccc = p.ccc; offset = p.offset; first = b } ∷ []) (sym first)
 
-pub closed-one_point : PointsAreShifted → (table : TableMap) (pattern : Compiled) (p : Point) (l : Letter) → points_from p.offset (p.cp ∷ []) ≡ p ∷ [] → l.role ≡ Plain →
+pub closed-one_point : PointsAreShifted → (table : TableMap) (pattern : Compiled) (p : Point) (l : Letter) → ordered_from p.offset (p.cp ∷ []) ≡ p ∷ [] → l.role ≡ Plain →
     IsLetter table pattern (p.cp ∷ []) l → AreClosedHere table (p ∷ [])
 closed-one_point shifted table pattern p l alone plain letter = λ more.
-    let here = sym (points_are_shifted shifted p.offset (p.cp ∷ [])) ∙ alone in
+    let here = sym (ordered_is_shifted shifted p.offset (p.cp ∷ [])) ∙ alone in
     ap (λ (ps : List Point). units table (ps ++ more)) (sym here) ∙ letter.closed (letter.plain plain).0 p.offset more ∙ ap (λ (ps : List Point). units table ps ++ units table more) here
 
 -- further points

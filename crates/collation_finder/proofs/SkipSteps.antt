@@ -6,7 +6,7 @@ use Rattle.std.specs.Char.{len_utf8}
 use Rattle.std.specs.Str.{chars, IsUtf8}
 use Rattle.std.proofs.lemmas.Bool.{cases_lt}
 use Rattle.utf8_cut.specs.Sequences.{SpellsCharacter}
-use Rattle.nfd_points.specs.Points.{byte_len, points_from}
+use Rattle.nfd_points.specs.Points.{byte_len}
 use Rattle.collation_table.specs.Table.{TableMap}
 use Rattle.collation_elements.specs.declared.keys.Key.{Key}
 use Rattle.collation_elements.specs.declared.keys.Item.{Item}
@@ -28,7 +28,8 @@ use Rattle.collation_walk.specs.Walked.{HasWalkedOn}
 use Rattle.collation_walk.specs.Walks.{WalksOver, passed_to, place_of}
 use Rattle.collation_matches.specs.ByClusters.{placed}
 use Rattle.collation_matches.specs.Selecting.{selected, remembered}
-use Rattle.collation_finder.proofs.TakenAtOnceLemmas.{from_none}
+use Rattle.collation_finder.proofs.TakenAtOnceLemmas.{ordered_none}
+use Rattle.collation_letters.specs.Letters.{ordered_from}
 use Rattle.collation_finder.proofs.CharacterLemmas.{chars-len, chars-more, one_char}
 use Rattle.collation_letters.proofs.WeigherLaw.{WeighersGoOn}
 use Rattle.collation_walk.proofs.LetterSteps.{none_kept, walks-begin_none, walks-none}
@@ -167,10 +168,10 @@ walks-passed law pattern keys more items ranges start last w none some after fro
 
 -- where no key waits and the last element that was variable or primary was not variable: behind the text that is passed the same
 pub goes-on : BordersGoOn → WeighersGoOn → (table : TableMap) (pattern : Compiled) (m : Matcher) (start last : ℕ) (cs : List ℕ) (next : ℕ) → m.weigher.after_variable ≡ false → m.walk.state ≡ 0 → 1 ≤ start →
-    IsPassed table pattern start last cs next → HasWalkedOn table pattern m (record m { walk = passed_to m.walk last }) (units table (points_from start cs)) []
+    IsPassed table pattern start last cs next → HasWalkedOn table pattern m (record m { walk = passed_to m.walk last }) (units table (ordered_from start cs)) []
 goes-on borders law table pattern m start last cs next plain none some p = λ before ranges on.
     let w = m.weigher in
-    let us = units table (points_from start cs) in
+    let us = units table (ordered_from start cs) in
     let given : List Item = p.before ++ ClusterStart last ∷ map (λ key. Element key) p.keys in
     let gives : items_of table w.strength w.variable w.after_variable us ≡ given =
     ap (λ (b : Bool). items_of table w.strength w.variable b us) plain ∙ ap₂ (λ (s : Strength) (v : Variable). items_of table s v false us) on.strength on.variable ∙ p.items in
@@ -195,7 +196,7 @@ none-first (p ∷ ps) qs x e = cc
 -- there are some
 pub some-passed : (table : TableMap) (pattern : Compiled) (start last next : ℕ) (cs : List ℕ) → IsPassed table pattern start last cs next → (c : ℕ) × (others : List ℕ) × (cs ≡ c ∷ others)
 some-passed table pattern start last next [] p =
-    let none : units table (points_from start []) ≡ [] = ap (units table) (from_none start) in
+    let none : units table (ordered_from start []) ≡ [] = ap (units table) (ordered_none start) in
     absurd (none-first p.before (map (λ key. Element key) p.keys) (ClusterStart last)
     (sym (ap (items_of table pattern.strength pattern.variable false) none) ∙ p.items))
 some-passed table pattern start last next (c ∷ others) p = (c, others, refl)

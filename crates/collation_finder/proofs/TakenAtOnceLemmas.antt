@@ -2,22 +2,22 @@
 use Rattle.std.specs.Char.{len_utf8}
 use Rattle.std.proofs.Common.{◌≡◌, ◌∙◌, ℕ, ◌+◌, true, List, [], ◌∷◌, ◌++◌, refl, sym, ap, subst, arith, append_assoc}
 use Rattle.nfd_points.specs.declared.points.Point.{Point}
-use Rattle.nfd_points.specs.Points.{byte_len, points_of, points_from, begins_with_starter, ordered}
+use Rattle.nfd_points.specs.Points.{byte_len, points_of, points_from, begins_with_starter}
 use Rattle.collation_table.specs.Table.{TableMap}
 use Rattle.collation_elements.specs.Units.{units}
 use Rattle.collation_finder.specs.TakenAtOnce.{CanBeTakenAtOnce, IsNext}
 use Rattle.collation_letters.specs.Laws.{LetterLaws}
-use Rattle.collation_letters.proofs.ApartLemmas.{begins-append, begun_append, begun_from, good_none, ordered_none, next-more, units-next}
-pub use Rattle.collation_letters.proofs.ApartLemmas.{UnitsSplitAt, begun, begins_anywhere, from_first, from_none, from_one, len_none, units-more, splits-more, ends_here, ends_there}
+use Rattle.collation_letters.specs.Letters.{ordered_from}
+use Rattle.collation_letters.proofs.ApartLemmas.{begins-append, begun_append, begun_from, good_none, next-more, units-next}
+pub use Rattle.collation_letters.proofs.ApartLemmas.{UnitsSplitAt, begun, begun_ordered, begins_anywhere, from_first, from_none, from_one, len_none, ordered_none, units-more, splits-more, ends_first, ends_here, ends_there}
 
 pub apart-none : LetterLaws → (table : TableMap) (start next : ℕ) → begins_with_starter (points_of start next) ≡ true → CanBeTakenAtOnce table start [] next
 apart-none laws table start next begins =
     let here : start ≡ start + byte_len [] = let none = len_none in omega (arith, none) in
-    let nothing = from_none start in
+    let nothing = ordered_none start in
     record {
       begins = ap begins_with_starter (from_one start next) ∙ begins;
       next_begins = subst (λ i. begins_with_starter (points_of i next) ≡ true) here begins;
-      in_order = ap ordered nothing ∙ ordered_none ∙ sym nothing;
       good = good_none;
       ends = λ x is more. ap (λ (t : List Point). units table (t ++ x ∷ more)) nothing ∙ ap (λ (t : List Point). units table t ++ units table (x ∷ more)) (sym nothing);
     }
@@ -29,7 +29,7 @@ apart-more laws table start c next cs others more same h n =
     let S = points_from at more in
     let b = begun_from laws at c others more same in
     let all : points_from start (cs ++ more) ≡ A ++ S = laws.parts start cs more in
-    let so_far : IsNext table start cs c = record { in_order = h.in_order; good = h.good; begins = h.next_begins; ends = h.ends } in
+    let so_far : IsNext table start cs c = record { good = h.good; begins = h.next_begins; ends = h.ends } in
     let further = next-more laws table start c next cs others more same so_far n in
     record {
       begins =
@@ -42,12 +42,11 @@ apart-more laws table start c next cs others more same h n =
           ap begins_with_starter joined ∙ begins-append (points_from start (cs ++ more)) (points_from (start + byte_len (cs ++ more)) (next ∷ []))
           (begun_append A S b (points_from start (cs ++ more)) all) (ap begins_with_starter all ∙ first);
       next_begins = further.begins;
-      in_order = further.in_order;
       good = further.good;
       ends = further.ends;
     }
 
 -- their units are their own
 pub units-apart : LetterLaws → (table : TableMap) (start c : ℕ) (cs others more : List ℕ) → more ≡ c ∷ others → CanBeTakenAtOnce table start cs c →
-    units table (points_from start (cs ++ more)) ≡ units table (points_from start cs) ++ units table (points_from (start + byte_len cs) more)
-units-apart laws table start c cs others more same h = units-next laws table start c cs others more same h.ends
+    units table (ordered_from start (cs ++ more)) ≡ units table (ordered_from start cs) ++ units table (ordered_from (start + byte_len cs) more)
+units-apart laws table start c cs others more same h = units-next laws table start c cs others more same h.next_begins h.ends

@@ -21,7 +21,7 @@ use Rattle.collation_elements.specs.Weighing.{is_after_variable}
 use Rattle.collation_elements.specs.Windows.{Held}
 use Rattle.collation_letters.specs.Apart.{IsNext}
 use Rattle.collation_letters.specs.Laws.{LetterLaws}
-use Rattle.collation_letters.specs.Letters.{IsLetter}
+use Rattle.collation_letters.specs.Letters.{IsLetter, ordered_from}
 use Rattle.collation_letters.specs.declared.letter.Letter.{Letter}
 use Rattle.collation_pattern.specs.Compiled.{Compiled}
 use Rattle.collation_skip.specs.Passed.{PassesTo}
@@ -290,7 +290,7 @@ module _ (laws : ShortPassLaws) (table : TableMap) (pattern : Compiled) (finder 
     (holds : HoldsAscii finder offset bytes) (count : length bytes ≡ held) (joined : text ≡ bytes ++ piece) (begin : start ≡ offset - held) (far : limit ≤ reach + held) (forth : held ≤ s.end)
     (apart : letter.is_apart ≡ true) (is : IsLetter table pattern (first ∷ []) letter) (state : finder.matcher.walk.state ≡ 0) (flag : is_after_variable finder.matcher.weigher ≡ false)
     (others : List ℕ) (begun : chars (take s.end text) ≡ first ∷ others) (passes : PassesTo table pattern text limit s) (next : IsNext table start (chars (take s.end text)) s.next)
-    (walked : (matcher : Matcher) → is_after_variable matcher.weigher ≡ false → matcher.walk.state ≡ 0 → HasWalkedOn table pattern matcher (record matcher { walk = passed_to matcher.walk (start + s.start) }) (units table (points_from start (chars (take s.end text)))) []) where
+    (walked : (matcher : Matcher) → is_after_variable matcher.weigher ≡ false → matcher.walk.state ≡ 0 → HasWalkedOn table pattern matcher (record matcher { walk = passed_to matcher.walk (start + s.start) }) (units table (ordered_from start (chars (take s.end text)))) []) where
   upto : take s.end text ≡ bytes ++ take (s.end - held) piece
   upto =
       let end : s.end ≡ length bytes + (s.end - held) = omega (arith, forth, count) in
@@ -328,8 +328,8 @@ module _ (laws : ShortPassLaws) (table : TableMap) (pattern : Compiled) (finder 
       let now : Matcher = record finder.matcher { walk = passed_to finder.matcher.walk (start + s.start) } in
       let p = pausable laws table pattern finder taken handed first bytes-begin.0 bytes letter bytes-begin.1 apart is (subst (λ k. HoldsAscii finder k bytes) place holds) h in
       let at : start ≡ byte_len p.before = let from = p.offset in omega (arith, from, begin, place, count) in
-      let on : HasWalkedOn table pattern finder.matcher now (units table (points_from (byte_len p.before) cs)) [] =
-      subst (λ k. HasWalkedOn table pattern finder.matcher now (units table (points_from k cs)) []) at (walked finder.matcher flag state) in
+      let on : HasWalkedOn table pattern finder.matcher now (units table (ordered_from (byte_len p.before) cs)) [] =
+      subst (λ k. HasWalkedOn table pattern finder.matcher now (units table (ordered_from k cs)) []) at (walked finder.matcher flag state) in
       let there = paused-on laws.letters table pattern finder.reorder window finder.matcher now p.before cs first s.next (others ++ s.next ∷ []) handed []
       (ap (λ (t : List ℕ). t ++ s.next ∷ []) begun) (p.paused window none) (subst (λ k. CanBeTakenAtOnce table k cs s.next) at run) on in
       let all : p.before ++ cs ≡ taken ++ chars (take (s.end - held) piece) =

@@ -2,12 +2,12 @@
 use Rattle.std.specs.Prelude.{◌≡◌, ℕ, ◌+◌, ◌≤◌, false, List, [], ◌∷◌, take}
 use Rattle.std.specs.Char.{len_utf8}
 use Rattle.std.specs.Str.{chars}
-use Rattle.nfd_points.specs.Points.{points_from}
 use Rattle.collation_table.specs.Table.{TableMap}
 use Rattle.collation_elements.specs.Units.{units}
 use Rattle.collation_elements.specs.Weighing.{is_after_variable}
 use Rattle.collation_pattern.specs.Compiled.{Compiled}
 use Rattle.collation_letters.specs.Apart.{IsNext}
+use Rattle.collation_letters.specs.Letters.{ordered_from}
 use Rattle.collation_letters.specs.Store.{AreLetters}
 use Rattle.collation_skip.specs.declared.passed.Passed.{Passed}
 use Rattle.collation_skip.specs.Passed.{PassesTo}
@@ -28,4 +28,4 @@ pub record SkipsText (table : TableMap) (pattern : Compiled) (piece : List ℕ) 
   pub begun : (others : List ℕ) × (chars (take passed.end piece) ≡ first ∷ others)
   pub apart : IsNext table offset (chars (take passed.end piece)) passed.next
   pub walked : (matcher : Matcher) → is_after_variable matcher.weigher ≡ false → matcher.walk.state ≡ 0 →
-      HasWalkedOn table pattern matcher (record matcher { walk = passed_to matcher.walk (offset + passed.start) }) (units table (points_from offset (chars (take passed.end piece)))) []
+      HasWalkedOn table pattern matcher (record matcher { walk = passed_to matcher.walk (offset + passed.start) }) (units table (ordered_from offset (chars (take passed.end piece)))) []

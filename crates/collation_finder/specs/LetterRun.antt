@@ -3,10 +3,10 @@ use Rattle.std.specs.Prelude.{◌≡◌, ℕ, ◌+◌, ◌-◌, ◌≤◌, true,
 use Rattle.std.specs.Char.{len_utf8}
 use Rattle.std.specs.Str.{chars, IsUtf8}
 use Rattle.utf8_cut.specs.Sequences.{SpellsCharacter}
-use Rattle.nfd_points.specs.Points.{points_from, points_of, begins_with_starter}
+use Rattle.nfd_points.specs.Points.{points_of, begins_with_starter}
 use Rattle.collation_elements.specs.Units.{units}
 use Rattle.collation_letters.specs.declared.letter.Letter.{Letter}
-use Rattle.collation_letters.specs.Letters.{IsLetter}
+use Rattle.collation_letters.specs.Letters.{IsLetter, ordered_from}
 use Rattle.collation_letters.specs.Apart.{IsNext}
 use Rattle.collation_table.specs.Table.{TableMap}
 use Rattle.collation_pattern.specs.Compiled.{Compiled}
@@ -48,7 +48,7 @@ pub record HasComeTo (table : TableMap) (pattern : Compiled) (piece : List ℕ) 
   pub text : IsUtf8 (take at piece)
   pub begun : (others : List ℕ) × (chars (take at piece) ++ c ∷ [] ≡ first ∷ others)
   pub apart : CanBeTakenAtOnce table offset (chars (take at piece)) c
-  pub walked : HasWalkedOn table pattern matcher now (units table (points_from offset (chars (take at piece)))) ranges
+  pub walked : HasWalkedOn table pattern matcher now (units table (ordered_from offset (chars (take at piece)))) ranges
 
 -- The next characters of the piece, up to a place, which begin with c: no unit reaches from them to the character that follows.
 pub record AreNext (table : TableMap) (piece : List ℕ) (offset reach at to c next : ℕ) : Type 0 where

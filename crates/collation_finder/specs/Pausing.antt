@@ -1,19 +1,19 @@
 -- What a finder does before letters.
 use Rattle.std.specs.Prelude.{◌≡◌, ℕ, List, [], ◌∷◌, ◌++◌}
 use Rattle.nfd_points.specs.declared.points.Point.{Point}
-use Rattle.nfd_points.specs.Points.{decomposition, points_from}
+use Rattle.nfd_points.specs.Points.{decomposition}
 use Rattle.collation_table.specs.Table.{TableMap}
 use Rattle.collation_pattern.specs.Compiled.{Compiled}
 use Rattle.collation_letters.specs.declared.letter.Letter.{Letter}
 use Rattle.collation_letters.specs.declared.letter.Role.TheVariants.{Plain}
-use Rattle.collation_letters.specs.Letters.{IsLetter}
+use Rattle.collation_letters.specs.Letters.{IsLetter, ordered_from}
 use Rattle.collation_finder.specs.declared.finder.Finder.{Finder}
 use Rattle.collation_finder.specs.TakenAtOnce.{IsPaused}
 use Rattle.collation_finder.specs.Finding.{FinderStandsFor}
 
 -- The code point of a point has a plain letter; where it is its own decomposition, it gives this point alone.
 pub record IsPlainPoint (table : TableMap) (pattern : Compiled) (point : Point) (l : Letter) : Type 0 where
-  pub alone : decomposition point.cp ≡ point.cp ∷ [] → points_from point.offset (point.cp ∷ []) ≡ point ∷ []
+  pub alone : decomposition point.cp ≡ point.cp ∷ [] → ordered_from point.offset (point.cp ∷ []) ≡ point ∷ []
   pub plain : l.role ≡ Plain
   pub letter : IsLetter table pattern (point.cp ∷ []) l
 

@@ -3,7 +3,7 @@
 use Rattle.std.specs.Prelude.{◌≡◌, ℕ, ◌+◌, true, None, List, [], ◌∷◌, ◌++◌, All}
 use Rattle.nfd_points.specs.declared.points.Point.{Point}
 use Rattle.collation_table.specs.Table.{TableMap}
-use Rattle.nfd_points.specs.Points.{byte_len, decomposition, points_of, points_from, points, begins_with_starter, ordered}
+use Rattle.nfd_points.specs.Points.{byte_len, decomposition, points_of, points_from, points, begins_with_starter}
 use Rattle.nfd_points.specs.PointFaults.{point_fault}
 use Rattle.nfd_points.specs.Reordering.{Waiting}
 use Rattle.collation_elements.specs.Units.{units}
@@ -11,6 +11,7 @@ use Rattle.collation_elements.specs.Windows.{Held}
 use Rattle.collation_pattern.specs.Compiled.{Compiled}
 use Rattle.collation_walk.specs.declared.matching.Matcher.{Matcher}
 use Rattle.collation_walk.specs.Walked.{HasWalked}
+use Rattle.collation_letters.specs.Letters.{ordered_from}
 pub use Rattle.collation_letters.specs.Apart.{EndsBefore, IsNext}
 
 -- Characters of a text, of which the first stands at an offset, that can be taken at once: they begin with a starter, so that
@@ -18,9 +19,8 @@ pub use Rattle.collation_letters.specs.Apart.{EndsBefore, IsNext}
 pub record CanBeTakenAtOnce (table : TableMap) (start : ℕ) (cs : List ℕ) (next : ℕ) : Type 0 where
   pub begins : begins_with_starter (points_from start (cs ++ next ∷ [])) ≡ true
   pub next_begins : begins_with_starter (points_of (start + byte_len cs) next) ≡ true
-  pub in_order : ordered (points_from start cs) ≡ points_from start cs
   pub good : point_fault cs ≡ None
-  pub ends : EndsBefore table (points_from start cs) (start + byte_len cs) next
+  pub ends : EndsBefore table (ordered_from start cs) (start + byte_len cs) next
 
 -- A character that stands at a byte offset begins with a starter, and no unit reaches into it, whatever text stands before it.
 pub record BeginsUnit (table : TableMap) (offset c : ℕ) : Type 0 where

@@ -6,13 +6,14 @@ use Rattle.std.proofs.lemmas.List.{length-take-le}
 use Rattle.std.proofs.lemmas.Option.{none-some, same_Some}
 use Rattle.std.proofs.lemmas.Str.{encodes-chars}
 use Rattle.nfd_points.specs.declared.points.Point.{Point}
-use Rattle.nfd_points.specs.Points.{byte_len, points_of, points_from, is_starter, shifted}
+use Rattle.nfd_points.specs.Points.{byte_len, points_of, points_from, is_starter, ordered, shifted}
 use Rattle.nfd_points.specs.Laws.{PointsAreShifted}
 use Rattle.nfd_points.proofs.ByteLenLemmas.{byte_len_encoded}
+use Rattle.nfd_points.proofs.PointsLemmas.{ordered-shift}
 use Rattle.collation_table.specs.Table.{TableMap, ContinuesNoString}
 use Rattle.collation_pattern.specs.Compiled.{Compiled}
 use Rattle.collation_letters.specs.declared.letter.Letter.{Letter}
-use Rattle.collation_letters.specs.Letters.{AreApart, IsLetter}
+use Rattle.collation_letters.specs.Letters.{AreApart, IsLetter, ordered_from}
 use Rattle.collation_letters.proofs.ApartLemmas.{from_one}
 
 -- ---- how many bytes they have
@@ -26,6 +27,10 @@ chars-len piece at within text = byte_len_encoded (chars (take at piece)) ∙ ap
 pub points_are_shifted : PointsAreShifted → (start : ℕ) (cs : List ℕ) → points_from start cs ≡ map (shifted start) (points_from 0 cs)
 points_are_shifted law start cs =
     let same : start ≡ start + 0 = omega arith in ap (λ i. points_from i cs) same ∙ law start 0 cs
+
+-- in order too
+pub ordered_is_shifted : PointsAreShifted → (start : ℕ) (cs : List ℕ) → ordered_from start cs ≡ map (shifted start) (ordered_from 0 cs)
+ordered_is_shifted law start cs = ap ordered (points_are_shifted law start cs) ∙ ordered-shift start (points_from 0 cs)
 
 -- and those of one character
 pub points-shifted : PointsAreShifted → (start c : ℕ) → points_of start c ≡ map (shifted start) (points_of 0 c)

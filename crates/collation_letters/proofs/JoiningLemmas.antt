@@ -3,9 +3,11 @@ use Rattle.std.proofs.Common.{◌≡◌, ◌≢◌, ◌∙◌, ◌⊎◌, ℕ, �
 use Rattle.std.proofs.lemmas.Bool.{false≢true, le-ltb}
 use Rattle.std.proofs.lemmas.List.{map-append, same_from_push}
 use Rattle.nfd_points.specs.declared.points.Point.{Point}
-use Rattle.nfd_points.specs.Points.{byte_len, points_from, shifted, is_reorderable, is_in_order, begins_with_starter}
+use Rattle.nfd_points.specs.Points.{byte_len, points_from, ordered, shifted, sink, is_reorderable, is_in_order, begins_with_starter}
 use Rattle.nfd_points.specs.Laws.{PointsOfParts, PointsAreShifted}
-use Rattle.collation_table.specs.Table.{TableMap}
+use Rattle.nfd_points.proofs.OrderingLemmas.{length-ordered, ordered-ordered, ordered-prefix}
+use Rattle.collation_table.specs.Table.{TableMap, ContinuesNoString}
+use Rattle.collation_elements.proofs.Apart.{units-last_point}
 use Rattle.collation_elements.specs.declared.keys.Key.{Key}
 use Rattle.collation_elements.specs.declared.keys.Item.{Item}
 use Rattle.collation_elements.specs.declared.keys.Item.TheVariants.{ClusterStart, Element}
@@ -21,7 +23,7 @@ use Rattle.collation_letters.specs.declared.letter.Letter.{Letter}
 use Rattle.collation_letters.specs.declared.letter.Role.{Role}
 use Rattle.collation_letters.specs.declared.letter.Role.TheVariants.{Steps, Plain, Base, VariableBase, Silent, PrimaryMark, Mark}
 use Rattle.collation_letters.specs.Symbols.{AreLastSymbols, listed}
-use Rattle.collation_letters.specs.Letters.{begins_cluster, is_mark, flag_after, counted, here, keys_alone, AreClosed, IsPossible, HaveItems, IsKnown, IsLetter}
+use Rattle.collation_letters.specs.Letters.{begins_cluster, is_mark, flag_after, counted, here, ordered_from, keys_alone, AreClosed, IsPossible, HaveItems, IsKnown, IsLetterOf, IsLetter}
 use Rattle.collation_letters.specs.Joining.{Joins}
 use Rattle.collation_letters.proofs.LetterLemmas.{have-keys, letter-at}
 
@@ -40,13 +42,13 @@ base-not_mark Silent h = absurd (false≢true h)
 base-not_mark PrimaryMark h = absurd (false≢true h)
 base-not_mark Mark h = absurd (false≢true h)
 
-base-known : (r : Role) → begins_cluster r ≡ true → r ≢ Steps
+pub base-known : (r : Role) → begins_cluster r ≡ true → r ≢ Steps
 base-known r h = λ steps. false≢true (ap begins_cluster (sym steps) ∙ h)
 
-mark-known : (r : Role) → is_mark r ≡ true → r ≢ Steps
+pub mark-known : (r : Role) → is_mark r ≡ true → r ≢ Steps
 mark-known r h = λ steps. false≢true (ap is_mark (sym steps) ∙ h)
 
-mark-begins_none : (r : Role) → is_mark r ≡ true → begins_cluster r ≡ false
+pub mark-begins_none : (r : Role) → is_mark r ≡ true → begins_cluster r ≡ false
 mark-begins_none Steps h = refl
 mark-begins_none Plain h = absurd (false≢true h)
 mark-begins_none Base h = absurd (false≢true h)
@@ -66,7 +68,7 @@ base-counted Mark after xs h = absurd (false≢true h)
 
 -- ---- points
 
-shifted-twice : (start k : ℕ) (ps : List Point) → here start (here k ps) ≡ here (start + k) ps
+pub shifted-twice : (start k : ℕ) (ps : List Point) → here start (here k ps) ≡ here (start + k) ps
 shifted-twice start k [] = refl
 shifted-twice start k (p ∷ ps) =
     let at : start + (k + p.offset) ≡ (start + k) + p.offset = omega arith in
@@ -105,14 +107,21 @@ in_order-more (p ∷ r ∷ ps) q h low =
     both true b c h f = f h
     both false b c h f = h
 
-record IsOne (qs : List Point) : Type 0 where
-  q : Point
-  is : qs ≡ q ∷ []
+pub record IsOne (qs : List Point) : Type 0 where
+  pub q : Point
+  pub is : qs ≡ q ∷ []
 
-only-one : (qs : List Point) → length qs ≡ 1 → IsOne qs
+pub only-one : (qs : List Point) → length qs ≡ 1 → IsOne qs
 only-one [] h = absurd (omega (arith, h))
 only-one (q ∷ []) h = record { q = q; is = refl }
 only-one (q ∷ r ∷ qs) h = absurd (omega (arith, h))
+
+-- one point is in order
+pub one-ordered : (qs : List Point) → length qs ≡ 1 → ordered qs ≡ qs
+unfolding ordered sink
+one-ordered [] h = absurd (omega (arith, h))
+one-ordered (q ∷ []) h = refl
+one-ordered (q ∷ r ∷ qs) h = absurd (omega (arith, h))
 
 -- ---- items of units in turn
 
@@ -146,10 +155,20 @@ closed-both table ps qs k first second = λ start more.
     ap (λ (l : List Point). U (l ++ more)) same ∙ ap U (append_assoc A Q more) ∙ first start (Q ++ more) ∙ ap (λ (l : List (List Point)). U A ++ l) (second (start + k) more)
     ∙ sym (append_assoc (U A) (U Q) (U more)) ∙ ap (λ (l : List (List Point)). l ++ U more) (sym (first start Q)) ∙ ap (λ (l : List Point). U l ++ U more) (sym same)
 
-items-both : (table : TableMap) (pattern : Compiled) (ps qs : List Point) (k : ℕ) (a m both : Letter) (after : Bool) → AreClosed table ps → IsPossible pattern.variable after →
+-- no unit reaches from points to others that stand after them
+abbrev pub ArePartsAt : TableMap → List Point → List Point → ℕ → Type 0
+ArePartsAt table ps qs k = (start : ℕ) → units table (here start (ps ++ here k qs)) ≡ units table (here start ps) ++ units table (here (start + k) qs)
+
+closed-parts : (table : TableMap) (ps qs : List Point) (k : ℕ) → AreClosed table ps → ArePartsAt table ps qs k
+closed-parts table ps qs k closed = λ start. ap (units table) (here-two start k ps qs) ∙ closed start (here (start + k) qs)
+
+last-parts : (table : TableMap) (ps : List Point) (q : Point) (k : ℕ) → ContinuesNoString table q.cp → ArePartsAt table ps (q ∷ []) k
+last-parts table ps q k none = λ start. ap (units table) (here-two start k ps (q ∷ [])) ∙ units-last_point table (here start ps) (shifted (start + k) q) none
+
+items-both : (table : TableMap) (pattern : Compiled) (ps qs : List Point) (k : ℕ) (a m both : Letter) (after : Bool) → ArePartsAt table ps qs k → IsPossible pattern.variable after →
     IsKnown table pattern ps a → IsKnown table pattern qs m → Joins a m (both.role, both.symbols) →
     HaveItems table pattern (ps ++ here k qs) after (begins_cluster both.role) (counted both.role after (listed both.symbols)) (flag_after both.role after)
-items-both table pattern ps qs k a m both after closed possible ka km j =
+items-both table pattern ps qs k a m both after cut possible ka km j =
     let U = units table in
     let s = pattern.strength in
     let v = pattern.variable in
@@ -158,7 +177,6 @@ items-both table pattern ps qs k a m both after closed possible ka km j =
     let flag = flag_after a.role after in
     let ha = ka.items after possible in
     let hm = km.items flag (possible-after table v after flag (A 0) possible (ha.flag_is 0)) in
-    let cut : (start : ℕ) → U (here start (ps ++ here k qs)) ≡ A start ++ Q start = λ start. ap U (here-two start k ps qs) ∙ closed start (here (start + k) qs) in
     let E : List Key → List Item = λ ks. map (λ key. Element key) ks in
     let first = keys_alone table pattern ps after in
     let later = keys_alone table pattern qs flag in
@@ -177,9 +195,9 @@ items-both table pattern ps qs k a m both after closed possible ka km j =
     (j.symbols pattern.keys first later after
     (subst (λ l. AreLastSymbols pattern.keys first l) (base-counted a.role after (listed a.symbols) j.base_begins) ha.symbols_are) hm.symbols_are))
 
-known-both : (table : TableMap) (pattern : Compiled) (ps qs : List Point) (k : ℕ) (a m both : Letter) → AreClosed table ps → (m.class ≡ 0 ⊎ a.class ≤ m.class) → both.class ≡ m.class → both.points ≡ a.points + 1 → both.points ≤ MOST_POINTS →
+known-both : (table : TableMap) (pattern : Compiled) (ps qs : List Point) (k : ℕ) (a m both : Letter) → ArePartsAt table ps qs k → (m.class ≡ 0 ⊎ a.class ≤ m.class) → both.class ≡ m.class → both.points ≡ a.points + 1 → both.points ≤ MOST_POINTS →
     IsKnown table pattern ps a → IsKnown table pattern qs m → Joins a m (both.role, both.symbols) → IsKnown table pattern (ps ++ here k qs) both
-known-both table pattern ps qs k a m both closed stays class points most ka km j =
+known-both table pattern ps qs k a m both cut stays class points most ka km j =
     let one = only-one qs (km.one j.mark_joins) in
     let q = shifted k one.q in
     let all : ps ++ here k qs ≡ ps ++ q ∷ [] = ap (λ (l : List Point). ps ++ here k l) one.is in
@@ -198,23 +216,67 @@ known-both table pattern ps qs k a m both closed stays class points most ka km j
       class = λ before last is. class ∙ of_mark ∙ ap (λ (p : Point). p.ccc) (same_from_push ps before q last (sym all ∙ is)).1;
       starter = λ no. begins-more ps (here k qs) ka.some ∙ ka.starter (base-not_mark a.role j.base_begins);
       one = λ yes. absurd (false≢true (sym none ∙ yes));
-      items = λ after possible. items-both table pattern ps qs k a m both after closed possible ka km j;
+      items = λ after possible. items-both table pattern ps qs k a m both after cut possible ka km j;
+    }
+
+-- no shift
+pub here-none : (ps : List Point) → here 0 ps ≡ ps
+here-none [] = refl
+here-none (p ∷ ps) =
+    let same : 0 + p.offset ≡ p.offset = omega arith in
+    ap₂ (λ i (qs : List Point). record p { offset = i } ∷ qs) same (here-none ps)
+
+pub points-both : (table : TableMap) (pattern : Compiled) (ps : List Point) (q : Point) (a m both : Letter) → a.is_closed ≡ true → m.is_closed ≡ true → (m.class ≡ 0 ⊎ a.class ≤ m.class) →
+    both.class ≡ m.class → both.points ≡ a.points + 1 → both.points ≤ MOST_POINTS → both.role ≢ Plain → Joins a m (both.role, both.symbols) →
+    IsLetterOf table pattern ps a → IsLetterOf table pattern (q ∷ []) m → IsLetterOf table pattern (ps ++ q ∷ []) both
+points-both table pattern ps q a m both closed_base closed_mark stays class points most other j ha hm =
+    let qs : List Point = q ∷ [] in
+    let same = here-none qs in
+    let ka = ha.known (base-known a.role j.base_begins) in
+    let km = hm.known (mark-known m.role j.mark_joins) in
+    let closed = ha.closed closed_base in
+    record {
+      closed = λ yes. subst (λ l. AreClosed table (ps ++ l)) same (closed-both table ps qs 0 closed (hm.closed closed_mark));
+      known = λ some. subst (λ l. IsKnown table pattern (ps ++ l) both) same (known-both table pattern ps qs 0 a m both (closed-parts table ps qs 0 closed) stays class points most ka km j);
+      plain = λ yes. absurd (other yes);
+    }
+
+-- behind points out of which a unit may reach
+pub points-outer : (table : TableMap) (pattern : Compiled) (ps : List Point) (q : Point) (a m both : Letter) → ContinuesNoString table q.cp → both.is_closed ≡ false → (m.class ≡ 0 ⊎ a.class ≤ m.class) →
+    both.class ≡ m.class → both.points ≡ a.points + 1 → both.points ≤ MOST_POINTS → both.role ≢ Plain → Joins a m (both.role, both.symbols) →
+    IsLetterOf table pattern ps a → IsLetterOf table pattern (q ∷ []) m → IsLetterOf table pattern (ps ++ q ∷ []) both
+points-outer table pattern ps q a m both none is_open stays class points most other j ha hm =
+    let qs : List Point = q ∷ [] in
+    let ka = ha.known (base-known a.role j.base_begins) in
+    let km = hm.known (mark-known m.role j.mark_joins) in
+    record {
+      closed = λ yes. absurd (false≢true (sym is_open ∙ yes));
+      known = λ some. subst (λ l. IsKnown table pattern (ps ++ l) both) (here-none qs) (known-both table pattern ps qs 0 a m both (last-parts table ps q 0 none) stays class points most ka km j);
+      plain = λ yes. absurd (other yes);
     }
 
 pub letter-both : PointsOfParts → PointsAreShifted → (table : TableMap) (pattern : Compiled) (cs : List ℕ) (c : ℕ) (a m both : Letter) → a.is_closed ≡ true → m.is_closed ≡ true → (m.class ≡ 0 ⊎ a.class ≤ m.class) →
     both.is_apart ≡ a.is_apart → both.class ≡ m.class → both.points ≡ a.points + 1 → both.points ≤ MOST_POINTS → both.role ≢ Plain → Joins a m (both.role, both.symbols) →
     IsLetter table pattern cs a → IsLetter table pattern (c ∷ []) m → IsLetter table pattern (cs ++ c ∷ []) both
 letter-both parts shift table pattern cs c a m both closed_base closed_mark stays apart class points most other j ha hm =
-    let ps = points_from 0 cs in
-    let qs = points_from 0 (c ∷ []) in
+    let first = points_from 0 cs in
+    let one = points_from 0 (c ∷ []) in
+    let ps = ordered first in
+    let qs = ordered one in
     let k = byte_len cs in
     let there : 0 + k ≡ k + 0 = omega arith in
-    let same : points_from 0 (cs ++ c ∷ []) ≡ ps ++ here k qs =
-    parts 0 cs (c ∷ []) ∙ ap (λ (l : List Point). ps ++ l) (ap (λ i. points_from i (c ∷ [])) there ∙ shift k 0 (c ∷ [])) in
+    let all : points_from 0 (cs ++ c ∷ []) ≡ first ++ here k one =
+    parts 0 cs (c ∷ []) ∙ ap (λ (l : List Point). first ++ l) (ap (λ i. points_from i (c ∷ [])) there ∙ shift k 0 (c ∷ [])) in
     let ka = ha.known (base-known a.role j.base_begins) in
     let km = hm.known (mark-known m.role j.mark_joins) in
     let closed = ha.closed closed_base in
+    let kb = known-both table pattern ps qs k a m both (closed-parts table ps qs k closed) stays class points most ka km j in
+    let some : 1 ≤ length first = let some = ka.some in let count = length-ordered first in omega (arith, some, count) in
+    let lone : length one ≡ 1 = let lone = km.one j.mark_joins in let count = length-ordered one in omega (arith, lone, count) in
+    let same : ordered_from 0 (cs ++ c ∷ []) ≡ ps ++ here k qs =
+    ap ordered all ∙ sym (ordered-prefix first (here k one)) ∙ ap (λ (l : List Point). ordered (ps ++ here k l)) (sym (one-ordered one lone))
+    ∙ ordered-ordered (ps ++ here k qs) kb.in_order in
     letter-at table pattern (cs ++ c ∷ []) (ps ++ here k qs) both (sym same) other
     (λ yes. closed-both table ps qs k closed (hm.closed closed_mark))
-    (λ yes. λ x is. ha.apart (sym apart ∙ yes) x (sym (first-more ps (here k qs) ka.some) ∙ is))
-    (λ some. known-both table pattern ps qs k a m both closed stays class points most ka km j)
+    (λ yes. λ x is. ha.apart (sym apart ∙ yes) x (sym (first-more first (here k one) some) ∙ ap (λ (l : List Point). slice_get l 0) (sym all) ∙ is))
+    (λ known. kb)

@@ -5,13 +5,14 @@ use Rattle.std.proofs.Common.{◌≡◌, ◌≢◌, ◌∙◌, ◌⊎◌, ℕ, �
 use Rattle.nfd_points.specs.declared.points.Point.{Point}
 use Rattle.nfd_points.specs.Points.{decomposition, byte_len, points_of, points_from, shifted, ordered, is_starter, begins_with_starter}
 use Rattle.nfd_points.specs.Laws.{OrderingIsShifted, PointsAreShifted}
+use Rattle.nfd_points.proofs.OrderingLemmas.{length-ordered}
 use Rattle.collation_table.specs.Table.{TableMap, ContinuesNoString}
 use Rattle.collation_elements.specs.Units.{units}
 use Rattle.collation_pattern.specs.Compiled.{Compiled}
 use Rattle.collation_letters.specs.declared.letter.Letter.{Letter}
 use Rattle.collation_letters.specs.declared.letter.Role.{Role}
 use Rattle.collation_letters.specs.declared.letter.Role.TheVariants.{Steps, Plain, Base, VariableBase, Silent, PrimaryMark, Mark}
-use Rattle.collation_letters.specs.Letters.{is_mark, counted, IsLetter}
+use Rattle.collation_letters.specs.Letters.{is_mark, counted, ordered_from, IsLetter}
 use Rattle.collation_letters.specs.Apart.{IsNext}
 use Rattle.collation_letters.specs.Laws.{LetterLaws}
 use Rattle.collation_letters.proofs.ApartLemmas.{begins_anywhere, from_one, many_at}
@@ -42,6 +43,19 @@ taken-known r which = λ steps. elim which [
     silent_or_steps : ◌≡◌ {A = Role} Silent Steps → ⊥
     silent_or_steps h = cc
 
+-- and is no mark
+pub taken-no_mark : (r : Role) → (r ≡ Plain ⊎ (r ≡ Base ⊎ (r ≡ VariableBase ⊎ r ≡ Silent))) → is_mark r ≡ false
+taken-no_mark r which = elim which [
+  | inl plain ↦ ap is_mark plain
+  | inr base_or_other ↦ elim base_or_other [
+    | inl base ↦ ap is_mark base
+    | inr other ↦ elim other [
+      | inl variable ↦ ap is_mark variable
+      | inr silent ↦ ap is_mark silent
+    ]
+  ]
+]
+
 pub plain-known : (r : Role) → r ≡ Plain → r ≢ Steps
 plain-known r plain = taken-known r (inl plain)
 
@@ -64,17 +78,15 @@ pub next-of_letter : LetterLaws → OrderingIsShifted → PointsAreShifted → B
     IsNext table at cs next
 next-of_letter laws ordering shift before table pattern at cs next letter following known starter which h f =
     let k = h.known known in
-    let ps = points_from 0 cs in
-    let here = points_are_shifted shift at cs in
+    let here : ordered_from at cs ≡ map (shifted at) (ordered_from 0 cs) = ap ordered (points_are_shifted shift at cs) ∙ ordering at (points_from 0 cs) in
     record {
-      in_order = ap ordered here ∙ ordering at ps ∙ ap (λ (qs : List Point). map (shifted at) qs) (laws.stays ps k.in_order) ∙ sym here;
-      good = laws.few cs (let few = k.few in let many = many_from 0 cs in omega (arith, few, many));
+      good = laws.few cs (let few = k.few in let many = many_from 0 cs in let same = length-ordered (points_from 0 cs) in omega (arith, few, many, same));
       begins = begins_anywhere 0 (at + byte_len cs) next (ap begins_with_starter (sym (from_one 0 next)) ∙ starter);
       ends = elim which [
         | inl closed ↦ λ x is more.
             subst (λ (qs : List Point). units table (qs ++ x ∷ more) ≡ units table qs ++ units table (x ∷ more)) (sym here) (h.closed closed at (x ∷ more))
         | inr apart ↦ λ x is more.
-            let first = apart-at shift table pattern next following (at + byte_len cs) apart f x is in before table (points_from at cs) x more first.0 first.1
+            let first = apart-at shift table pattern next following (at + byte_len cs) apart f x is in before table (ordered_from at cs) x more first.0 first.1
       ];
     }
 

@@ -23,7 +23,7 @@ use Rattle.collation_letters.specs.declared.letter.Role.{Role}
 use Rattle.collation_letters.specs.declared.letter.Role.TheVariants.{Steps, Plain, Base, VariableBase, Silent, PrimaryMark, Mark}
 use Rattle.collation_letters.specs.Symbols.{AreLastSymbols, listed}
 use Rattle.std.proofs.lemmas.Bool.{false≢true}
-use Rattle.collation_letters.specs.Letters.{begins_cluster, is_mark, flag_after, counted, here, keys_alone, AreClosed, AreApart, IsPossible, HaveItems, IsKnown, IsPlainLetter, IsLetter}
+use Rattle.collation_letters.specs.Letters.{begins_cluster, is_mark, flag_after, counted, here, ordered_from, keys_alone, AreClosed, AreApart, IsPossible, HaveItems, IsKnown, IsPlainLetter, IsLetterOf, IsLetter}
 use Rattle.collation_letters.specs.Finding.{IsLastClass, IsAs, HasRole}
 use Rattle.collation_letters.proofs.SymbolLemmas.{last-nil}
 
@@ -113,12 +113,12 @@ items_at table pattern ps plain None role ss true are has symbols possible = abs
 
 -- ---- letters
 
-pub letter-at : (table : TableMap) (pattern : Compiled) (cs : List ℕ) (ps : List Point) (l : Letter) → ps ≡ points_from 0 cs → l.role ≢ Plain → (l.is_closed ≡ true → AreClosed table ps) →
-    (l.is_apart ≡ true → AreApart table ps) → (l.role ≢ Steps → IsKnown table pattern ps l) → IsLetter table pattern cs l
+pub letter-at : (table : TableMap) (pattern : Compiled) (cs : List ℕ) (ps : List Point) (l : Letter) → ps ≡ ordered_from 0 cs → l.role ≢ Plain → (l.is_closed ≡ true → AreClosed table ps) →
+    (l.is_apart ≡ true → AreApart table (points_from 0 cs)) → (l.role ≢ Steps → IsKnown table pattern ps l) → IsLetter table pattern cs l
 letter-at table pattern cs ps l same other closed apart known =
     record {
       closed = λ yes. subst (AreClosed table) same (closed yes);
-      apart = λ yes. subst (AreApart table) same (apart yes);
+      apart = apart;
       known = λ some. subst (λ (qs : List Point). IsKnown table pattern qs l) same (known some);
       plain = λ yes. absurd (other yes);
     }
@@ -171,7 +171,16 @@ letter-plain table pattern cs l base plain h =
     record {
       closed = h.closed;
       apart = h.apart;
-      known = λ some. plain-known table pattern (points_from 0 cs) l base (h.known (base-is_known l.role base));
+      known = λ some. plain-known table pattern (ordered_from 0 cs) l base (h.known (base-is_known l.role base));
+      plain = λ yes. plain;
+    }
+
+-- the same of points
+pub points-plain : (table : TableMap) (pattern : Compiled) (ps : List Point) (l : Letter) → l.role ≡ Base → IsPlainLetter l → IsLetterOf table pattern ps l → IsLetterOf table pattern ps (record l { role = Plain })
+points-plain table pattern ps l base plain h =
+    record {
+      closed = h.closed;
+      known = λ some. plain-known table pattern ps l base (h.known (base-is_known l.role base));
       plain = λ yes. plain;
     }
 

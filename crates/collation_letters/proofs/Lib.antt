@@ -1,6 +1,7 @@
 pub mod SymbolLemmas
 pub mod LetterLemmas
 pub mod JoiningLemmas
+pub mod ClusterLemmas
 pub mod PairLemmas
 pub mod ApartLemmas
 pub mod CharacterLemmas

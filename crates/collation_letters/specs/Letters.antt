@@ -3,7 +3,7 @@ use Rattle.std.specs.Prelude.{◌≡◌, ◌≢◌, ℕ, ◌≤◌, Bool, true, 
 use Rattle.std.specs.Option.{ForSome}
 use Rattle.nfd_points.specs.declared.limits.TheConstants.{MOST_WAITING}
 use Rattle.nfd_points.specs.declared.points.Point.{Point}
-use Rattle.nfd_points.specs.Points.{points_from, shifted, is_starter, begins_with_starter, is_in_order}
+use Rattle.nfd_points.specs.Points.{points_from, ordered, shifted, is_starter, begins_with_starter, is_in_order}
 use Rattle.collation_table.specs.Table.{TableMap, ContinuesNoString}
 use Rattle.collation_elements.specs.declared.keys.Key.{Key}
 use Rattle.collation_elements.specs.declared.keys.Item.{Item}
@@ -59,6 +59,10 @@ counted role after xs = xs
 
 -- ---- characters by themselves, the first of which stands at an offset
 
+-- their points in canonical order
+abbrev pub ordered_from : ℕ → List ℕ → List Point
+ordered_from start cs = ordered (points_from start cs)
+
 abbrev pub here : ℕ → List Point → List Point
 here start ps = map (shifted start) ps
 
@@ -107,11 +111,17 @@ pub record IsKnown (table : TableMap) (pattern : Compiled) (ps : List Point) (l 
 abbrev pub IsPlainLetter : Letter → Type 0
 IsPlainLetter l = (l.is_closed ≡ true) × ((l.symbols.first ≡ NO_SYMBOL) × (l.symbols.second ≡ NO_SYMBOL))
 
--- The letter of some characters.
+-- The letter of points, which says nothing of units that reach into them.
+pub record IsLetterOf (table : TableMap) (pattern : Compiled) (ps : List Point) (l : Letter) : Type 0 where
+  pub closed : l.is_closed ≡ true → AreClosed table ps
+  pub known : l.role ≢ Steps → IsKnown table pattern ps l
+  pub plain : l.role ≡ Plain → IsPlainLetter l
+
+-- The letter of some characters, in the order in which they stand in a text: it is that of their points in canonical order.
 pub record IsLetter (table : TableMap) (pattern : Compiled) (cs : List ℕ) (l : Letter) : Type 0 where
-  pub closed : l.is_closed ≡ true → AreClosed table (points_from 0 cs)
+  pub closed : l.is_closed ≡ true → AreClosed table (ordered_from 0 cs)
   pub apart : l.is_apart ≡ true → AreApart table (points_from 0 cs)
-  pub known : l.role ≢ Steps → IsKnown table pattern (points_from 0 cs) l
+  pub known : l.role ≢ Steps → IsKnown table pattern (ordered_from 0 cs) l
   pub plain : l.role ≡ Plain → IsPlainLetter l
 
 -- the letter is a cluster out of which no unit reaches, with a last key that the pattern does not have

@@ -5,3 +5,4 @@ pub mod Finding
 pub mod Joining
 pub mod Store
 pub mod Apart
+pub mod Clusters

@@ -108,7 +108,8 @@ impl Letter {
     ghost use Rattle.nfd_points.specs.Points.{begins_with_starter, points_from};
     ghost use Rattle.collation_table.specs.Table.{TableMap};
     ghost use Rattle.collation_pattern.specs.Compiled.{Compiled};
-    ghost use Rattle.collation_letters.specs.Letters.{IsClean, IsLetter, flag_after};
+    ghost use Rattle.nfd_points.specs.declared.points.Point.{Point as PointValue};
+    ghost use Rattle.collation_letters.specs.Letters.{IsClean, IsLetter, IsLetterOf, begins_cluster, flag_after};
     ghost use Rattle.collation_letters.specs.declared.letter.Role.TheVariants.{Base};
 
     /// Whether its characters are known to begin with a starter, and are no mark.
@@ -168,8 +169,12 @@ impl Letter {
     /// The same letter, plain if it can be.
     #[inline(always)]
     pub(crate) fn settled(self) -> Letter
-        ensures { (table : TableMap) (pattern : Compiled) (cs : List ℕ)
+        ensures letter { (table : TableMap) (pattern : Compiled) (cs : List ℕ)
             → IsLetter table pattern cs self → IsLetter table pattern cs result }
+        ensures points { (table : TableMap) (pattern : Compiled) (ps : List PointValue)
+            → IsLetterOf table pattern ps self → IsLetterOf table pattern ps result }
+        ensures begins { begins_cluster self.role ≡ true → begins_cluster result.role ≡ true }
+        ensures closed { result.is_closed ≡ self.is_closed }
     {
         match self.role {
             Role::Base => self.plain(),
@@ -181,8 +186,12 @@ impl Letter {
     #[inline(always)]
     fn plain(self) -> Letter
         requires { self.role ≡ Base }
-        ensures { (table : TableMap) (pattern : Compiled) (cs : List ℕ)
+        ensures letter { (table : TableMap) (pattern : Compiled) (cs : List ℕ)
             → IsLetter table pattern cs self → IsLetter table pattern cs result }
+        ensures points { (table : TableMap) (pattern : Compiled) (ps : List PointValue)
+            → IsLetterOf table pattern ps self → IsLetterOf table pattern ps result }
+        ensures begins { begins_cluster result.role ≡ true }
+        ensures closed { result.is_closed ≡ self.is_closed }
     {
         if !self.is_closed || self.symbols.first != NO_SYMBOL || self.symbols.second != NO_SYMBOL {
             return self;

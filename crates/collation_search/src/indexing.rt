@@ -46,8 +46,11 @@ const FRONT: usize = 128;
 
 const TIMES_PAST_ASCII: usize = 3;
 
-/// How many different bytes of ASCII are many there: where there are fewer, few moves are found.
+/// How many different bytes of ASCII are many there: where there are fewer, few moves are found. And the most bytes of a text of ASCII whose
+/// front says what the rest is like.
 const MANY_OF_ASCII: usize = 20;
+
+const LONGEST_OF_ASCII: usize = 1_024;
 
 /// The first range of the answer to a text, if there is one, though a fault may stand after it: its start and its end, in
 /// bytes from the beginning of the text, the end not included. The pattern was compiled with this table.
@@ -309,15 +312,15 @@ fn bytes_by_steps(text: &[u8]) -> usize {
     usize::MAX
 }
 
-/// How many bytes of a text are walked over before any are passed by, as far as its length and its front say, all or none; and whether the
-/// front has many different bytes, all of ASCII. Blocks serve such a text, for which few letters are found, and no moves.
+/// How many bytes of a text are walked over before any are passed by, as far as its length and its front say, all or none; and whether it is
+/// ASCII with many different bytes, and not long. Blocks serve such a text, for which few letters are found, and no moves.
 fn walked_len(text: &[u8]) -> (usize, bool) {
     let len = text.len();
     if len <= LONGEST_WALKED {
         return (len, false);
     }
     let (ascii, others) = different_bytes(&text[..FRONT.min(len)]);
-    if others == 0 && ascii >= MANY_OF_ASCII {
+    if len <= LONGEST_OF_ASCII && ascii >= MANY_OF_ASCII && text.is_ascii() {
         return (0, true);
     }
     let count = others

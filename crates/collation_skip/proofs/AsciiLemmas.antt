@@ -9,7 +9,7 @@ use Rattle.std.proofs.lemmas.Option.{same_Some}
 use Rattle.std.proofs.lemmas.Grind.{flat_map-append}
 use Rattle.std.proofs.Math.Seq.{take-suc}
 use Rattle.nfd_points.specs.declared.points.Point.{Point}
-use Rattle.nfd_points.specs.Points.{ascii_point, byte_len, points_of, points_from, is_starter, begins_with_starter, ordered}
+use Rattle.nfd_points.specs.Points.{ascii_point, byte_len, points_of, points_from, is_starter, begins_with_starter}
 use Rattle.nfd_points.specs.Laws.{AsciiIsItself}
 use Rattle.collation_table.specs.Table.{TableMap, ContinuesNoString}
 use Rattle.collation_elements.specs.declared.keys.Key.{Key}
@@ -25,10 +25,10 @@ use Rattle.collation_elements.specs.Weighing.{weigher, after_units, WeigherStand
 use Rattle.collation_pattern.specs.Border.{border, border_up_to}
 use Rattle.collation_pattern.specs.Compiled.{Compiled}
 use Rattle.collation_letters.specs.Apart.{EndsBefore, IsNext}
-use Rattle.collation_letters.specs.Letters.{AreApart, AreClosed, IsPossible}
+use Rattle.collation_letters.specs.Letters.{ordered_from, AreApart, AreClosed, IsPossible}
 use Rattle.collation_letters.specs.Laws.{LetterLaws}
-use Rattle.collation_letters.proofs.ApartLemmas.{from_one, from_none, ordered_none, good_none, next-more, units-next, next_of_one}
-use Rattle.collation_letters.proofs.CharacterLemmas.{points_are_shifted}
+use Rattle.collation_letters.proofs.ApartLemmas.{from_one, ordered_none, ordered_one, good_none, next-more, units-next, next_of_one}
+use Rattle.collation_letters.proofs.CharacterLemmas.{ordered_is_shifted}
 use Rattle.collation_letters.proofs.JoiningLemmas.{after-plain}
 use Rattle.collation_letters.proofs.LetterApart.{BeforeLaw}
 use Rattle.collation_letters.proofs.WeigherLaw.{WeighersGoOn}
@@ -136,9 +136,9 @@ bytes-len (b ∷ bs) (suc n) within ascii =
     omega (arith, one, rest)
 
 -- no unit reaches from one character to the next
-pub ends-one : RunLaws → (table : TableMap) (at end c d : ℕ) → d < 128 → (AreClosed table (points_from 0 (c ∷ [])) ⊎ AreApart table (points_from 0 (d ∷ []))) → EndsBefore table (points_of at c) end d
+pub ends-one : RunLaws → (table : TableMap) (at end c d : ℕ) → d < 128 → (AreClosed table (ordered_from 0 (c ∷ [])) ⊎ AreApart table (points_from 0 (d ∷ []))) → EndsBefore table (points_of at c) end d
 ends-one laws table at end c d less (inl closed) = λ x is more.
-    subst (λ (ps : List Point). units table (ps ++ x ∷ more) ≡ units table ps ++ units table (x ∷ more)) (sym (points_are_shifted laws.points.shifted at (c ∷ [])) ∙ from_one at c) (closed at (x ∷ more))
+    subst (λ (ps : List Point). units table (ps ++ x ∷ more) ≡ units table ps ++ units table (x ∷ more)) (sym (ordered_is_shifted laws.points.shifted at (c ∷ [])) ∙ ordered_one at c) (closed at (x ∷ more))
 ends-one laws table at end c d less (inr apart) = λ x is more.
     let same : ascii_point end d ≡ x = same_Some (ascii_point end d) x (sym (ap (λ (ps : List Point). slice_get ps 0) (laws.points.ascii end d less)) ∙ is) in
     let first = apart (ascii_point 0 d) (ap (λ (ps : List Point). slice_get ps 0) (from_one 0 d ∙ laws.points.ascii 0 d less)) in
@@ -157,7 +157,7 @@ going-at classes bytes total (suc i) p less = (p.each i less).going
 -- ---- the characters so far
 
 abbrev pub run_items : TableMap → Compiled → ℕ → List ℕ → ℕ → List Item
-run_items table pattern start bytes n = items_of table pattern.strength pattern.variable false (units table (points_from start (take n bytes)))
+run_items table pattern start bytes n = items_of table pattern.strength pattern.variable false (units table (ordered_from start (take n bytes)))
 
 -- After the first n bytes of a text that passes: no match has ended, and not too many keys have matched.
 pub record HasPassedAscii (table : TableMap) (pattern : Compiled) (classes : Classes) (start : ℕ) (bytes : List ℕ) (n : ℕ) : Type 0 where
@@ -173,13 +173,12 @@ border-nil pattern = let e : min (length pattern) 0 ≡ 0 = omega arith in ap (b
 
 run-none : RunLaws → (table : TableMap) (pattern : Compiled) (classes : Classes) (start : ℕ) (bytes : List ℕ) → get_or bytes 0 0 < 128 → HasPassedAscii table pattern classes start bytes 0
 run-none laws table pattern classes start bytes less =
-    let nothing = from_none start in
+    let nothing = ordered_none start in
     let d = get_or bytes 0 0 in
     let none : run_items table pattern start bytes 0 ≡ [] = ap (λ (ps : List Point). items_of table pattern.strength pattern.variable false (units table ps)) nothing in
     let zero : border pattern.keys (item_keys (run_items table pattern start bytes 0)) ≡ 0 = ap (λ (is : List Item). border pattern.keys (item_keys is)) none ∙ border-nil pattern.keys in
     record {
       is_next = record {
-        in_order = ap ordered nothing ∙ ordered_none ∙ sym nothing;
         good = good_none;
         begins = begins-ascii laws.points.ascii (start + byte_len []) d less;
         ends = λ x is more. ap (λ (t : List Point). units table (t ++ x ∷ more)) nothing ∙ ap (λ (t : List Point). units table t ++ units table (x ∷ more)) (sym nothing);
@@ -202,31 +201,31 @@ low-or-not-later table pattern classes start bytes total (suc n) p less h =
     ]
 
 -- the items of one character more, to which no unit reaches
-pub items-next : RunLaws → (table : TableMap) (pattern : Compiled) (start : ℕ) (cs : List ℕ) (c : ℕ) → EndsBefore table (points_from start cs) (start + byte_len cs) c →
-    let us = units table (points_from start cs) in
+pub items-next : RunLaws → (table : TableMap) (pattern : Compiled) (start : ℕ) (cs : List ℕ) (c : ℕ) → begins_with_starter (points_of (start + byte_len cs) c) ≡ true → EndsBefore table (ordered_from start cs) (start + byte_len cs) c →
+    let us = units table (ordered_from start cs) in
     let flag = after_units table pattern.variable false us in
     let at = start + byte_len cs in
-    (items_of table pattern.strength pattern.variable false (units table (points_from start (cs ++ c ∷ []))) ≡ items_of table pattern.strength pattern.variable false us ++ items_at table pattern flag at c)
-    × (after_units table pattern.variable false (units table (points_from start (cs ++ c ∷ []))) ≡ after_units table pattern.variable flag (units table (points_from at (c ∷ []))))
-items-next laws table pattern start cs c ends =
-    let us = units table (points_from start cs) in
-    let vs = units table (points_from (start + byte_len cs) (c ∷ [])) in
-    let all : units table (points_from start (cs ++ c ∷ [])) ≡ us ++ vs = units-next laws.points table start c cs [] (c ∷ []) refl ends in
+    (items_of table pattern.strength pattern.variable false (units table (ordered_from start (cs ++ c ∷ []))) ≡ items_of table pattern.strength pattern.variable false us ++ items_at table pattern flag at c)
+    × (after_units table pattern.variable false (units table (ordered_from start (cs ++ c ∷ []))) ≡ after_units table pattern.variable flag (units table (ordered_from at (c ∷ []))))
+items-next laws table pattern start cs c begins ends =
+    let us = units table (ordered_from start cs) in
+    let vs = units table (ordered_from (start + byte_len cs) (c ∷ [])) in
+    let all : units table (ordered_from start (cs ++ c ∷ [])) ≡ us ++ vs = units-next laws.points table start c cs [] (c ∷ []) refl begins ends in
     let both = items-more laws.goes_on table pattern.strength pattern.variable us vs in
     (ap (items_of table pattern.strength pattern.variable false) all ∙ both.0, ap (after_units table pattern.variable false) all ∙ both.1)
 
 -- the same of a byte of ASCII
-pub run-items-more : RunLaws → (table : TableMap) (pattern : Compiled) (start : ℕ) (bytes : List ℕ) (n : ℕ) → n < length bytes → EndsBefore table (points_from start (take n bytes)) (start + byte_len (take n bytes)) (get_or bytes n 0) →
-    let us = units table (points_from start (take n bytes)) in
+pub run-items-more : RunLaws → (table : TableMap) (pattern : Compiled) (start : ℕ) (bytes : List ℕ) (n : ℕ) → n < length bytes → IsNext table start (take n bytes) (get_or bytes n 0) →
+    let us = units table (ordered_from start (take n bytes)) in
     let flag = after_units table pattern.variable false us in
     let at = start + byte_len (take n bytes) in
     (run_items table pattern start bytes (suc n) ≡ run_items table pattern start bytes n ++ items_at table pattern flag at (get_or bytes n 0))
-    × (after_units table pattern.variable false (units table (points_from start (take (suc n) bytes))) ≡ after_units table pattern.variable flag (units table (points_from at (get_or bytes n 0 ∷ []))))
-run-items-more laws table pattern start bytes n less ends =
+    × (after_units table pattern.variable false (units table (ordered_from start (take (suc n) bytes))) ≡ after_units table pattern.variable flag (units table (ordered_from at (get_or bytes n 0 ∷ []))))
+run-items-more laws table pattern start bytes n less following =
     let more = take-suc bytes n 0 less in
-    let next = items-next laws table pattern start (take n bytes) (get_or bytes n 0) ends in (
-      ap (λ (t : List ℕ). items_of table pattern.strength pattern.variable false (units table (points_from start t))) more ∙ next.0,
-      ap (λ (t : List ℕ). after_units table pattern.variable false (units table (points_from start t))) more ∙ next.1,
+    let next = items-next laws table pattern start (take n bytes) (get_or bytes n 0) following.begins following.ends in (
+      ap (λ (t : List ℕ). items_of table pattern.strength pattern.variable false (units table (ordered_from start t))) more ∙ next.0,
+      ap (λ (t : List ℕ). after_units table pattern.variable false (units table (ordered_from start t))) more ∙ next.1,
     )
 
 run-more : RunLaws → (table : TableMap) (pattern : Compiled) (classes : Classes) → AreClassesRight table pattern classes → (start : ℕ) (bytes : List ℕ) (total n : ℕ) → Passes classes.sets bytes total → suc n < total → HasPassedAscii table pattern classes start bytes n →
@@ -238,19 +237,19 @@ run-more laws table pattern classes rights start bytes total n p less h =
     let at = start + byte_len cs in
     let within : n < length bytes = let long = p.within in omega (arith, long, less) in
     let here' : n < total = omega (arith, less) in
-    let us = units table (points_from start cs) in
+    let us = units table (ordered_from start cs) in
     let flag = after_units table pattern.variable false us in
     let may = possible table pattern.variable us in
     let right = rights.each c (ascii-at classes bytes total n p here') in
     let halt = going-at classes bytes total n p here' in
     let I = run_items table pattern start bytes n in
     let J = items_at table pattern flag at c in
-    let all = (run-items-more laws table pattern start bytes n within h.is_next.ends).0 in
+    let all = (run-items-more laws table pattern start bytes n within h.is_next).0 in
     let K = item_keys I in
     let keys : item_keys (run_items table pattern start bytes (suc n)) ≡ K ++ item_keys J = ap item_keys all ∙ keys-append I J in
     let bound : most pattern.keys classes.place < length pattern.keys = let place = rights.place in omega (arith, place) in
     let which = low-or-not-later table pattern classes start bytes total n p here' h in
-    let ends = elim (min-zero (in_set classes.sets.joins c) (in_set classes.sets.inner d) (p.each n less).units) as (λ _. AreClosed table (points_from 0 (c ∷ [])) ⊎ AreApart table (points_from 0 (d ∷ []))) [
+    let ends = elim (min-zero (in_set classes.sets.joins c) (in_set classes.sets.inner d) (p.each n less).units) as (λ _. AreClosed table (ordered_from 0 (c ∷ [])) ⊎ AreApart table (points_from 0 (d ∷ []))) [
       | inl none ↦ inl (right.closed none)
       | inr none ↦ inr ((rights.each d (ascii-at classes bytes total (suc n) p less)).apart none)
     ] in

@@ -18,10 +18,10 @@ use Rattle.collation_elements.specs.Weighing.{after_units}
 use Rattle.collation_pattern.specs.Compiled.{Compiled}
 use Rattle.collation_letters.specs.Apart.{IsNext}
 use Rattle.collation_letters.specs.declared.letter.Letter.{Letter}
-use Rattle.collation_letters.specs.Letters.{begins_cluster, is_mark, flag_after, keys_alone, IsLetter}
+use Rattle.collation_letters.specs.Letters.{begins_cluster, is_mark, flag_after, keys_alone, ordered_from, IsLetter}
 use Rattle.collation_letters.specs.Symbols.{SymbolsAreListed}
 use Rattle.collation_letters.proofs.ApartLemmas.{from_first, next-more, next_of_one}
-use Rattle.collation_letters.proofs.CharacterLemmas.{points_are_shifted}
+use Rattle.collation_letters.proofs.CharacterLemmas.{ordered_is_shifted}
 use Rattle.collation_letters.proofs.LetterApart.{plain-known}
 use Rattle.collation_skip.specs.declared.classes.Classes.{Classes}
 use Rattle.byte_blocks.specs.Ascii.{Passes}
@@ -71,14 +71,14 @@ passed-of laws listed borders table pattern classes rights bytes total i p here 
     let cs = take i bytes in
     let run = run-to laws table pattern classes rights start bytes total i p here in
     let at = start + byte_len cs in
-    let us = units table (points_from start cs) in
+    let us = units table (ordered_from start cs) in
     let flag = after_units table pattern.variable false us in
     let may = possible table pattern.variable us in
-    let both = run-items-more laws table pattern start bytes i within run.is_next.ends in
+    let both = run-items-more laws table pattern start bytes i within run.is_next in
     let I = run_items table pattern start bytes i in
     let known = plain-known l.role clean.0 in
     let said = h.plain clean.0 in
-    let keys = keys_alone table pattern (points_from 0 (c ∷ [])) flag in
+    let keys = keys_alone table pattern (ordered_from 0 (c ∷ [])) flag in
     let counted = bytes-len bytes i (omega (arith, within)) (λ j lower. ascii-at classes bytes total j p (omega (arith, lower, here))) in
     let same : at ≡ start + i = omega (arith, counted) in
     let items = letter-items laws.points.shifted table pattern c l flag at known may h ∙ ap (λ b. begun_items b at keys) (ap begins_cluster clean.0) ∙ ap (λ q. begun_items true q keys) same in
@@ -94,7 +94,7 @@ passed-of laws listed borders table pattern classes rights bytes total i p here 
       keys = keys;
       items = both.0 ∙ ap (λ (is : List Item). I ++ is) items;
       flag =
-          both.1 ∙ ap (λ (ps : List Point). after_units table pattern.variable flag (units table ps)) (points_are_shifted laws.points.shifted at (c ∷ []))
+          both.1 ∙ ap (λ (ps : List Point). after_units table pattern.variable flag (units table ps)) (ordered_is_shifted laws.points.shifted at (c ∷ []))
           ∙ ((h.known known).items flag may).flag_is at ∙ ap (λ r. flag_after r flag) clean.0;
       quiet = quiet-more pattern.keys (start + i) I (ClusterStart (start + i) ∷ []) run.quiet (omega (arith, state, place)) (front-one (start + i));
       later = run.later;

@@ -2,7 +2,6 @@
 use Rattle.std.proofs.Common.{◌≡◌, ◌≢◌, ◌∙◌, ◌⊎◌, inl, inr, ℕ, suc, ◌≤◌, ◌<◌, true, false, cond, Bool, List, [], ◌∷◌, ◌++◌, length, map, slice_get, Some, refl, sym, ap, ap₂, subst, arith}
 use Rattle.std.proofs.lemmas.Bool.{cases_lt}
 use Rattle.nfd_points.specs.declared.points.Point.{Point}
-use Rattle.nfd_points.specs.Points.{points_from}
 use Rattle.nfd_points.specs.Laws.{PointsAreShifted}
 use Rattle.collation_table.specs.Table.{TableMap}
 use Rattle.collation_elements.specs.declared.keys.Key.{Key}
@@ -15,9 +14,9 @@ use Rattle.collation_pattern.specs.Compiled.{Compiled}
 use Rattle.collation_letters.specs.declared.letter.Letter.{Letter}
 use Rattle.collation_letters.specs.declared.letter.Role.TheVariants.{Steps}
 use Rattle.collation_letters.specs.declared.symbols.Symbols.{Symbols}
-use Rattle.collation_letters.specs.Letters.{begins_cluster, is_mark, keys_alone, IsPossible, IsLetter}
+use Rattle.collation_letters.specs.Letters.{begins_cluster, is_mark, keys_alone, ordered_from, IsPossible, IsLetter}
 use Rattle.collation_letters.specs.Symbols.{AreLastSymbols, IsSymbol, SymbolsAreListed, listed, some_symbol}
-use Rattle.collation_letters.proofs.CharacterLemmas.{points_are_shifted}
+use Rattle.collation_letters.proofs.CharacterLemmas.{ordered_is_shifted}
 use Rattle.collation_letters.proofs.LetterApart.{starter-counted}
 use Rattle.collation_skip.specs.declared.kinds.Kind.{Kind}
 use Rattle.collation_skip.specs.Blocks.{items_at, most, Carry, Carries, StartsInFront, IsLone, IsNotAt, IsOfKind}
@@ -49,18 +48,18 @@ begun-front true start keys (b ∷ before) more at h = elements-start keys at be
 begun-front false start keys before more at h = elements-start keys at before more h
 
 pub letter-items : PointsAreShifted → (table : TableMap) (pattern : Compiled) (c : ℕ) (l : Letter) (after : Bool) (start : ℕ) → l.role ≢ Steps → IsPossible pattern.variable after → IsLetter table pattern (c ∷ []) l →
-    items_at table pattern after start c ≡ begun_items (begins_cluster l.role) start (keys_alone table pattern (points_from 0 (c ∷ [])) after)
+    items_at table pattern after start c ≡ begun_items (begins_cluster l.role) start (keys_alone table pattern (ordered_from 0 (c ∷ [])) after)
 letter-items shift table pattern c l after start known may h =
-    ap (λ (ps : List Point). items_of table pattern.strength pattern.variable after (units table ps)) (points_are_shifted shift start (c ∷ []))
+    ap (λ (ps : List Point). items_of table pattern.strength pattern.variable after (units table ps)) (ordered_is_shifted shift start (c ∷ []))
     ∙ ((h.known known).items after may).items start
 
 pub lone-listed : SymbolsAreListed → (s : Symbols) → s.first ≡ 255 → s.second ≡ 255 → listed s ≡ some_symbol s.third
 lone-listed law s first second = law s ∙ ap₂ (λ (x y : List ℕ). x ++ (y ++ some_symbol s.third)) (ap some_symbol first) (ap some_symbol second)
 
 pub letter-symbols : SymbolsAreListed → (table : TableMap) (pattern : Compiled) (c : ℕ) (l : Letter) (after : Bool) → l.role ≢ Steps → is_mark l.role ≡ false → l.symbols.first ≡ 255 → l.symbols.second ≡ 255 →
-    IsPossible pattern.variable after → IsLetter table pattern (c ∷ []) l → AreLastSymbols pattern.keys (keys_alone table pattern (points_from 0 (c ∷ [])) after) (some_symbol l.symbols.third)
+    IsPossible pattern.variable after → IsLetter table pattern (c ∷ []) l → AreLastSymbols pattern.keys (keys_alone table pattern (ordered_from 0 (c ∷ [])) after) (some_symbol l.symbols.third)
 letter-symbols law table pattern c l after known starter first second may h =
-    subst (AreLastSymbols pattern.keys (keys_alone table pattern (points_from 0 (c ∷ [])) after)) (starter-counted l.role after (listed l.symbols) starter ∙ lone-listed law l.symbols first second)
+    subst (AreLastSymbols pattern.keys (keys_alone table pattern (ordered_from 0 (c ∷ [])) after)) (starter-counted l.role after (listed l.symbols) starter ∙ lone-listed law l.symbols first second)
     ((h.known known).items after may).symbols_are
 
 -- ---- a kind
@@ -73,7 +72,7 @@ pub record KindLaws : Type 0 where
 carries-of : KindLaws → (table : TableMap) (pattern : Compiled) (c from to : ℕ) (l : Letter) → IsLone l → IsLetter table pattern (c ∷ []) l → (255 ≤ l.symbols.third → from ≤ to) →
     (l.symbols.third < 255 → (key : Key) → IsSymbol pattern.keys key l.symbols.third → IsBelow pattern.keys from to key) → Carries table pattern c from to
 carries-of laws table pattern c from to l lone h none below = λ after may start.
-    let keys = keys_alone table pattern (points_from 0 (c ∷ [])) after in
+    let keys = keys_alone table pattern (ordered_from 0 (c ∷ [])) after in
     let same : item_keys (items_at table pattern after start c) ≡ keys =
     ap item_keys (letter-items laws.shifted table pattern c l after start lone.known may h) ∙ begun-keys (begins_cluster l.role) start keys in
     subst (Carry pattern.keys from to) (sym same) (carry laws.borders pattern.keys keys l.symbols.third from to (letter-symbols laws.listed table pattern c l after lone.known lone.starter lone.first lone.second may h) none below)
@@ -103,7 +102,7 @@ kind-says laws table pattern place c l kind h within lone same key later closed 
     record {
       whole = λ going after may start.
           subst (StartsInFront start) (sym (letter-items laws.shifted table pattern c l after start (lone going).known may h))
-          (begun-front (begins_cluster l.role) start (keys_alone table pattern (points_from 0 (c ∷ [])) after));
+          (begun-front (begins_cluster l.role) start (keys_alone table pattern (ordered_from 0 (c ∷ [])) after));
       any = λ going. carries-of laws table pattern c place top l (lone going) h (λ _. low) (λ small k is n at less. any-step going small k is n at less);
       other = λ going other. carries-of laws table pattern c place place l (lone going) h (λ _. omega arith) (λ small k is n at less. not-at place small k (key other) is n at less);
       behind = λ going not_later. carries-of laws table pattern c top top l (lone going) h (λ _. omega arith) (λ small k is n at less. not-at top small k (later not_later).1 is n at less);

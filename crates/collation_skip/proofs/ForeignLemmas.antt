@@ -20,11 +20,11 @@ use Rattle.collation_pattern.specs.Border.{border}
 use Rattle.collation_pattern.specs.Compiled.{Compiled}
 use Rattle.collation_letters.specs.Apart.{IsNext}
 use Rattle.collation_letters.specs.declared.letter.Letter.{Letter}
-use Rattle.collation_letters.specs.Letters.{IsClean, begins_cluster, is_mark, flag_after, IsLetter}
+use Rattle.collation_letters.specs.Letters.{ordered_from, IsClean, begins_cluster, is_mark, flag_after, IsLetter}
 use Rattle.collation_letters.specs.declared.letter.Role.TheVariants.{Plain}
 use Rattle.collation_letters.specs.Symbols.{AreLastSymbols, is_symbol, some_symbol, NothingWaitsBehindForeignKeys, OneSymbolIsOfTheLastKey}
 use Rattle.collation_letters.specs.Laws.{LetterLaws}
-use Rattle.collation_letters.proofs.ApartLemmas.{from_none, next-more, next-none}
+use Rattle.collation_letters.proofs.ApartLemmas.{begins_before, from_none, ordered_none, next-more, next-none}
 use Rattle.collation_letters.proofs.LetterApart.{plain-known}
 use Rattle.collation_skip.specs.Passed.{IsPassed, IsQuiet}
 use Rattle.collation_skip.specs.Reached.{items_from}
@@ -48,12 +48,12 @@ pub record AreQuiet (table : TableMap) (pattern : Compiled) (start : ℕ) (cs : 
 -- no characters
 pub no-keys : (table : TableMap) (pattern : Compiled) (start : ℕ) → border pattern.keys (item_keys (items_from table pattern start [])) ≡ 0
 no-keys table pattern start =
-    ap (λ ps. border pattern.keys (item_keys (items_of table pattern.strength pattern.variable false (units table ps)))) (from_none start) ∙ none-ends pattern.keys
+    ap (λ ps. border pattern.keys (item_keys (items_of table pattern.strength pattern.variable false (units table ps)))) (ordered_none start) ∙ none-ends pattern.keys
 
 pub quiet-begin : (table : TableMap) (pattern : Compiled) (start c : ℕ) → 0 < length pattern.keys → begins_with_starter (points_from 0 (c ∷ [])) ≡ true → AreQuiet table pattern start [] c
 quiet-begin table pattern start c some starter =
     let none : points_from start [] ≡ [] = from_none start in
-    let nothing : items_from table pattern start [] ≡ [] = ap (λ ps. items_of table pattern.strength pattern.variable false (units table ps)) none in
+    let nothing : items_from table pattern start [] ≡ [] = ap (λ ps. items_of table pattern.strength pattern.variable false (units table ps)) (ordered_none start) in
     let zero = no-keys table pattern start in
     record {
       begins = ap begins_with_starter none;
@@ -64,7 +64,7 @@ quiet-begin table pattern start c some starter =
     }
 
 quiet-none : (table : TableMap) (pattern : Compiled) (start c : ℕ) (l : Letter) → 0 < length pattern.keys → IsLetter table pattern (c ∷ []) l → IsClean l → AreQuiet table pattern start [] c
-quiet-none table pattern start c l some h clean = quiet-begin table pattern start c some ((h.known (plain-known l.role clean.0)).starter (ap is_mark clean.0))
+quiet-none table pattern start c l some h clean = quiet-begin table pattern start c some (begins_before (points_from 0 (c ∷ [])) ((h.known (plain-known l.role clean.0)).starter (ap is_mark clean.0)))
 
 -- where some were passed by
 pub quiet-passed : (table : TableMap) (pattern : Compiled) (start last : ℕ) (cs : List ℕ) (c : ℕ) → 0 < length pattern.keys → IsPassed table pattern start last cs c → AreQuiet table pattern start cs c
@@ -109,7 +109,7 @@ passed-one laws table pattern start cs c next l q h role small none apart =
       before = I;
       keys = items.keys;
       items = items.items ∙ ap (λ r. I ++ letter_items (begins_cluster r) at items.keys) role;
-      flag = items.flag ∙ ap (λ r. flag_after r (after_units table pattern.variable false (units table (points_from start cs)))) role;
+      flag = items.flag ∙ ap (λ r. flag_after r (after_units table pattern.variable false (units table (ordered_from start cs)))) role;
       quiet = quiet-more pattern.keys I true at [] q.quiet q.below;
       later = q.later;
       after_start = omega arith;

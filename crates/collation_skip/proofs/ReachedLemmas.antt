@@ -25,11 +25,11 @@ use Rattle.collation_pattern.specs.Compiled.{Compiled}
 use Rattle.collation_letters.specs.Apart.{IsNext}
 use Rattle.collation_letters.specs.declared.letter.Letter.{Letter}
 use Rattle.collation_letters.specs.declared.letter.Role.TheVariants.{Steps}
-use Rattle.collation_letters.specs.Letters.{begins_cluster, is_mark, flag_after, keys_alone, IsPossible, IsLetter}
+use Rattle.collation_letters.specs.Letters.{begins_cluster, is_mark, flag_after, keys_alone, ordered_from, IsPossible, IsLetter}
 use Rattle.collation_letters.specs.Symbols.{AreLastSymbols, listed}
 use Rattle.collation_letters.specs.Laws.{LetterLaws}
-use Rattle.collation_letters.proofs.ApartLemmas.{begins-append, begun_from, from_none, from_one, next-more, units-next, next-none}
-use Rattle.collation_letters.proofs.CharacterLemmas.{points_are_shifted}
+use Rattle.collation_letters.proofs.ApartLemmas.{begins-append, begun_from, from_none, from_one, ordered_none, next-more, units-next, next-none}
+use Rattle.collation_letters.proofs.CharacterLemmas.{ordered_is_shifted}
 use Rattle.collation_letters.proofs.JoiningLemmas.{items-append, after-append, possible-after}
 use Rattle.collation_letters.proofs.LetterApart.{starter-counted}
 use Rattle.collation_letters.proofs.SymbolLemmas.{listed-some}
@@ -46,7 +46,7 @@ use Rattle.collation_skip.proofs.ItemLemmas.{letter_items, keys-append, keys-let
 pub record MoreItems (table : TableMap) (pattern : Compiled) (at : ℕ) (before last : List ℕ) (l : Letter) : Type 0 where
   pub keys : List Key
   pub items : items_from table pattern at (before ++ last) ≡ items_from table pattern at before ++ letter_items (begins_cluster l.role) (at + byte_len before) keys
-  pub flag : after_units table pattern.variable false (units table (points_from at (before ++ last))) ≡ flag_after l.role (after_units table pattern.variable false (units table (points_from at before)))
+  pub flag : after_units table pattern.variable false (units table (ordered_from at (before ++ last))) ≡ flag_after l.role (after_units table pattern.variable false (units table (ordered_from at before)))
   pub symbols : AreLastSymbols pattern.keys keys (listed l.symbols)
 
 pub items-more : LetterLaws → PointsAreShifted → (table : TableMap) (pattern : Compiled) (at : ℕ) (before : List ℕ) (first : ℕ) (others : List ℕ) (l : Letter) → IsNext table at before first → l.role ≢ Steps →
@@ -56,15 +56,15 @@ items-more laws shift table pattern at before first others l next known starter 
     let V : Variable = pattern.variable in
     let last = first ∷ others in
     let start = at + byte_len before in
-    let us = units table (points_from at before) in
-    let vs = units table (points_from start last) in
+    let us = units table (ordered_from at before) in
+    let vs = units table (ordered_from start last) in
     let flag = after_units table V false us in
     let may : IsPossible V flag = possible-after table V false flag us (λ plain. refl) refl in
-    let cut : units table (points_from at (before ++ last)) ≡ us ++ vs = units-next laws table at first before others last refl next.ends in
-    let here : vs ≡ units table (map (shifted start) (points_from 0 last)) = ap (units table) (points_are_shifted shift start last) in
+    let cut : units table (ordered_from at (before ++ last)) ≡ us ++ vs = units-next laws table at first before others last refl next.begins next.ends in
+    let here : vs ≡ units table (map (shifted start) (ordered_from 0 last)) = ap (units table) (ordered_is_shifted shift start last) in
     let k = h.known known in
     let has = k.items flag may in
-    let keys = keys_alone table pattern (points_from 0 last) flag in
+    let keys = keys_alone table pattern (ordered_from 0 last) flag in
     record {
       keys = keys;
       items = ap (items_of table S V false) cut ∙ items-append table S V false us vs
@@ -232,7 +232,7 @@ reached-next laws shift table pattern s t at bytes byte c spelled known starter 
                   before = items;
                   keys = more.keys;
                   items = more.items ∙ ap (λ b. items ++ letter_items b start more.keys) (ap begins_cluster role ∙ is.begins);
-                  flag = more.flag ∙ ap (λ x. flag_after x (after_units table pattern.variable false (units table (points_from at r.before)))) role ∙ is.flag (after_units table pattern.variable false (units table (points_from at r.before)));
+                  flag = more.flag ∙ ap (λ x. flag_after x (after_units table pattern.variable false (units table (ordered_from at r.before)))) role ∙ is.flag (after_units table pattern.variable false (units table (ordered_from at r.before)));
                   quiet = quiet-more pattern.keys items true start [] r.quiet (subst (λ n. n < length pattern.keys) (sym r.depth) r.below);
                   later = r.later;
                   after_start = omega arith;
@@ -259,7 +259,7 @@ pub reached-first : (table : TableMap) (pattern : Compiled) (s : State) (at : �
 reached-first table pattern s at bytes c spelled starter some l h kept depth len character begun before =
     let one = one_char bytes c spelled in
     let none : points_from at [] ≡ [] = from_none at in
-    let nothing : items_from table pattern at [] ≡ [] = ap (λ (ps : List Point). items_of table pattern.strength pattern.variable false (units table ps)) none in
+    let nothing : items_from table pattern at [] ≡ [] = ap (λ (ps : List Point). items_of table pattern.strength pattern.variable false (units table ps)) (ordered_none at) in
     record {
       text = bytes;
       before = [];

@@ -23,7 +23,7 @@ use Rattle.collation_elements.specs.Weighing.{after_units}
 use Rattle.collation_pattern.specs.Border.{border}
 use Rattle.collation_pattern.specs.Compiled.{Compiled}
 use Rattle.collation_letters.specs.Apart.{IsNext}
-use Rattle.collation_letters.specs.Letters.{AreApart}
+use Rattle.collation_letters.specs.Letters.{ordered_from, AreApart}
 use Rattle.collation_letters.proofs.ApartLemmas.{begins_anywhere, from_one, next-more, next_of_one}
 use Rattle.collation_letters.proofs.CharacterLemmas.{points_are_shifted}
 use Rattle.collation_skip.specs.declared.two_byte_blocks.Ending.{Ending}
@@ -136,13 +136,13 @@ gone-more : RunLaws → (table : TableMap) (pattern : Compiled) (place start : �
     IsClassifiedBy table pattern place c Passable Other NotLater ⊥ Passable → Passable → (Before ⊎ NotLater) → AreApart table (points_from 0 (next ∷ [])) → HasGone table pattern place start (cs ++ c ∷ []) next Other
 gone-more laws table pattern place start cs c next Before Passable Other NotLater within h right going which apart =
     let at = start + byte_len cs in
-    let us = units table (points_from start cs) in
+    let us = units table (ordered_from start cs) in
     let flag = after_units table pattern.variable false us in
     let may = possible table pattern.variable us in
     let I = items_from table pattern start cs in
     let J = items_at table pattern flag at c in
     let K = item_keys I in
-    let all = (items-next laws table pattern start cs c h.quiet.is_next.ends).0 in
+    let all = (items-next laws table pattern start cs c h.quiet.is_next.begins h.quiet.is_next.ends).0 in
     let keys : item_keys (items_from table pattern start (cs ++ c ∷ [])) ≡ K ++ item_keys J = ap item_keys all ∙ keys-append I J in
     let bound : most pattern.keys place < length pattern.keys = omega (arith, within) in
     let begins = begins_anywhere 0 (at + len_utf8 c) next (ap begins_with_starter (sym (from_one 0 next)) ∙ apart-begins table (points_from 0 (next ∷ [])) apart) in

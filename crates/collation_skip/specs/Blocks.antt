@@ -15,7 +15,7 @@ use Rattle.collation_pattern.specs.Compiled.{Compiled}
 use Rattle.collation_letters.specs.declared.letter.Letter.{Letter}
 use Rattle.collation_letters.specs.declared.letter.Role.TheVariants.{Plain, Steps}
 use Rattle.collation_letters.specs.declared.symbols.TheConstants.{NO_SYMBOL}
-use Rattle.collation_letters.specs.Letters.{AreApart, AreClosed, IsLetter, IsPossible, is_mark}
+use Rattle.collation_letters.specs.Letters.{ordered_from, AreApart, AreClosed, IsLetter, IsPossible, is_mark}
 use Rattle.collation_letters.specs.Symbols.{IsSymbol}
 use Rattle.collation_skip.specs.declared.ascii.AsciiBlocks.{AsciiBlocks}
 use Rattle.collation_skip.specs.declared.classes.Classes.{Classes}
@@ -29,7 +29,7 @@ Carry pattern from to keys = (before : List Key) → border pattern before ≤ f
 
 -- the items of a character that stands at an offset
 abbrev pub items_at : TableMap → Compiled → Bool → ℕ → ℕ → List Item
-items_at table pattern after start c = items_of table pattern.strength pattern.variable after (units table (points_from start (c ∷ [])))
+items_at table pattern after start c = items_of table pattern.strength pattern.variable after (units table (ordered_from start (c ∷ [])))
 
 -- the same of the keys of a character, wherever it stands
 abbrev pub Carries : TableMap → Compiled → ℕ → ℕ → ℕ → Type 0
@@ -70,7 +70,7 @@ pub record IsClassifiedBy (table : TableMap) (pattern : Compiled) (place c : ℕ
   pub other : Passable → Other → Carries table pattern c place place
   pub behind : Passable → NotLater → Carries table pattern c (most pattern.keys place) (most pattern.keys place)
   pub back : Passable → Other → NotLater → Carries table pattern c (most pattern.keys place) place
-  pub closed : Closed → AreClosed table (points_from 0 (c ∷ []))
+  pub closed : Closed → AreClosed table (ordered_from 0 (c ∷ []))
   pub apart : Apart → AreApart table (points_from 0 (c ∷ []))
 
 -- the classes say what is so of a character of ASCII, by the sets where its byte is not

@@ -15,7 +15,7 @@ use Rattle.collation_elements.specs.Weighing.{after_units}
 use Rattle.collation_pattern.specs.Border.{border}
 use Rattle.collation_pattern.specs.Compiled.{Compiled}
 use Rattle.collation_letters.specs.Apart.{IsNext}
-use Rattle.collation_letters.specs.Letters.{IsLetter}
+use Rattle.collation_letters.specs.Letters.{ordered_from, IsLetter}
 use Rattle.collation_skip.specs.declared.passed.Passed.{Passed}
 
 -- where a cluster starts among these items the whole pattern does not end the keys before it, so that no match ends there
@@ -31,8 +31,8 @@ pub record IsPassed (table : TableMap) (pattern : Compiled) (start last : ℕ) (
   pub is_next : IsNext table start cs next
   pub before : List Item
   pub keys : List Key
-  pub items : items_of table pattern.strength pattern.variable false (units table (points_from start cs)) ≡ before ++ ClusterStart last ∷ map (λ key. Element key) keys
-  pub flag : after_units table pattern.variable false (units table (points_from start cs)) ≡ false
+  pub items : items_of table pattern.strength pattern.variable false (units table (ordered_from start cs)) ≡ before ++ ClusterStart last ∷ map (λ key. Element key) keys
+  pub flag : after_units table pattern.variable false (units table (ordered_from start cs)) ≡ false
   pub quiet : IsQuiet pattern.keys (before ++ ClusterStart last ∷ [])
   pub later : (at : ℕ) → Contains before (ClusterStart at) → start ≤ at
   pub after_start : start ≤ last

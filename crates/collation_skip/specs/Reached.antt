@@ -14,7 +14,7 @@ use Rattle.collation_pattern.specs.Border.{border}
 use Rattle.collation_pattern.specs.Compiled.{Compiled}
 use Rattle.collation_letters.specs.Apart.{IsNext}
 use Rattle.collation_letters.specs.declared.letter.Letter.{Letter}
-use Rattle.collation_letters.specs.Letters.{IsLetter}
+use Rattle.collation_letters.specs.Letters.{ordered_from, IsLetter}
 use Rattle.collation_letters.specs.Symbols.{AreLastSymbols, listed}
 use Rattle.collation_skip.specs.declared.state.State.{State}
 use Rattle.collation_skip.specs.BegunBytes.{begun_bytes}
@@ -22,7 +22,7 @@ use Rattle.collation_skip.specs.Passed.{IsPassed, IsQuiet}
 
 -- the items of characters by themselves, of which the first stands at an offset
 abbrev pub items_from : TableMap → Compiled → ℕ → List ℕ → List Item
-items_from table pattern at cs = items_of table pattern.strength pattern.variable false (units table (points_from at cs))
+items_from table pattern at cs = items_of table pattern.strength pattern.variable false (units table (ordered_from at cs))
 
 -- The characters up to the last one, which is whole, may be passed by: it is behind a character of so many bytes.
 pub record IsBehind (table : TableMap) (pattern : Compiled) (at len : ℕ) (before : List ℕ) (last : ℕ) : Type 0 where

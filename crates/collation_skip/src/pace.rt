@@ -25,8 +25,8 @@ const LONGEST: u32 = 256;
 /// How many bytes of a text a place is tried on.
 pub(crate) const SAMPLE: usize = 1_024;
 
-/// Up to how many bytes a text alone has no place, or, where many of its bytes differ, one that serves it alone, chosen by at least
-/// `SAMPLE_ALONE` bytes.
+/// Up to how many bytes a text alone has no place, but for one of ASCII with many different bytes, whose place serves it alone, and is chosen
+/// by at least `SAMPLE_ALONE` bytes.
 const LONGEST_ALONE: usize = 6_000;
 
 const SAMPLE_ALONE: usize = 192;
@@ -98,13 +98,13 @@ impl Pace {
         }
     }
 
-    /// Prepares, before its first byte, for one text alone of `len` bytes, of which at least `due` are walked over. For a short one a place is
-    /// chosen where its front has many different bytes, all of ASCII (`has_many`), and else none; for a longer one once, though its first
-    /// pieces are short.
+    /// Prepares, before its first byte, for one text alone of `len` bytes, of which at least `due` are walked over. A place is chosen that
+    /// serves it alone where it is said to have many different bytes, all of ASCII (`has_many`); else none for a short one, and for a longer
+    /// one once, though its first pieces are short.
     pub fn prepare(&mut self, due: usize, len: usize, has_many: bool) {
         self.due = self.due.max(due);
-        self.is_alone = has_many && len <= LONGEST_ALONE;
-        self.wanted = if self.is_alone {
+        self.is_alone = has_many;
+        self.wanted = if has_many {
             SAMPLE_ALONE
         } else if len <= LONGEST_ALONE {
             usize::MAX

@@ -1,7 +1,6 @@
 -- What a weigher and a walk represent together.
 use Rattle.std.specs.Prelude.{◌≡◌, ℕ, List, [], ◌∷◌, ◌++◌}
 use Rattle.nfd_points.specs.declared.points.Point.{Point}
-use Rattle.nfd_points.specs.Points.{points_from}
 use Rattle.collation_table.specs.Table.{TableMap}
 use Rattle.collation_elements.specs.declared.keys.Item.{Item}
 use Rattle.collation_elements.specs.Units.{units}
@@ -9,7 +8,7 @@ use Rattle.collation_elements.specs.UnitValues.{IsUnitOf, UnitValue}
 use Rattle.collation_elements.specs.Weighing.{value_items, weigher_after, WeigherStandsFor}
 use Rattle.collation_pattern.specs.Compiled.{Compiled}
 use Rattle.collation_letters.specs.declared.letter.Letter.{Letter}
-use Rattle.collation_letters.specs.Letters.{IsLetter}
+use Rattle.collation_letters.specs.Letters.{IsLetter, ordered_from}
 use Rattle.collation_walk.specs.declared.matching.Matcher.{Matcher}
 use Rattle.collation_walk.specs.Walks.{WalksInto, WalksOver}
 
@@ -37,4 +36,4 @@ pub record TakesUnit (pattern : Compiled) (old new : Matcher) (unit : UnitValue)
 -- The characters of a letter, of which the first stands at an offset, were walked over.
 abbrev pub WalksLetter : TableMap → Compiled → Matcher → Matcher → Letter → ℕ → List (ℕ × ℕ) → Type 0
 WalksLetter table pattern matcher now letter start found =
-    (cs : List ℕ) → IsLetter table pattern cs letter → HasWalkedOn table pattern matcher now (units table (points_from start cs)) found
+    (cs : List ℕ) → IsLetter table pattern cs letter → HasWalkedOn table pattern matcher now (units table (ordered_from start cs)) found

@@ -5,7 +5,7 @@ use crate::calls::{
     table_of, text_is,
 };
 use collation_elements::{Key, Strength};
-use collation_letters::{Letter, Letters, symbol_in, symbol_of};
+use collation_letters::{Cluster, Letter, Letters, symbol_in, symbol_of};
 use collation_pattern::Pattern;
 use collation_table::Table;
 use std::alloc::{AllocError, Global};
@@ -354,45 +354,50 @@ fn symbols_of_keys_that_share_a_place(rt: HostRuntime) {
 }
 
 /// A character with marks behind it, and its letter to a pattern with the keys of `e` and of U+0301; none where one of them does not
-/// join: a mark of a lower class, one behind what begins a mapped string, and a fourth key. The circle joins as a mark does, behind
-/// marks of any class.
-const MARKED: [(&str, &str); 17] = [
+/// join: a mark that goes before that of a composed letter, one that stands in the mapped string which its letter begins, and a fourth
+/// key. The circle joins as a mark does, behind marks of any class.
+const MARKED: [(&str, &str); 21] = [
     ("e\u{301}", "Base 255 1 2; 2/230;"),
     ("\u{E9}\u{301}", "Base 1 2 2; 3/230;"),
     ("\u{E9}\u{301}\u{301}", ""),
     ("e\u{327}", "Plain 255 255 0; 2/202;"),
     ("e\u{327}\u{301}", "Base 255 0 2; 3/230;"),
-    ("e\u{301}\u{327}", ""),
+    ("e\u{301}\u{327}", "Base 255 0 2; 3/230; closed"),
+    ("e\u{301}\u{300}\u{327}", "Plain 255 255 0; 4/230; closed"),
+    ("\u{E9}\u{327}", ""),
     ("u\u{301}", ""),
+    ("u\u{327}", "Base 255 255 0; 2/202;"),
+    ("u\u{327}\u{301}", ""),
     (" \u{301}", "VariableBase 255 255 255; 2/230;"),
     ("\u{301}\u{301}", ""),
     ("\u{AD}\u{301}", ""),
     ("ee", ""),
     ("e\u{20DD}", "Plain 255 255 0; 2/0; closed"),
     ("e\u{301}\u{20DD}\u{301}", "Base 255 0 2; 4/230; closed"),
-    ("u\u{20DD}", ""),
+    ("u\u{20DD}", "Base 255 255 0; 2/0;"),
     (" \u{20DD}", "VariableBase 255 255 255; 2/0; closed"),
     ("\u{20DD}\u{301}", ""),
     ("\u{AD}\u{20DD}", ""),
 ];
 
-/// The letter of a letter, if there is one, and a mark.
-fn with_mark(base: Option<Letter>, mark: Letter) -> Option<Letter> {
-    base?.with_mark(mark)
+/// That of a cluster, if there is one, and a mark.
+fn with_mark(cluster: Option<Cluster>, table: &Table, c: char, mark: Letter) -> Option<Cluster> {
+    cluster?.with_mark(table, c, mark)
 }
 
 /// The letter of a character with marks behind it; `None` where one of them does not join.
 fn joined(rt: &impl Abort, alloc: Global, text: &str) -> Option<Letter> {
+    let table = table_with_more(rt, alloc);
     let mut joined = None;
     for (offset, c) in text.char_indices() {
         let letter = letter(rt, alloc, ("e\u{301}", TWO, SHIFTED), c);
         joined = if offset == 0 {
-            Some(letter)
+            Some(Cluster::new(letter))
         } else {
-            with_mark(joined, letter)
+            with_mark(joined, &table, c, letter)
         };
     }
-    joined
+    joined.map(|cluster| cluster.letter)
 }
 
 #[test]

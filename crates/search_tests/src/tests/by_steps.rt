@@ -198,3 +198,52 @@ fn first_range_of_short_texts(rt: HostRuntime) {
     }
     holds(&rt, 100 < found && found < 1_640, &found);
 }
+
+/// The front of a text of ASCII with many different bytes: a search for such a text alone chooses a place by it.
+const FRONT: &[u8] = b"the mace: hubba! ca-ch, 12? (bAe) Jukv ";
+
+/// What follows it, so many times: bytes that the front has, others, letters that a match begins with, and bytes past ASCII.
+const PARTS: [&str; 5] = ["the cache ", "45 6789 ", "sur su ", "rsu", "bé "];
+
+const TIMES: [usize; 4] = [25, 120, 600, 900];
+
+/// What it ends with: a match, what is nearly one, and a match across a character of two bytes.
+const ENDS: [&str; 5] = ["sur", "sr-", "x, sure", "us-", "s\u{ad}ur"];
+
+/// Compares the first range of a text of these parts, which begins with `FRONT`.
+fn compare_behind_front(
+    rt: &impl Abort,
+    alloc: Global,
+    query: &Query<'_, Table>,
+    part: &str,
+    times: usize,
+    end: &str,
+) -> bool {
+    let mut text = Vec::new(alloc);
+    put_bytes(rt, &mut text, FRONT);
+    for _ in 0..times {
+        put_bytes(rt, &mut text, part.as_bytes());
+    }
+    put_bytes(rt, &mut text, end.as_bytes());
+    compare_first(rt, alloc, query, &text)
+}
+
+/// Texts of 117 to 9,046 bytes of ASCII, and some that are not ASCII behind their front.
+#[test]
+fn first_range_of_texts_of_ascii(rt: HostRuntime) {
+    let alloc = rt.alloc();
+    let table = read(&rt, alloc, TABLE);
+    let pattern = compile(&rt, alloc, &table, "sur", ONE, KEPT);
+    let query = for_all(&table, &pattern);
+    let mut found = 0usize;
+    for part in PARTS {
+        for times in TIMES {
+            for end in ENDS {
+                if compare_behind_front(&rt, alloc, &query, part, times, end) {
+                    found = found.wrapping_add(1);
+                }
+            }
+        }
+    }
+    count_is(&rt, found, 76);
+}

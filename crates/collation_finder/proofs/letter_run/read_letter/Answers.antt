@@ -39,6 +39,6 @@ marks-preserved g c =
       within = omega (arith, some.0, long, c.len_utf8-len-in-marks.ensures.value, i.within);
       text = text-more piece len n i.text one.0;
       begun = (i.begun.0 ++ next ∷ [], codes ∙ ap (λ (t : List ℕ). t ++ next ∷ []) i.begun.1);
-      all = subst (λ (cs : List ℕ). IsLetter table pattern cs c.in_ok-all.all) (sym codes) (c.in_ok-all.ensures table pattern (chars (take len piece)) next i.all c.letter-following.ensures.letter);
+      all = subst (λ (cs : List ℕ). IsLetter table pattern cs c.in_ok-all.all) (sym codes) (c.in_ok-all.ensures.letter table pattern (chars (take len piece)) next i.all c.letter-following.ensures.letter);
       right = c.letter-following.ensures.right;
     }

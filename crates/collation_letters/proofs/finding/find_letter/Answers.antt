@@ -9,6 +9,8 @@ use Rattle.collation_letters.specs.declared.letter.Role.{Role}
 use Rattle.collation_letters.specs.declared.letter.Role.TheVariants.{Steps, Plain}
 use Rattle.collation_letters.specs.Finding.{HasRole}
 use Rattle.collation_letters.specs.Symbols.{AreLastSymbols, listed}
+use Rattle.collation_letters.specs.Letters.{AreApart}
+use Rattle.collation_letters.proofs.ApartLemmas.{ordered_one}
 use Rattle.collation_letters.proofs.LetterLemmas.{closed-alone, from-one, known-at, letter-at, few-points, some-points}
 use Rattle.collation_letters.proofs.finding.find_letter.Goals.{in-Some, in-None}
 use Rattle.collation_letters.proofs.finding.find_letter.Goals as goal
@@ -30,10 +32,10 @@ returns-clause-letter g c =
       | in-Some w ↦ λ is. w.role_and_symbols.ensures.other (sym (ap (λ r. r.0) w.role-is) ∙ is)
       | in-None w ↦ λ is. steps_or_plain (sym (ap (λ r. r.0) w.role-is) ∙ is)
     ] in
-    c.settled.ensures table pattern (ch ∷ [])
-    (letter-at table pattern (ch ∷ []) ps _ (value ∙ sym (from-one 0 ch)) other
+    c.settled.ensures.letter table pattern (ch ∷ [])
+    (letter-at table pattern (ch ∷ []) ps _ (value ∙ sym (ordered_one 0 ch)) other
     (λ yes. closed-alone c.units_stay_apart.ensures.alone table ps (c.are_closed-is_closed.ensures yes))
-    c.begin_apart.ensures
+    (λ yes. subst (AreApart table) (value ∙ sym (from-one 0 ch)) (c.begin_apart.ensures yes))
     (λ known. elim c.match-items_of.branch [
       | in-Some w ↦
           let it = w.in-Some.ensures in

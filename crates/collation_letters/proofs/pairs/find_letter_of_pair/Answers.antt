@@ -6,6 +6,9 @@ use Rattle.collation_letters.specs.declared.letter.Role.TheVariants.{Steps, Plai
 use Rattle.collation_letters.specs.Finding.{HasRole}
 use Rattle.collation_letters.specs.Symbols.{AreLastSymbols, listed}
 use Rattle.collation_letters.proofs.LetterLemmas.{known-at, letter-at}
+use Rattle.nfd_points.specs.Points.{ordered}
+use Rattle.nfd_points.proofs.OrderingLemmas.{ordered-ordered}
+use Rattle.collation_letters.specs.Letters.{AreApart}
 use Rattle.collation_letters.proofs.PairLemmas.{class-pair, closed-pair, in_order-pair}
 use Rattle.collation_letters.proofs.pairs.find_letter_of_pair.Goals.{in-Some-items_of, in-None}
 use Rattle.collation_letters.proofs.pairs.find_letter_of_pair.Goals as goal
@@ -25,15 +28,17 @@ returns-clause-letter g c =
       | in-Some-items_of w ↦ λ is. w.role_and_symbols.ensures.other (sym (ap (λ r. r.0) w.role-is) ∙ is)
       | in-None w ↦ λ is. steps_or_plain (sym (ap (λ r. r.0) w.role-is) ∙ is)
     ] in
-    c.settled.ensures table pattern (c.args.first ∷ c.args.second ∷ [])
-    (letter-at table pattern (c.args.first ∷ c.args.second ∷ []) ps _ (sym pair.points) other
+    let in_order = in_order-pair p q pair.starters.1 in
+    let same = ap ordered pair.points ∙ ordered-ordered ps in_order in
+    c.settled.ensures.letter table pattern (c.args.first ∷ c.args.second ∷ [])
+    (letter-at table pattern (c.args.first ∷ c.args.second ∷ []) ps _ (sym same) other
     (λ closed. closed-pair c.units_stay_apart.ensures.pair table p q pair.mapped pair.longest)
-    c.are_apart.ensures
+    (λ yes. subst (AreApart table) (sym pair.points) (c.are_apart.ensures yes))
     (λ known. elim c.match-items_of.branch [
       | in-Some-items_of w ↦
           let it = w.in-Some-items_of in
           let role : w.role_and_symbols.result.0 ≢ Steps = λ steps. known (ap (λ r. r.0) w.role-is ∙ steps) in
-          known-at table pattern ps _ it.plain it.after (omega arith) (omega arith) (in_order-pair p q pair.starters.1) refl (class-pair p q pair.starters.1)
+          known-at table pattern ps _ it.plain it.after (omega arith) (omega arith) in_order refl (class-pair p q pair.starters.1)
           (it.ensures.plain, λ possible. (it.ensures.after possible, it.ensures.some possible))
           (subst (λ r. HasRole ps it.plain it.after r) (sym (ap (λ r. r.0) w.role-is)) (w.role_and_symbols.ensures.role role))
           (subst (λ s. AreLastSymbols pattern.keys (character_keys it.plain) (listed s)) (sym (ap (λ r. r.1) w.role-is)) (w.role_and_symbols.ensures.symbols role))

@@ -18,7 +18,7 @@ returns-then-is_mark-clause-moves g c = λ byte spelled at bytes h.
     subst (λ (t : State). HasReached table pattern t at (bytes ++ byte ∷ [])) (sym c.with_letter.ensures) (∥∥₁_map h (λ r.
     let cs = r.first ∷ (r.others ++ c.args.c ∷ []) in
     reached-longer table pattern s (record both { is_apart = false }) at bytes byte c.args.c spelled r
-    (letter-without_apart table pattern cs both (c.in_ok-with_mark.ensures table pattern (r.first ∷ r.others) c.args.c
+    (letter-without_apart table pattern cs both (c.in_ok-with_mark.ensures.letter table pattern (r.first ∷ r.others) c.args.c
     (subst (λ (l : Letter). IsLetter table pattern (r.first ∷ r.others) l) (sym (r.kept.whole c.if-state.false)) r.letter) c.requires.letter))))
 
 pub behind_letter-requires-clause-next : goal.behind_letter-requires-clause-next
