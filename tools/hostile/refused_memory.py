@@ -27,7 +27,7 @@ REFUSED_TEST = re.compile(
 )
 MOST_SECONDS = 60  # of one run, and of all runs of one test
 PLACES_TEST = "letters::refused_places_are_asked_for_again"
-PLACES_REQUESTS = 130  # of the first 4,096 letters where each is refused
+PLACES_REQUESTS = 131  # of the first 4,096 letters where each is refused
 
 
 class Refuser:
@@ -172,7 +172,7 @@ def sweep_test(refuser, program, test):
 
 
 def sweep_places(refuser, program):
-    """How many runs were wrong. In one run all requests for places of the first 4,096 letters are refused, and in place of the three
+    """How many runs were wrong. In one run all requests for places of the first 4,096 letters are refused, and in place of the four
     with ample memory there are one more than those."""
     ample, requests = refuser.run([program, PLACES_TEST], b"", 0)
     most, counts = 0, {"passed": 0, "ended by the refusal": 0, "wrong": 0}
@@ -187,7 +187,7 @@ def sweep_places(refuser, program):
     more = most - requests
     said = ", ".join(f"{count} {outcome}" for outcome, count in counts.items())
     print(f"{PLACES_TEST}: {PLACES_REQUESTS} requests in a row refused from each of {requests} on: {said}; {more} more made", flush=True)
-    return counts["wrong"] + (judge(ample) != "passed") + (more != PLACES_REQUESTS - 2)
+    return counts["wrong"] + (judge(ample) != "passed") + (more != PLACES_REQUESTS - 3)
 
 
 def is_made_for_refusals(test):

@@ -2,13 +2,14 @@
 use Rattle.std.proofs.Common.{◌≡◌, ◌∙◌, ◌⊎◌, inl, inr, ℕ, ◌+◌, ◌-◌, ◌<◌, ◌≤◌, Bool, true, false, nat_lt, cond, List, [], ◌∷◌, ◌++◌, length, take, drop, slice_index, Option, Some, None, refl, sym, ap, subst, arith}
 use Rattle.std.specs.Prelude.{slice_range}
 use Rattle.std.proofs.Math.Seq.{take-add}
-use Rattle.std.proofs.lemmas.Bool.{lt-ltb, ltb-true}
+use Rattle.std.proofs.lemmas.Bool.{cases_lt, lt-ltb, ltb-true}
 use Rattle.std.proofs.lemmas.Option.{same_Some}
 use Rattle.std.proofs.lemmas.List.{drop-drop, get_or-drop, get_or-take}
 use Rattle.std.proofs.lemmas.List.Edits.{between_more, between_none}
 use Rattle.byte_dfa.specs.declared.moves.Cursor.{Cursor}
+use Rattle.byte_dfa.specs.declared.cells.TheConstants.{UNKNOWN_CELL}
 use Rattle.byte_dfa.specs.declared.moves.TheConstants.{STOP}
-use Rattle.byte_dfa.specs.Moves.{Accepts, Follows, HasRow, IsCursor, IsSpot, LeadToRows, MovesLead, row_after}
+use Rattle.byte_dfa.specs.Moves.{Accepts, Follows, HasRow, IsCursor, IsSpot, IsTable, MovesLead, cell_of, place, row_after}
 
 -- a cell of the column from a byte on
 pub cell-column : (cells : List ℕ) (byte row : ℕ) → row + byte < length cells → slice_index (take (length cells - byte) (drop byte cells)) row ≡ slice_index cells (row + byte)
@@ -24,22 +25,22 @@ went-on true o row h = (refl, h)
 went-on false o row h = cc
 
 -- the first of some moves, and the others
-pub row_after-first : (cells : List ℕ) (row to byte : ℕ) (bytes : List ℕ) → row_after cells row (byte ∷ bytes) ≡ Some to → (slice_index cells (row + byte) < STOP) × (row_after cells (slice_index cells (row + byte)) bytes ≡ Some to)
+pub row_after-first : (cells : List ℕ) (row to byte : ℕ) (bytes : List ℕ) → row_after cells row (byte ∷ bytes) ≡ Some to → (STOP < cell_of cells row byte) × (row_after cells (cell_of cells row byte) bytes ≡ Some to)
 row_after-first cells row to byte bytes h =
-    let cell = slice_index cells (row + byte) in
-    let w = went-on (nat_lt cell STOP) (row_after cells cell bytes) to h in (ltb-true cell STOP w.0, w.1)
+    let cell = cell_of cells row byte in
+    let w = went-on (nat_lt STOP cell) (row_after cells cell bytes) to h in (ltb-true STOP cell w.0, w.1)
 
 -- more bytes lead on from the row behind the first ones
 pub row_after-append : (cells : List ℕ) (row mid : ℕ) (xs ys : List ℕ) → row_after cells row xs ≡ Some mid → row_after cells row (xs ++ ys) ≡ row_after cells mid ys
 row_after-append cells row mid [] ys h = ap (λ n. row_after cells n ys) (same_Some row mid h)
 row_after-append cells row mid (x ∷ xs) ys h =
-    let cell = slice_index cells (row + x) in
-    let w = went-on (nat_lt cell STOP) (row_after cells cell xs) mid h in
+    let cell = cell_of cells row x in
+    let w = went-on (nat_lt STOP cell) (row_after cells cell xs) mid h in
     ap (λ b. cond b (row_after cells cell (xs ++ ys)) None) w.0 ∙ row_after-append cells cell mid xs ys w.1
 
-row_after-one : (cells : List ℕ) (row byte cell : ℕ) → cell ≡ slice_index cells (row + byte) → cell < STOP → row_after cells row (byte ∷ []) ≡ Some cell
-row_after-one cells row byte cell is below =
-    ap (λ b. cond b (Some (slice_index cells (row + byte))) None) (lt-ltb _ _ (subst (λ n. n < STOP) is below)) ∙ ap (λ (n : ℕ). Some n) (sym is)
+row_after-one : (cells : List ℕ) (row byte cell : ℕ) → cell ≡ cell_of cells row byte → STOP < cell → row_after cells row (byte ∷ []) ≡ Some cell
+row_after-one cells row byte cell is some =
+    ap (λ b. cond b (Some (cell_of cells row byte)) None) (lt-ltb _ _ (subst (λ n. STOP < n) is some)) ∙ ap (λ (n : ℕ). Some n) (sym is)
 
 -- ---- moves between two places
 
@@ -54,9 +55,9 @@ pub leads-none : (cells piece : List ℕ) (at row : ℕ) → IsSpot cells piece 
 leads-none cells piece at row spot = record { on = omega arith; spot = spot; moves = ap (row_after cells row) (between_none piece at) }
 
 -- one move more
-pub leads-more : (cells piece : List ℕ) (at row to mid cell : ℕ) → LeadToRows cells → to < length piece → slice_index piece to < 256 → cell ≡ slice_index cells (mid + slice_index piece to) → cell < STOP → MovesLead cells piece at row to mid →
+pub leads-more : (cells piece : List ℕ) (at row to mid cell : ℕ) → IsTable cells → to < length piece → slice_index piece to < 256 → cell ≡ cell_of cells mid (slice_index piece to) → STOP < cell → MovesLead cells piece at row to mid →
     MovesLead cells piece at row (to + 1) cell
-leads-more cells piece at row to mid cell rows within byte is below h =
+leads-more cells piece at row to mid cell table within byte is some h =
     let on = h.on in
     let here = h.spot.has_row in
     let b = slice_index piece to in
@@ -64,14 +65,14 @@ leads-more cells piece at row to mid cell rows within byte is below h =
       on = omega (arith, on);
       spot = record {
         within = omega (arith, within);
-        has_row = subst (HasRow cells) (sym is) (rows (mid + b) 0 (omega (arith, here, byte)) (subst (λ n. n < STOP) is below));
+        has_row = subst (HasRow cells) (sym is) (table.rows (place mid b) 0 (omega (arith, here, byte)));
       };
-      moves = ap (row_after cells row) (between_more piece at to 0 on within) ∙ row_after-append cells row mid (slice_range piece at to) (b ∷ []) h.moves ∙ row_after-one cells mid b cell is below;
+      moves = ap (row_after cells row) (between_more piece at to 0 on within) ∙ row_after-append cells row mid (slice_range piece at to) (b ∷ []) h.moves ∙ row_after-one cells mid b cell is some;
     }
 
 -- one move
-pub leads-one : (cells piece : List ℕ) (at row cell : ℕ) → LeadToRows cells → at < length piece → slice_index piece at < 256 → cell ≡ slice_index cells (row + slice_index piece at) → cell < STOP → IsSpot cells piece at row → MovesLead cells piece at row (at + 1) cell
-leads-one cells piece at row cell rows within byte is below spot = leads-more cells piece at row at row cell rows within byte is below (leads-none cells piece at row spot)
+pub leads-one : (cells piece : List ℕ) (at row cell : ℕ) → IsTable cells → at < length piece → slice_index piece at < 256 → cell ≡ cell_of cells row (slice_index piece at) → STOP < cell → IsSpot cells piece at row → MovesLead cells piece at row (at + 1) cell
+leads-one cells piece at row cell table within byte is some spot = leads-more cells piece at row at row cell table within byte is some (leads-none cells piece at row spot)
 
 -- moves after others
 pub leads-on : (cells piece : List ℕ) (at row mid mid_row to to_row : ℕ) → MovesLead cells piece at row mid mid_row → MovesLead cells piece mid mid_row to to_row → MovesLead cells piece at row to to_row
@@ -92,6 +93,40 @@ leads-same cells piece at row to to_row other other_row same same_row h = subst 
 pub leads-from : (cells piece : List ℕ) (at row other other_row to to_row : ℕ) → other ≡ at → other_row ≡ row → MovesLead cells piece at row to to_row → MovesLead cells piece other other_row to to_row
 leads-from cells piece at row other other_row to to_row same same_row h =
     subst (λ n. MovesLead cells piece n other_row to to_row) (sym same) (subst (λ n. MovesLead cells piece at n to to_row) (sym same_row) h)
+
+-- ---- moves that may have come to a stop on the way
+
+abbrev pub MayLead : List ℕ → List ℕ → ℕ → ℕ → ℕ → ℕ → Type 0
+MayLead cells piece at row to now = (now ≤ STOP) × HasRow cells now ⊎ MovesLead cells piece at row to now
+
+pub may-none : (cells piece : List ℕ) (at row to : ℕ) → to ≡ at → IsSpot cells piece at row → MayLead cells piece at row to row
+may-none cells piece at row to same spot = inr (leads-same cells piece at row at row to row same refl (leads-none cells piece at row spot))
+
+-- the cells of the row are there
+pub may-row : (cells piece : List ℕ) (at row to now : ℕ) → MayLead cells piece at row to now → HasRow cells now
+may-row cells piece at row to now h = elim h [ inl stop ↦ stop.1 | inr leads ↦ leads.spot.has_row ]
+
+-- one move more
+pub may-more : (cells piece : List ℕ) (at row to mid next cell : ℕ) → IsTable cells → next ≡ to + 1 → to < length piece → slice_index piece to < 256 → cell ≡ cell_of cells mid (slice_index piece to) → MayLead cells piece at row to mid →
+    MayLead cells piece at row next cell
+may-more cells piece at row to mid next cell table same within byte is h =
+    let here = may-row cells piece at row to mid h in
+    let b = slice_index piece to in
+    let has : HasRow cells cell = subst (HasRow cells) (sym is) (table.rows (place mid b) 0 (omega (arith, here, byte))) in
+    elim h [
+      | inl stop ↦ let first : cell ≡ UNKNOWN_CELL = is ∙ table.stops (place mid b) (omega (arith, stop.0, byte)) in inl (omega (arith, first), has)
+      | inr leads ↦ elim (cases_lt STOP cell) [
+        | inl some ↦ inr (leads-same cells piece at row (to + 1) cell next cell same refl (leads-more cells piece at row to mid cell table within byte is some leads))
+        | inr stop ↦ inl (stop, has)
+      ]
+    ]
+
+-- they came to none
+pub may-lead : (cells piece : List ℕ) (at row to now other : ℕ) → other ≡ to → STOP < now → MayLead cells piece at row to now → MovesLead cells piece at row other now
+may-lead cells piece at row to now other same some h = elim h [
+  | inl stop ↦ absurd (omega (arith, some, stop.0))
+  | inr leads ↦ leads-same cells piece at row to now other now same refl leads
+]
 
 -- ---- cursors
 

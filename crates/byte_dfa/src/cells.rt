@@ -1,39 +1,42 @@
 //! A table of cells: how rows are added and cells filled, and the runs over it.
-ghost use Rattle.std.specs.Prelude.{◌≡◌, ◌+◌, ◌<◌, ◌++◌, replicate, slice_index, slice_set, OnOk, OnErr};
-ghost use Rattle.byte_dfa.specs.Moves.{Follows, HasRow, IsCursor};
+ghost use Rattle.std.specs.Prelude.{◌≡◌, ◌≤◌, ◌++◌, replicate, slice_set, OnOk, OnErr};
+ghost use Rattle.byte_dfa.specs.Moves.{Follows, HasRow, IsCursor, added, cell_of, place};
 
 use crate::four_runs::run_by_four;
-use crate::moves::{Cursor, STOP};
+use crate::moves::{Cursor, UNIT};
 use crate::windows::{Guesses, run_to_end};
 use std::alloc::{AllocError, Global};
 use std::marker::Model;
 
-/// How far apart rows are added: each has room for its 256 cells whether it is to begin at an even index or at the odd one behind it.
-pub const ROW: usize = 258;
+/// How far apart rows are added: each has room for its 256 cells whether it is to have an even number or the odd one behind it.
+pub const ROW: usize = 66;
 
-/// A cell whose move is not known.
-pub const UNKNOWN_CELL: u32 = STOP + 1;
+/// The first row that is added. The two before it are stops.
+pub const FIRST_ROW: usize = 2 * ROW;
 
-/// Rows of cells, each cell of which is a row of these cells or a stop. Contracts see the list of the cells.
+/// A cell whose move is not known: the row of a stop, all of whose cells are this one.
+pub const UNKNOWN_CELL: u16 = 0;
+
+/// Rows of cells, each cell of which is one of these rows. Contracts see the list of the cells.
 #[derive(Drop)]
 pub struct Cells {
-    cells: Vec<u32>,
+    cells: Vec<u16>,
 }
 
 impl Model for Cells {
     ghost use Rattle.std.specs.Prelude.{ℕ, List};
-    ghost use Rattle.byte_dfa.specs.Moves.{LeadToRows};
+    ghost use Rattle.byte_dfa.specs.Moves.{IsTable};
 
     ghost Value = { List ℕ };
 
     ghost view = { λ it. it.cells.items };
 
-    ghost invariant = { λ it. LeadToRows it.cells.items };
+    ghost invariant = { λ it. IsTable it.cells.items };
 }
 
 impl Cells {
-    ghost use Rattle.std.specs.Prelude.{◌≡◌, ◌+◌, ◌<◌, ◌++◌, [], replicate, slice_index, slice_set, OnOk, OnErr};
-    ghost use Rattle.byte_dfa.specs.Moves.{Follows, HasEnded, HasRow, IsCursor};
+    ghost use Rattle.std.specs.Prelude.{◌≡◌, ◌≤◌, ◌++◌, [], replicate, slice_set, OnOk, OnErr};
+    ghost use Rattle.byte_dfa.specs.Moves.{Follows, HasEnded, HasRow, IsCursor, added, cell_of, place};
 
     /// There is no row yet. Takes no memory.
     pub fn new(alloc: Global) -> Cells
@@ -44,32 +47,39 @@ impl Cells {
         }
     }
 
-    /// Adds a row of moves that are not known.
+    /// Adds a row of moves that are not known, and before the first one two rows that are stops.
     pub fn add_row(&mut self) -> Result<(), AllocError>
-        ensures ok { OnOk result (self.new ≡ self.old ++ replicate ROW UNKNOWN_CELL) }
+        ensures ok { OnOk result (self.new ≡ self.old ++ replicate (added self.old) UNKNOWN_CELL) }
         ensures err { OnErr result (self.new ≡ self.old) }
     {
-        let len = self.cells.len() + ROW;
-        self.cells.resize(len, UNKNOWN_CELL)
+        let len = self.cells.len();
+        let rows = if len == 0 { FIRST_ROW + ROW } else { ROW };
+        let cells = UNIT * rows;
+        // a quarter more than there are, not as many again
+        if self.cells.capacity() < len + cells {
+            self.cells.reserve_exact(cells.max(len / 4))?;
+        }
+        self.cells.resize(len + cells, UNKNOWN_CELL)
     }
 
     /// The cell of a byte in a row.
     #[inline(always)]
-    pub fn cell(&self, row: usize, byte: u8) -> u32
+    pub fn cell(&self, row: usize, byte: u8) -> u16
         requires { HasRow self.now row }
-        ensures { result ≡ slice_index self.now (row + byte) }
+        ensures { result ≡ cell_of self.now row byte }
     {
-        self.cells[row + byte as usize]
+        self.cells[UNIT * row + byte as usize]
     }
 
-    /// Writes the cell of a byte in a row: another row, or a stop.
+    /// Writes the cell of a byte in a row that is no stop: another row, or a stop.
     #[inline(always)]
-    pub fn set_cell(&mut self, row: usize, byte: u8, cell: u32)
+    pub fn set_cell(&mut self, row: usize, byte: u8, cell: u16)
         requires row { HasRow self.old row }
-        requires cell { cell < STOP → HasRow self.old cell }
-        ensures { self.new ≡ slice_set self.old (row + byte) cell }
+        requires no_stop { FIRST_ROW ≤ row }
+        requires cell { HasRow self.old cell }
+        ensures { self.new ≡ slice_set self.old (place row byte) cell }
     {
-        self.cells[row + byte as usize] = cell;
+        self.cells[UNIT * row + byte as usize] = cell;
     }
 
     /// Goes up to the end of the piece, by windows and by single moves, or to a stop.

@@ -1,6 +1,6 @@
 //! Four runs over a piece at once, three of them begun at a guess (README.md says why, and when what such a run did counts).
 ghost use Rattle.std.specs.Prelude.{◌≡◌, ◌+◌, ◌<◌, ◌≤◌, length, IfSome};
-ghost use Rattle.byte_dfa.specs.Moves.{Follows, HasRow, IsCursor, IsSpot, LeadToRows, MovesLead};
+ghost use Rattle.byte_dfa.specs.Moves.{Follows, HasRow, IsCursor, IsSpot, IsTable, MovesLead};
 ghost use Rattle.byte_dfa.specs.Runs.{AreSpots, HasRun, HaveRun};
 
 use crate::moves::{Cursor, STOP, cell_at, run};
@@ -38,8 +38,8 @@ struct Spots {
 
 /// Goes on by four runs where the piece is long enough, else not at all. Runs that are guessed begin in the row `home`.
 #[inline(never)]
-pub(crate) fn run_by_four(cells: &[u32], piece: &[u8], from: Cursor, home: usize) -> Cursor
-    requires cells { LeadToRows cells.now }
+pub(crate) fn run_by_four(cells: &[u16], piece: &[u8], from: Cursor, home: usize) -> Cursor
+    requires cells { IsTable cells.now }
     requires cursor { IsCursor cells.now piece.now from }
     requires home { HasRow cells.now home }
     ensures { Follows cells.now piece.now from result }
@@ -60,8 +60,8 @@ pub(crate) fn run_by_four(cells: &[u32], piece: &[u8], from: Cursor, home: usize
 }
 
 /// Where four runs begin, the first of which was led in from a cursor; `None` where that is not worth while.
-fn lead_in(cells: &[u32], piece: &[u8], from: Cursor, home: usize) -> Option<Spots>
-    requires cells { LeadToRows cells.now }
+fn lead_in(cells: &[u16], piece: &[u8], from: Cursor, home: usize) -> Option<Spots>
+    requires cells { IsTable cells.now }
     requires cursor { IsCursor cells.now piece.now from }
     requires home { HasRow cells.now home }
     ensures first { IfSome result (λ to.
@@ -98,8 +98,8 @@ fn lead_in(cells: &[u32], piece: &[u8], from: Cursor, home: usize) -> Option<Spo
 }
 
 /// Moves four runs until one of them comes to the beginning of the next one or to the end of the piece, or would stop.
-fn run_all(cells: &[u32], piece: &[u8], begun: Spots) -> Spots
-    requires cells { LeadToRows cells.now }
+fn run_all(cells: &[u16], piece: &[u8], begun: Spots) -> Spots
+    requires cells { IsTable cells.now }
     requires spots { AreSpots cells.now piece.now begun }
     ensures { HaveRun cells.now piece.now begun result }
 {
@@ -118,8 +118,8 @@ fn run_all(cells: &[u32], piece: &[u8], begun: Spots) -> Spots
 }
 
 /// Where four runs stand after so many moves each; `None` where one of them stops before.
-fn move_all(cells: &[u32], piece: &[u8], from: Spots, len: usize) -> Option<Spots>
-    requires cells { LeadToRows cells.now }
+fn move_all(cells: &[u16], piece: &[u8], from: Spots, len: usize) -> Option<Spots>
+    requires cells { IsTable cells.now }
     requires spots { AreSpots cells.now piece.now from }
     requires first { from.first.at + len ≤ length piece.now }
     requires second { from.second.at + len ≤ length piece.now }
@@ -134,20 +134,15 @@ fn move_all(cells: &[u32], piece: &[u8], from: Spots, len: usize) -> Option<Spot
     let mut fourth = from.fourth.row;
     let mut moves = 0;
     'moves: while moves < len {
-        let one = cell_at(cells, first, piece[from.first.at + moves]);
-        let two = cell_at(cells, second, piece[from.second.at + moves]);
-        let three = cell_at(cells, third, piece[from.third.at + moves]);
-        let four = cell_at(cells, fourth, piece[from.fourth.at + moves]);
-        // the highest bit of a cell is set where it is no row, and then it is set in the `or` of all four
-        let all = one | two | three | four;
-        if all >= STOP {
-            return None;
-        }
-        first = one as usize;
-        second = two as usize;
-        third = three as usize;
-        fourth = four as usize;
+        first = cell_at(cells, first, piece[from.first.at + moves]) as usize;
+        second = cell_at(cells, second, piece[from.second.at + moves]) as usize;
+        third = cell_at(cells, third, piece[from.third.at + moves]) as usize;
+        fourth = cell_at(cells, fourth, piece[from.fourth.at + moves]) as usize;
         moves += 1;
+    }
+    // from a stop no move leads back
+    if first.min(second).min(third).min(fourth) <= STOP as usize {
+        return None;
     }
     Some(Spots {
         first: Spot {
@@ -170,8 +165,8 @@ fn move_all(cells: &[u32], piece: &[u8], from: Spots, len: usize) -> Option<Spot
 }
 
 /// Goes on to where another run began, and on to where that one ended if it began in this row.
-fn join(cells: &[u32], piece: &[u8], from: Cursor, begun: Spot, ended: Spot) -> Cursor
-    requires cells { LeadToRows cells.now }
+fn join(cells: &[u16], piece: &[u8], from: Cursor, begun: Spot, ended: Spot) -> Cursor
+    requires cells { IsTable cells.now }
     requires cursor { IsCursor cells.now piece.now from }
     requires begun { IsSpot cells.now piece.now begun.at begun.row }
     requires run { HasRun cells.now piece.now begun ended }

@@ -1,9 +1,13 @@
 //! A run by single moves.
-ghost use Rattle.std.specs.Prelude.{◌≡◌, ◌⊎◌, ◌+◌, ◌<◌, ◌≤◌, length, slice_index};
-ghost use Rattle.byte_dfa.specs.Moves.{Accepts, Follows, IsCursor, LeadToRows};
+ghost use Rattle.std.specs.Prelude.{◌≡◌, ◌⊎◌, ◌<◌, ◌≤◌, length, slice_index};
+ghost use Rattle.byte_dfa.specs.Moves.{Accepts, Follows, IsCursor, IsTable, cell_of, place};
 
-/// A cell where a run ends. Greater than each row, which the sign of a cell alone tells.
-pub const STOP: u32 = 0x8000_0000;
+/// By how many cells the rows of two numbers that follow each other lie apart. So the numbers that 16 bits have are enough for a thousand
+/// rows, and a cell is found by one addition.
+pub const UNIT: usize = 4;
+
+/// The stop for a byte at which there is no move. A run ends at each cell up to this one.
+pub const STOP: u16 = 66;
 
 /// Where a run over a piece of bytes stands.
 #[derive(Clone, Copy)]
@@ -41,14 +45,14 @@ pub fn come_to(cursor: Cursor, at: usize, row: usize) -> Cursor
 
 /// Makes single moves up to an offset.
 #[inline(never)]
-pub(crate) fn run(cells: &[u32], piece: &[u8], from: Cursor, to: usize) -> Cursor
-    requires cells { LeadToRows cells.now }
+pub(crate) fn run(cells: &[u16], piece: &[u8], from: Cursor, to: usize) -> Cursor
+    requires cells { IsTable cells.now }
     requires cursor { IsCursor cells.now piece.now from }
     requires to { to ≤ length piece.now }
     ensures follows { Follows cells.now piece.now from result }
     ensures to { from.at ≤ to → result.at ≤ to }
     ensures end { (to ≤ result.at)
-        ⊎ (STOP ≤ slice_index cells.now (result.row + slice_index piece.now result.at)) }
+        ⊎ (cell_of cells.now result.row (slice_index piece.now result.at) ≤ STOP) }
 {
     let mut at = from.at;
     let mut row = from.row;
@@ -56,7 +60,7 @@ pub(crate) fn run(cells: &[u32], piece: &[u8], from: Cursor, to: usize) -> Curso
     let mut accepted_row = from.accepted_row;
     'bytes: while at < to {
         let cell = cell_at(cells, row, piece[at]);
-        if cell >= STOP {
+        if cell <= STOP {
             break;
         }
         row = cell as usize;
@@ -76,10 +80,10 @@ pub(crate) fn run(cells: &[u32], piece: &[u8], from: Cursor, to: usize) -> Curso
 
 /// The cell of a byte in a row. The column comes first, so that a move waits for nothing but its row.
 #[inline(always)]
-pub(crate) fn cell_at(cells: &[u32], row: usize, byte: u8) -> u32
-    requires { row + byte < length cells.now }
-    ensures { result ≡ slice_index cells.now (row + byte) }
+pub(crate) fn cell_at(cells: &[u16], row: usize, byte: u8) -> u16
+    requires { place row byte < length cells.now }
+    ensures { result ≡ cell_of cells.now row byte }
 {
     let column = &cells[byte as usize..];
-    column[row]
+    column[UNIT * row]
 }

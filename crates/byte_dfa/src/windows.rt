@@ -1,6 +1,6 @@
 //! A run by windows of a few bytes, each begun in a guessed row, which counts where the run comes to it (README.md says why).
 ghost use Rattle.std.specs.Prelude.{◌≡◌, ◌⊎◌, ◌+◌, ◌<◌, ◌≤◌, length, slice_index, IfSome};
-ghost use Rattle.byte_dfa.specs.Moves.{Follows, HasEnded, IsCursor, IsSpot, LeadToRows, MovesLead};
+ghost use Rattle.byte_dfa.specs.Moves.{Follows, HasEnded, IsCursor, IsSpot, IsTable, MovesLead};
 
 use crate::moves::{Cursor, STOP, cell_at, come_to, run};
 use std::alloc::Global;
@@ -20,7 +20,7 @@ const LEG: usize = 8_192;
 /// At a place of some bytes the row that was met last behind such bytes, or anything: a wrong one costs time alone.
 #[derive(Drop)]
 pub struct Guesses {
-    pub(crate) rows: Vec<u32>,
+    pub(crate) rows: Vec<u16>,
 }
 
 impl Guesses {
@@ -45,8 +45,8 @@ impl Guesses {
 
 /// Goes up to the end of the piece: by windows, and by single moves where they end. Single moves see all rows that they come to, windows
 /// those at their ends. So behind a leg in which windows come to no row that accepts, single moves go on until they come to one.
-pub(crate) fn run_to_end(cells: &[u32], piece: &[u8], guesses: &mut [u32], from: Cursor) -> Cursor
-    requires cells { LeadToRows cells.now }
+pub(crate) fn run_to_end(cells: &[u16], piece: &[u8], guesses: &mut [u16], from: Cursor) -> Cursor
+    requires cells { IsTable cells.now }
     requires cursor { IsCursor cells.now piece.now from }
     ensures follows { Follows cells.now piece.now from result }
     ensures end { HasEnded cells.now piece.now result }
@@ -72,8 +72,8 @@ pub(crate) fn run_to_end(cells: &[u32], piece: &[u8], guesses: &mut [u32], from:
 /// The same cursor, behind windows and single moves. Where these came to no row that accepts, the last one is looked for that windows went
 /// over: at most two legs of them are gone over again.
 #[inline(always)]
-fn noted(cells: &[u32], piece: &[u8], begun: Cursor, near: Cursor, end: Cursor) -> Cursor
-    requires cells { LeadToRows cells.now }
+fn noted(cells: &[u16], piece: &[u8], begun: Cursor, near: Cursor, end: Cursor) -> Cursor
+    requires cells { IsTable cells.now }
     requires begun { IsCursor cells.now piece.now begun }
     requires near { Follows cells.now piece.now begun near }
     requires end { Follows cells.now piece.now near end }
@@ -97,8 +97,8 @@ fn noted(cells: &[u32], piece: &[u8], begun: Cursor, near: Cursor, end: Cursor) 
 /// Goes by whole windows, up to one that is cut off by the end of the piece or by a stop, or to the end of a leg in which none came to a
 /// row that accepts.
 #[inline(never)]
-fn run_by_windows(cells: &[u32], piece: &[u8], guesses: &mut [u32], from: Cursor) -> Cursor
-    requires cells { LeadToRows cells.now }
+fn run_by_windows(cells: &[u16], piece: &[u8], guesses: &mut [u16], from: Cursor) -> Cursor
+    requires cells { IsTable cells.now }
     requires cursor { IsCursor cells.now piece.now from }
     ensures { Follows cells.now piece.now from result }
 {
@@ -120,7 +120,7 @@ fn run_by_windows(cells: &[u32], piece: &[u8], guesses: &mut [u32], from: Cursor
             if row == guess {
                 cursor = come_to(cursor, cursor.at + WINDOW, guess);
             } else {
-                guesses[place] = row as u32;
+                guesses[place] = row as u16;
                 cursor = come_to(cursor, cursor.at + WINDOW, row);
             }
         }
@@ -131,24 +131,23 @@ fn run_by_windows(cells: &[u32], piece: &[u8], guesses: &mut [u32], from: Cursor
     cursor
 }
 
-/// The row behind a window; `None` where a run ends within.
+/// The row behind a window; `None` where a run ends within: from a stop no move leads back.
 #[inline(always)]
-fn move_window(cells: &[u32], piece: &[u8], at: usize, row: usize) -> Option<usize>
-    requires cells { LeadToRows cells.now }
+fn move_window(cells: &[u16], piece: &[u8], at: usize, row: usize) -> Option<usize>
+    requires cells { IsTable cells.now }
     requires spot { IsSpot cells.now piece.now at row }
     requires within { at + WINDOW ≤ length piece.now }
     ensures leads { IfSome result (MovesLead cells.now piece.now at row (at + WINDOW)) }
-    ensures below { IfSome result (λ come. come < STOP) }
+    ensures below { IfSome result (λ come. come < 65536) }
 {
     let mut now = row;
     let mut moves = 0;
     'moves: while moves < WINDOW {
-        let cell = cell_at(cells, now, piece[at + moves]);
-        if cell >= STOP {
-            return None;
-        }
-        now = cell as usize;
+        now = cell_at(cells, now, piece[at + moves]) as usize;
         moves += 1;
+    }
+    if now <= STOP as usize {
+        return None;
     }
     Some(now)
 }

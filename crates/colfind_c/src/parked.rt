@@ -33,7 +33,13 @@ fn search_chunk<'a, W: Weights>(
     ensures fed { (ranges : List (ℕ × ℕ)) × Feeds search.old chunk.now result ranges search.new
         × Gets queue.old ranges queue.new }
 {
-    search.feed_with(chunk, found, &mut |start, end| queue.put(start, end))
+    search.feed_with(
+        chunk,
+        found,
+        &mut |start, end|
+            ensures got { Gets queue.entry.now ((start, end) ∷ []) queue.exit.now }
+        { queue.put(start, end) },
+    )
 }
 
 /// Feeds a piece to a search, and puts the ranges that became known into the queue. `found` is room that it uses.

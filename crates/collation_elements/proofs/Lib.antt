@@ -23,4 +23,5 @@ pub mod ContextWeights
 pub mod Apart
 pub mod Pairs
 pub mod CharacterLaws
+pub mod LonePoints
 pub mod TextLemmas

@@ -5,10 +5,11 @@ ghost use Rattle.std.specs.Option.{option_to_list};
 ghost use Rattle.nfd_points.specs.Reordering.{IsSoundPoint};
 ghost use Rattle.collation_elements.specs.declared.keys.Item.{Item};
 ghost use Rattle.collation_elements.specs.declared.keys.Key.{Key};
+ghost use Rattle.collation_elements.specs.Elements.{begins_primary};
 ghost use Rattle.collation_elements.specs.Units.{units};
 ghost use Rattle.collation_elements.specs.Items.{items};
 ghost use Rattle.collation_elements.specs.ItemParts.{item_keys};
-ghost use Rattle.collation_elements.specs.CharacterItems.{AreItemsOfPoints, BeginsOnce, character_items};
+ghost use Rattle.collation_elements.specs.CharacterItems.{AreItemsOfPoints, AreSameBehindVariable, BeginsOnce, character_items};
 ghost use Rattle.collation_elements.specs.ShortItems.{listed};
 ghost use Rattle.collation_elements.specs.Weighing.{weigher, after_units, value_items, weigher_after};
 
@@ -18,7 +19,7 @@ use crate::unit::Unit;
 use crate::weigher::{MOST_ITEMS, Weigher};
 use crate::window::Window;
 use arrayvec::ArrayVec;
-use collation_table::Weights;
+use collation_table::{Element, Weights};
 use nfd_points::Point;
 
 /// The start of a cluster, and as many keys as `CharacterItems` has room for.
@@ -39,10 +40,18 @@ pub struct CharacterItems {
     pub after_variable: bool,
 }
 
+const NO_ITEMS: CharacterItems = CharacterItems {
+    begins_cluster: false,
+    first: None,
+    second: None,
+    third: None,
+    after_variable: false,
+};
+
 impl CharacterItems {
     /// The items of these points by themselves, which this weigher weighs next; `None` where they have more than three keys, or a
-    /// cluster begins after the first of them. The points go through the window, which is then as it was. Their offsets are counted in
-    /// bytes from the start of the first character.
+    /// cluster begins after the first of them. The window is then as it was: points go through it where one of them may begin a longer
+    /// string of the table or has more than one key. Their offsets are counted in bytes from the start of the first character.
     pub fn of_points<W: Weights>(
         table: &W,
         window: &mut Window,
@@ -61,11 +70,74 @@ impl CharacterItems {
             (units (W.table table.now) points.now) in
             IfNone result (BeginsOnce points.now → 3 < length (item_keys all)) }
     {
+        let lone = CharacterItems::of_lone(table, weigher, points);
+        if lone.is_some() {
+            return lone;
+        }
         window.push_all(points);
         window.end();
         let gathered = gather(table, window, &mut weigher);
         window.clear();
         CharacterItems::of_items(gathered?.as_slice(), weigher.after_variable())
+    }
+
+    /// The items of points each of which is a unit by itself with one key at most, without the window; `None` where one may be none, or
+    /// these are more than the start of a cluster at 0 and three keys.
+    #[inline(always)]
+    fn of_lone<W: Weights>(
+        table: &W,
+        mut weigher: Weigher,
+        points: &[Point],
+    ) -> Option<CharacterItems>
+        requires sound { All IsSoundPoint points.now }
+        ensures items { IfSome result
+            (λ it. AreItemsOfPoints (W.table table.now) weigher points.now it) }
+    {
+        let mut all = NO_ITEMS;
+        for point in points {
+            let row = table.lone_row(point.cp)?;
+            let unit = Unit::of_one(table, *point, row);
+            let short = weigher.take_short(&unit)?;
+            all = all.with(short)?;
+        }
+        all.after_variable = weigher.after_variable();
+        Some(all)
+    }
+
+    /// These items and those of one unit more; `None` where there is no room, or a cluster begins behind 0 or behind others.
+    #[inline(always)]
+    fn with(mut self, short: ShortItems) -> Option<CharacterItems>
+        ensures { IfSome result
+            (λ it. character_items it 0 ≡ character_items self 0 ++ listed short) }
+    {
+        if let Some(start) = short.start {
+            if start > 0 || self.has_any() {
+                return None;
+            }
+            self.begins_cluster = true;
+        }
+        let Some(key) = short.key else {
+            return Some(self);
+        };
+        if self.third.is_some() {
+            return None;
+        }
+        if self.second.is_some() {
+            self.third = Some(key);
+        } else if self.first.is_some() {
+            self.second = Some(key);
+        } else {
+            self.first = Some(key);
+        }
+        Some(self)
+    }
+
+    /// Whether there are any.
+    #[inline(always)]
+    fn has_any(&self) -> bool
+        ensures { result ≡ false → character_items self.now 0 ≡ [] }
+    {
+        self.begins_cluster || self.first.is_some() || self.second.is_some() || self.third.is_some()
     }
 
     /// These items, with the flag after them; `None` where they are more than the start of a cluster at 0 and three keys.
@@ -91,6 +163,32 @@ impl CharacterItems {
             third,
             after_variable,
         })
+    }
+}
+
+/// Whether the first of these points is a unit by itself that has a primary weight first: then their items are the same whether or not
+/// the last element before them that was variable or primary was variable. `false` says nothing.
+pub fn begin_anew<W: Weights>(table: &W, points: &[Point]) -> bool
+    requires sound { All IsSoundPoint points.now }
+    ensures anew { result ≡ true → AreSameBehindVariable (W.table table.now) points.now }
+{
+    let [point, ..] = points else {
+        return false;
+    };
+    let Some(row) = table.lone_row(point.cp) else {
+        return false;
+    };
+    let unit = Unit::of_one(table, *point, row);
+    begins_primary(unit.elements())
+}
+
+/// Whether the first element of a row has a primary weight.
+fn begins_primary(row: &[Element]) -> bool
+    ensures { result ≡ begins_primary row.now }
+{
+    match row {
+        [] => false,
+        [first, ..] => first.w1 > 0,
     }
 }
 

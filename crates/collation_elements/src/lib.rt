@@ -29,7 +29,7 @@ mod weigher;
 mod window;
 pub mod worked;
 
-pub use crate::character::CharacterItems;
+pub use crate::character::{CharacterItems, begin_anew};
 pub use crate::context::{clusters_are_parts, clusters_begin_afresh, parts_join};
 pub use crate::keys::{Item, Key};
 pub use crate::laws::{

@@ -1,15 +1,17 @@
 -- A matcher that goes over letters.
-use Rattle.std.specs.Prelude.{◌≡◌, ℕ, ◌+◌, ◌-◌, ◌≤◌, true, List, [], ◌∷◌, ◌++◌, length, take, drop}
+use Rattle.std.specs.Prelude.{◌≡◌, ℕ, ◌+◌, ◌-◌, ◌<◌, ◌≤◌, Bool, false, true, List, [], ◌∷◌, ◌++◌, length, take, drop}
 use Rattle.std.specs.Char.{len_utf8}
 use Rattle.std.specs.Str.{chars, IsUtf8}
 use Rattle.utf8_cut.specs.Sequences.{SpellsCharacter}
 use Rattle.nfd_points.specs.Points.{points_of, begins_with_starter}
 use Rattle.collation_elements.specs.Units.{units}
+use Rattle.collation_elements.specs.Weighing.{is_after_variable}
 use Rattle.collation_letters.specs.declared.letter.Letter.{Letter}
 use Rattle.collation_letters.specs.Letters.{IsLetter, ordered_from}
 use Rattle.collation_letters.specs.Apart.{IsNext}
 use Rattle.collation_table.specs.Table.{TableMap}
 use Rattle.collation_pattern.specs.Compiled.{Compiled}
+use Rattle.collation_matches.specs.GoodPrefix.{most_bytes}
 use Rattle.collation_walk.specs.declared.matching.Matcher.{Matcher}
 use Rattle.collation_walk.specs.Walked.{HasWalkedOn}
 use Rattle.collation_finder.specs.declared.letter_loop.Front.{Front}
@@ -39,6 +41,11 @@ pub record ReadsLetter (table : TableMap) (pattern : Compiled) (piece : List ℕ
   pub letter : IsLetter table pattern (chars (take walked.len piece)) all
   pub followed : IsFollowed table pattern piece walked
 
+-- these characters, which have a letter, and one more are one letter
+abbrev pub IsJoined : TableMap → Compiled → List ℕ → Letter → ℕ → Letter → Letter → Type 0
+IsJoined table pattern cs letter c following both =
+    IsLetter table pattern cs letter → IsLetter table pattern (c ∷ []) following → IsLetter table pattern (cs ++ c ∷ []) both
+
 -- A matcher that went over characters at the front of a piece, which stands at an offset, stands before the character c: these
 -- have so many bytes, and no unit reaches from them to c.
 pub record HasComeTo (table : TableMap) (pattern : Compiled) (piece : List ℕ) (offset reach first : ℕ) (matcher now : Matcher) (at c : ℕ) (ranges : List (ℕ × ℕ)) : Type 0 where
@@ -60,10 +67,29 @@ pub record AreNext (table : TableMap) (piece : List ℕ) (offset reach at to c n
   pub first : (others : List ℕ) × (chars (take (to - at) (drop at piece)) ≡ c ∷ others)
   pub ends : IsNext table (offset + at) (chars (take (to - at) (drop at piece))) next
 
+-- the same of what was walked over of the front of a piece
+abbrev pub HasWalkedTo : TableMap → Compiled → Front → ℕ → Matcher → Matcher → Walked → List (ℕ × ℕ) → Type 0
+HasWalkedTo table pattern front first matcher now to ranges = HasComeTo table pattern front.piece.now front.offset front.reach first matcher now to.len to.next ranges
+
+-- Behind what was walked over no key waits, and the last element that was variable or primary was not variable: text may be passed by.
+pub record MayPassBy (table : TableMap) (pattern : Compiled) (front : Front) (now : Matcher) (from : Walked) : Type 0 where
+  pub near : from.len ≤ front.reach
+  pub first : IsFirstLetter table pattern (drop from.len front.piece.now) (front.offset + from.len) from.next from.letter
+  pub later : 0 < front.offset + from.len
+  pub fits : front.offset + length front.piece.now ≤ most_bytes
+  pub state : now.walk.state ≡ 0
+  pub flag : is_after_variable now.weigher ≡ false
+
+-- A matcher that has come to a character walks on to another one, whatever it went over before, and hands out these ranges; text may be passed
+-- by from there on, if that is said.
+pub record WalksOn (table : TableMap) (pattern : Compiled) (front : Front) (matcher now : Matcher) (from : Walked) (to : Walked × Bool) (ranges : List (ℕ × ℕ)) : Type 0 where
+  pub come : (first : ℕ) (before : Matcher) (earlier : List (ℕ × ℕ)) → HasWalkedTo table pattern front first before matcher from earlier
+      → HasWalkedTo table pattern front first before now to.0 (earlier ++ ranges)
+  pub due : to.1 ≡ true → (from.len < to.0.len) × MayPassBy table pattern front now to.0
+
 -- A matcher that has come to a character goes on to another one, whatever it went over before, and no range ends between them.
 pub record PassesOn (table : TableMap) (pattern : Compiled) (front : Front) (matcher now : Matcher) (from to : Walked) : Type 0 where
-  pub come : (first : ℕ) (before : Matcher) (ranges : List (ℕ × ℕ)) →
-      HasComeTo table pattern front.piece.now front.offset front.reach first before matcher from.len from.next ranges →
-      HasComeTo table pattern front.piece.now front.offset front.reach first before now to.len to.next ranges
+  pub come : (first : ℕ) (before : Matcher) (ranges : List (ℕ × ℕ)) → HasWalkedTo table pattern front first before matcher from ranges
+      → HasWalkedTo table pattern front first before now to ranges
   pub forth : from.len ≤ to.len
   pub letter : IsLetter table pattern (to.next ∷ []) to.letter

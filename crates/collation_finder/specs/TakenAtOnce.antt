@@ -22,11 +22,6 @@ pub record CanBeTakenAtOnce (table : TableMap) (start : ℕ) (cs : List ℕ) (ne
   pub good : point_fault cs ≡ None
   pub ends : EndsBefore table (ordered_from start cs) (start + byte_len cs) next
 
--- A character that stands at a byte offset begins with a starter, and no unit reaches into it, whatever text stands before it.
-pub record BeginsUnit (table : TableMap) (offset c : ℕ) : Type 0 where
-  pub starter : begins_with_starter (points_of offset c) ≡ true
-  pub ends : (taken : List ℕ) → offset ≡ byte_len taken → EndsBefore table (points taken) (byte_len taken) c
-
 -- a point's code point is its own decomposition
 abbrev pub IsDecomposed : Point → Type 0
 IsDecomposed p = decomposition p.cp ≡ p.cp ∷ []

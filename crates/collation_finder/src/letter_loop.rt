@@ -1,16 +1,15 @@
 //! The loop over letters: characters whose units, keys and cluster starts are their own, one after the other.
-ghost use Rattle.std.specs.Prelude.{◌≡◌, ℕ, ◌+◌, ◌<◌, ◌≤◌, List, [], ◌∷◌, ◌++◌, length, drop, false, IfSome};
-ghost use Rattle.std.specs.Char.{len_utf8};
-ghost use Rattle.collation_letters.specs.Letters.{IsLetter};
+ghost use Rattle.std.specs.Prelude.{◌≡◌, ◌+◌, ◌-◌, ◌≤◌, length, take, drop, IfSome};
+ghost use Rattle.std.specs.Str.{chars};
 ghost use Rattle.collation_letters.specs.Store.{AreLetters};
 ghost use Rattle.collation_matches.specs.GoodPrefix.{most_bytes};
 ghost use Rattle.collation_finder.specs.Caches.{IsCacheRight};
-ghost use Rattle.collation_finder.specs.LetterRun.{IsFirstLetter, HasComeTo, PassesOn};
-ghost use Rattle.collation_elements.specs.Weighing.{is_after_variable};
+ghost use Rattle.collation_finder.specs.LetterRun.{IsFirstLetter, IsFollowed, HasWalkedTo, IsJoined, MayPassBy, PassesOn, WalksOn};
 ghost use Rattle.collation_walk.specs.HandingOut.{HandsOut};
 ghost use Rattle.collation_walk.specs.Walks.{KeepsWalk};
 
 use crate::cache::Cache;
+use crate::reading::with_mark;
 use collation_letters::{Letter, Letters, is_next, laws_of_characters};
 use collation_table::Weights;
 use collation_walk::{Matcher, Query, walk_letter};
@@ -42,7 +41,8 @@ pub struct Front<'a> {
 }
 
 /// Walks over characters at the front of a piece, of which the first is the one that follows `from`, as long as no unit reaches from one
-/// to the next, and that does not begin after `reach`. It answers how many bytes these have, and the character that follows.
+/// to the next, and that does not begin after `reach`; text in which no match can lie is passed by. It answers how many bytes these have,
+/// and the character that follows.
 #[inline(never)]
 pub(crate) fn walk_letters<W: Weights, F: FnMut(u64, u64)>(
     matcher: &mut Matcher,
@@ -59,92 +59,101 @@ pub(crate) fn walk_letters<W: Weights, F: FnMut(u64, u64)>(
     requires state { matcher.old.walk.state ≤ length query.now.pattern.now.keys }
     requires callable { F.IsAlwaysCallable sink.old }
     ensures come { HandsOut F.step sink.old sink.new
-        (HasComeTo (W.table query.now.table.now) query.now.pattern.now
-        front.entry.piece.now front.entry.offset front.entry.reach from.next matcher.old matcher.new
-        result.len result.next) }
+        (HasWalkedTo (W.table query.now.table.now) query.now.pattern.now
+        front.entry from.next matcher.old matcher.new result) }
     ensures right { IsCacheRight (W.table query.now.table.now) query.now.pattern.now cache.new }
     ensures keeps { KeepsWalk query.now.pattern.now matcher.old.walk matcher.new.walk }
     ensures callable { F.IsAlwaysCallable sink.new }
 {
     laws_of_characters();
-    let Front {
-        piece,
-        offset,
-        reach,
-        one_range,
-    } = front;
-    let mut at = 0;
-    let mut c = from.next;
-    let mut end = c.len_utf8();
-    let mut letter = from.letter;
+    let mut here = Walked {
+        len: 0,
+        next: from.next,
+        letter: from.letter,
+    };
     // the next character begins after `reach`: none is walked over
-    if reach < end {
-        return Walked {
-            len: 0,
-            next: c,
-            letter,
-        };
+    if front.reach < from.next.len_utf8() {
+        return here;
     }
     let mut due = cache.skip.pace.due();
+    'runs: loop {
+        let (walked, is_due) = walk_run(matcher, query, &mut cache.letters, front, here, due, sink);
+        if !is_due {
+            return walked;
+        }
+        here = pass_by(matcher, query, cache, front, walked);
+        due = cache.skip.pace.wait_from(here.len);
+    }
+}
+
+/// Walks over characters of a piece from the one that follows `from` on, as [`walk_letters`] does. It answers how many bytes these have with
+/// those before, the character that follows, and whether text may be passed by from there on, which is behind `due` bytes or more, where no
+/// key waits, and `SHORTEST` bytes or more before `reach`.
+#[inline(always)]
+fn walk_run<W: Weights, F: FnMut(u64, u64)>(
+    matcher: &mut Matcher,
+    query: &Query<'_, W>,
+    letters: &mut Letters,
+    front: Front<'_>,
+    from: Walked,
+    due: usize,
+    sink: &mut F,
+) -> (Walked, bool)
+    requires followed { IsFollowed (W.table query.now.table.now) query.now.pattern.now
+        front.piece.now from }
+    requires right { AreLetters (W.table query.now.table.now) query.now.pattern.now letters.old }
+    requires fits { front.offset + length front.piece.now ≤ most_bytes }
+    requires state { matcher.old.walk.state ≤ length query.now.pattern.now.keys }
+    requires callable { F.IsAlwaysCallable sink.old }
+    ensures walks { HandsOut F.step sink.old sink.new
+        (WalksOn (W.table query.now.table.now) query.now.pattern.now
+        front.entry matcher.old matcher.new from result) }
+    ensures right { AreLetters (W.table query.now.table.now) query.now.pattern.now letters.new }
+    ensures keeps { KeepsWalk query.now.pattern.now matcher.old.walk matcher.new.walk }
+    ensures callable { F.IsAlwaysCallable sink.new }
+{
+    laws_of_characters();
+    // the characters from `here.len` on to `end`, of which the first is `here.next`, have the letter `here.letter`
+    let piece = front.piece;
+    let mut here = from;
+    let mut end = here.len + here.next.len_utf8();
     'characters: loop {
         let Some((next, len)) = sized_character(&piece[end..]) else {
             break;
         };
-        let following = cache.letters.letter(query.table, query.pattern, next);
-        if !is_next(&letter, &following) {
-            let Some(both) = join(
-                query,
-                &mut cache.letters,
-                &letter,
-                c,
-                end - at,
-                next,
-                &following,
-            ) else {
+        let following = letters.letter(query.table, query.pattern, next);
+        if !is_next(&here.letter, &following) {
+            let (at, letter) = (here.len, here.letter);
+            let Some(both) = join(query, letters, &letter, piece, at, end, next, &following) else {
                 break;
             };
-            letter = both;
+            here.letter = both;
             end += len;
             continue;
         }
-        if end > reach {
+        if end > front.reach {
             break;
         }
-        if walk_letter(matcher, query, &letter, offset + at as u64, sink) & one_range {
-            return Walked {
-                len: end,
-                next,
-                letter: following,
-            };
-        }
-        at = end;
-        end += len;
-        c = next;
-        letter = following;
-        if at < due
-            || matcher.walk.state != 0
-            || matcher.weigher.after_variable()
-            || reach - at < SHORTEST
-        {
-            continue;
-        }
-        let here = Walked {
-            len: at,
-            next: c,
-            letter,
+        let offset = front.offset + here.len as u64;
+        let has_range = walk_letter(matcher, query, &here.letter, offset, sink);
+        here = Walked {
+            len: end,
+            next,
+            letter: following,
         };
-        let behind = pass_by(matcher, query, cache, front, here);
-        at = behind.len;
-        c = behind.next;
-        end = at + c.len_utf8();
-        letter = behind.letter;
-        due = cache.skip.pace.wait_from(at);
+        if has_range & front.one_range {
+            return (here, false);
+        }
+        if end >= due
+            && matcher.walk.state == 0
+            && !matcher.weigher.after_variable()
+            && front.reach - end >= SHORTEST
+        {
+            return (here, true);
+        }
+        end += len;
     }
-    Walked {
-        len: at,
-        next: c,
-        letter,
-    }
+    (here, false)
 }
 
 /// Passes by text at the front of what is left of a piece behind `from`, where no key waits. It answers how many bytes the characters
@@ -157,14 +166,9 @@ fn pass_by<W: Weights>(
     front: Front<'_>,
     from: Walked,
 ) -> Walked
-    requires near { from.len ≤ front.reach }
-    requires first { IsFirstLetter (W.table query.now.table.now) query.now.pattern.now
-        (drop from.len front.piece.now) (front.offset + from.len) from.next from.letter }
-    requires later { 0 < front.offset + from.len }
-    requires fits { front.offset + length front.piece.now ≤ most_bytes }
+    requires may { MayPassBy (W.table query.now.table.now) query.now.pattern.now
+        front matcher.old from }
     requires right { IsCacheRight (W.table query.now.table.now) query.now.pattern.now cache.old }
-    requires state { matcher.old.walk.state ≡ 0 }
-    requires flag { is_after_variable matcher.old.weigher ≡ false }
     ensures passes { PassesOn (W.table query.now.table.now) query.now.pattern.now front.entry
         matcher.old matcher.new from result }
     ensures right { IsCacheRight (W.table query.now.table.now) query.now.pattern.now cache.new }
@@ -184,29 +188,32 @@ fn pass_by<W: Weights>(
     }
 }
 
-/// The letter of some characters, of which the first is `first`, and the one that follows them, where they are one unit: a mark that
-/// joins, or a mapped string of two characters; `None` where that is left to the steps.
+/// The letter of the characters of a piece from `at` on to `end`, which have this letter, and the one that follows them, where they are one
+/// unit: a mark that joins, or a mapped string of two characters; `None` where that is left to the steps. That the piece is given, and not
+/// these characters alone, keeps the loop from noting where they begin.
 #[inline(never)]
 fn join<W: Weights>(
     query: &Query<'_, W>,
     letters: &mut Letters,
     letter: &Letter,
-    first: char,
-    len: usize,
+    piece: &[u8],
+    at: usize,
+    end: usize,
     next: char,
     following: &Letter,
 ) -> Option<Letter>
+    requires within { (at ≤ end) × (end ≤ length piece.now) }
     requires right { AreLetters (W.table query.now.table.now) query.now.pattern.now letters.old }
-    ensures joined { IfSome result (λ both. (cs : List ℕ) → (len ≡ len_utf8 first → cs ≡ first ∷ [])
-        → IsLetter (W.table query.now.table.now) query.now.pattern.now cs letter.now
-        → IsLetter (W.table query.now.table.now) query.now.pattern.now (next ∷ []) following.now
-        → IsLetter (W.table query.now.table.now) query.now.pattern.now (cs ++ next ∷ []) both) }
+    ensures joined { IfSome result (IsJoined (W.table query.now.table.now) query.now.pattern.now
+        (chars (take (end - at) (drop at piece.now))) letter.now next following.now) }
     ensures right { AreLetters (W.table query.now.table.now) query.now.pattern.now letters.new }
 {
+    let so_far = &piece[at..end];
     if following.role.is_mark() {
-        return letter.with_mark(*following);
+        return with_mark(query, letters, so_far, letter, next, following);
     }
-    if len != first.len_utf8() {
+    let (first, len) = sized_character(so_far)?;
+    if len != so_far.len() {
         return None;
     }
     let pair = letters.pair(query.table, query.pattern, first, next);

@@ -2,23 +2,23 @@
 //! start of its cluster are then its own, whatever stands around it. What the window holds is cut before, as if the text ended
 //! there, and none of the characters comes into the window but the last one, and the ASCII behind it at
 //! the end of a piece. With these the steps go on.
-ghost use Rattle.std.specs.Prelude.{◌≡◌, ℕ, [], ◌∷◌, true, IfSome};
-ghost use Rattle.collation_table.specs.Table.{TableMap};
-ghost use Rattle.collation_pattern.specs.Compiled.{Compiled};
+ghost use Rattle.std.specs.Prelude.{◌≡◌, [], ◌∷◌, true, All, IfSome};
+ghost use Rattle.collation_table.specs.Table.{BeginsNoLongerString};
 ghost use Rattle.collation_letters.specs.Letters.{IsLetter};
 ghost use Rattle.collation_letters.specs.Store.{AreLetters};
-ghost use Rattle.collation_finder.specs.TakenAtOnce.{BeginsUnit};
 ghost use Rattle.collation_finder.specs.LetterRun.{IsFollowed, ReadsLetter, StandsInFront};
 
 use crate::cache::Cache;
 use crate::finder::Finder;
 use crate::letter_loop::{Front, Walked, walk_letters};
+use crate::reading::with_mark;
 use crate::short_piece::MOST_OF_SHORT_PIECE;
-use collation_elements::units_stay_apart;
+use collation_elements::{Window, units_stay_apart};
 use collation_letters::{Letter, Letters, is_next, laws_of_characters};
 use collation_table::Weights;
 use collation_walk::{Found, Query, hand_out};
-use nfd_points::laws::laws_of_points;
+use nfd_points::Point;
+use nfd_points::laws::{laws_of_points, laws_of_reordering};
 use utf8_cut::first_character;
 
 /// The character `c` at the front of a piece, which has this letter, with the marks behind it: their letter, and the character that
@@ -53,7 +53,12 @@ fn read_letter<W: Weights>(
                 },
             ));
         }
-        all = all.with_mark(following)?;
+        // nothing is read again here: this is only a look at what comes
+        all = if len == c.len_utf8() {
+            with_mark(query, letters, &piece[..len], &all, next, &following)?
+        } else {
+            all.with_mark(following)?
+        };
         len += next.len_utf8();
     }
 }
@@ -81,23 +86,40 @@ fn next_apart<W: Weights>(
     }
 }
 
-/// Whether it is known that no unit reaches into a character of this letter, which stands at a byte offset. At the beginning of a text
-/// it is enough that it begins with a starter: so text of Thai or Lao begins with a consonant, which may follow a vowel in one string.
-fn begins_unit(letter: &Letter, offset: u64) -> bool
-    ensures { result ≡ true → (table : TableMap) (pattern : Compiled) (c : ℕ)
-        → IsLetter table pattern (c ∷ []) letter.now → BeginsUnit table offset c }
+/// Whether it is known that no mapped string of two or more code points begins with one of these points.
+fn begin_none<W: Weights>(table: &W, points: &[Point]) -> bool
+    ensures { result ≡ true
+        → All (λ p. BeginsNoLongerString (W.table table.now) p.cp) points.now }
 {
-    laws_of_characters();
-    units_stay_apart();
-    if letter.is_apart {
-        return true;
+    for point in points {
+        if table.begins_longer_string(point.cp) {
+            return false;
+        }
     }
-    offset == 0 && letter.is_starter()
+    true
 }
 
-/// Whether it is worth while to begin with a character of this letter at the front of a piece: no unit reaches to it, the next one does
-/// not begin after `reach`, and no unit is seen to reach from it to what follows, nor from the next one, unless it is one letter with
-/// the character behind it.
+/// The most points of a window that are looked over before a letter: a hostile table makes it hold many.
+const MOST_LOOKED_OVER: usize = 8;
+
+/// The same of the points of a window, unless these are many.
+fn begin_none_in_window<W: Weights>(table: &W, window: &Window) -> bool
+    ensures { result ≡ true
+        → All (λ p. BeginsNoLongerString (W.table table.now) p.cp) window.now.points }
+{
+    if window.len() > MOST_LOOKED_OVER {
+        return false;
+    }
+    for i in 0..window.len() {
+        if table.begins_longer_string(window.point(i).cp) {
+            return false;
+        }
+    }
+    true
+}
+
+/// Whether it is worth while to begin with a character of this letter at the front of a piece: the next one does not begin after `reach`,
+/// and no unit is seen to reach from it to what follows, nor from the next one. Either may be one letter with the character behind it.
 fn can_begin<W: Weights>(
     query: &Query<'_, W>,
     letters: &mut Letters,
@@ -109,11 +131,9 @@ fn can_begin<W: Weights>(
     requires letter { IsLetter (W.table query.now.table.now) query.now.pattern.now
         (first ∷ []) letter }
     requires right { AreLetters (W.table query.now.table.now) query.now.pattern.now letters.old }
-    ensures begins { result ≡ true
-        → BeginsUnit (W.table query.now.table.now) front.entry.offset first }
     ensures right { AreLetters (W.table query.now.table.now) query.now.pattern.now letters.new }
 {
-    if !begins_unit(&letter, front.offset) || first.len_utf8() > front.reach {
+    if first.len_utf8() > front.reach {
         return false;
     }
     let piece = front.piece;
@@ -121,7 +141,7 @@ fn can_begin<W: Weights>(
         return true;
     }
     let Some(second) = next_apart(query, letters, piece, first, letter) else {
-        return false;
+        return joins_next(query, letters, piece, first, letter);
     };
     let piece = &piece[second.len..];
     next_apart(query, letters, piece, second.next, second.letter).is_some()
@@ -181,9 +201,12 @@ fn joins_next<W: Weights>(
 const MOST_IN_A_RUN: usize = 65_536;
 
 impl Finder {
-    ghost use Rattle.std.specs.Prelude.{◌≡◌, ◌+◌, ◌≤◌, [], length};
+    ghost use Rattle.std.specs.Prelude.{◌≡◌, ℕ, ◌+◌, ◌≤◌, [], ◌∷◌, length, true, false};
+    ghost use Rattle.collation_pattern.specs.Compiled.{Compiled};
+    ghost use Rattle.collation_letters.specs.Letters.{IsLetter};
     ghost use Rattle.collation_walk.specs.HandingOut.{HandsOut};
     ghost use Rattle.collation_finder.specs.LetterRun.{IsFirstLetter};
+    ghost use Rattle.collation_finder.specs.Pausing.{BeginsUnit};
     ghost use Rattle.collation_finder.specs.Caches.{IsCacheRight};
     ghost use Rattle.collation_matches.specs.GoodPrefix.{most_bytes};
     ghost use Rattle.collation_finder.specs.Finding.{IsReady};
@@ -255,6 +278,9 @@ impl Finder {
             return 0;
         };
         let letter = cache.letters.letter(query.table, query.pattern, first);
+        if !self.begins_unit(query.table, &letter) {
+            return 0;
+        }
         if !can_begin(query, &mut cache.letters, front, first, letter) {
             return 0;
         }
@@ -265,6 +291,30 @@ impl Finder {
             letter,
         };
         self.go_on(query, cache, front, from, found, sink)
+    }
+
+    /// Whether it is known that no unit reaches into a character of this letter that follows what it holds: out of whatever text stands before
+    /// it, or since no string of the table begins with a point that is held. So text of Thai or Lao may begin with a consonant, which may
+    /// follow a vowel in one string.
+    fn begins_unit<W: Weights>(&self, table: &W, letter: &Letter) -> bool
+        requires open { self.now.window.has_ended ≡ false }
+        ensures { result ≡ true → (pattern : Compiled) (offset c : ℕ)
+            → IsLetter (W.table table.now) pattern (c ∷ []) letter.now
+            → BeginsUnit (W.table table.now) pattern self.now offset c }
+    {
+        laws_of_characters();
+        laws_of_reordering();
+        units_stay_apart();
+        if letter.is_apart {
+            return true;
+        }
+        if !letter.is_starter() {
+            return false;
+        }
+        if !begin_none(table, self.reorder.waiting()) {
+            return false;
+        }
+        begin_none_in_window(table, &self.window)
     }
 
     /// Goes on behind a pause with the characters at the front of a piece, of which the first is the

@@ -17,6 +17,7 @@ mod letter_loop;
 mod letter_run;
 mod pausing;
 mod piece_end;
+mod reading;
 mod resuming;
 mod short_piece;
 

@@ -15,10 +15,10 @@ use Rattle.collation_elements.specs.Weighing.{after_units}
 use Rattle.collation_pattern.specs.Compiled.{Compiled}
 use Rattle.collation_letters.specs.declared.cluster.Cluster.{Cluster}
 use Rattle.collation_letters.specs.declared.letter.Letter.{Letter}
-use Rattle.collation_letters.specs.Letters.{begins_cluster, is_mark, flag_after, counted, here, ordered_from, keys_alone, IsKnown, IsLetterOf, IsLetter}
+use Rattle.collation_letters.specs.Letters.{begins_cluster, is_mark, flag_after, counted, here, ordered_from, keys_alone, IsLetterOf, IsLetter}
 use Rattle.collation_letters.specs.Symbols.{listed}
 use Rattle.collation_letters.specs.Clusters.{ContinuesNone, IsMarkOrNone, IsCluster}
-use Rattle.collation_letters.proofs.LetterLemmas.{have-keys}
+use Rattle.collation_letters.proofs.LetterLemmas.{have-keys, known-with, letter-with}
 use Rattle.collation_letters.proofs.JoiningLemmas.{mark-known, mark-begins_none, shifted-twice, only-one, one-ordered}
 
 reorderable : (a b : Point) → 0 < b.ccc → b.ccc < a.ccc → is_reorderable a b ≡ true
@@ -65,16 +65,8 @@ pub letter-of : (table : TableMap) (pattern : Compiled) (cs : List ℕ) (l : Let
 letter-of table pattern cs l h = record { closed = h.closed; known = h.known; plain = h.plain }
 
 -- and the other way, where nothing is said of units that reach into them
-known-without : (table : TableMap) (pattern : Compiled) (ps : List Point) (l : Letter) → IsKnown table pattern ps l → IsKnown table pattern ps (record l { is_apart = false })
-known-without table pattern ps l k = record { some = k.some; in_order = k.in_order; count = k.count; few = k.few; class = k.class; starter = k.starter; one = k.one; items = k.items }
-
 pub letter-from : (table : TableMap) (pattern : Compiled) (cs : List ℕ) (l : Letter) → IsLetterOf table pattern (ordered_from 0 cs) l → IsLetter table pattern cs (record l { is_apart = false })
-letter-from table pattern cs l h = record {
-  closed = h.closed;
-  apart = λ yes. absurd (false≢true yes);
-  known = λ some. known-without table pattern (ordered_from 0 cs) l (h.known some);
-  plain = h.plain;
-}
+letter-from table pattern cs l h = letter-with table pattern cs (ordered_from 0 cs) l false refl (λ yes. absurd (false≢true yes)) h
 
 pub cluster-without_apart : (table : TableMap) (pattern : Compiled) (ps : List Point) (it : Cluster) → IsCluster table pattern ps it →
     IsCluster table pattern ps (record { letter = record it.letter { is_apart = false }; base = it.base; before = it.before; last = it.last })
@@ -83,7 +75,7 @@ cluster-without_apart table pattern ps it h = record {
   before = h.before;
   last = h.last;
   all = h.all;
-  letter = record { closed = h.letter.closed; known = λ some. known-without table pattern ps it.letter (h.letter.known some); plain = h.letter.plain };
+  letter = record { closed = h.letter.closed; known = λ some. known-with table pattern ps it.letter false (h.letter.known some); plain = h.letter.plain };
   base = h.base;
   closed = h.closed;
   before_is = h.before_is;

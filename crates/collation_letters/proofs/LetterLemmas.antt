@@ -2,11 +2,10 @@
 use Rattle.std.specs.Option.{IfSome}
 use Rattle.std.specs.List.{All}
 use Rattle.std.proofs.Common.{◌≡◌, ◌≢◌, ◌∙◌, ℕ, ◌≤◌, Bool, true, false, cond, List, [], ◌∷◌, ◌++◌, length, map, Option, Some, None, refl, sym, ap, ap₂, subst, arith}
-use Rattle.std.proofs.lemmas.List.{append-nil}
 use Rattle.std.proofs.lemmas.List.Elements.{All-map}
 use Rattle.nfd_points.specs.declared.limits.TheConstants.{MOST_WAITING}
 use Rattle.nfd_points.specs.declared.points.Point.{Point}
-use Rattle.nfd_points.specs.Points.{decomposition, points_at, points_of, points_from, shifted, is_in_order, begins_with_starter}
+use Rattle.nfd_points.specs.Points.{decomposition, points_of, points_from, shifted, is_in_order, begins_with_starter}
 use Rattle.nfd_points.specs.Laws.{DecompositionsAreShort}
 use Rattle.collation_table.specs.Table.{TableMap, BeginsNoLongerString}
 use Rattle.collation_elements.specs.declared.keys.Key.{Key}
@@ -25,18 +24,10 @@ use Rattle.collation_letters.specs.Symbols.{AreLastSymbols, listed}
 use Rattle.std.proofs.lemmas.Bool.{false≢true}
 use Rattle.collation_letters.specs.Letters.{begins_cluster, is_mark, flag_after, counted, here, ordered_from, keys_alone, AreClosed, AreApart, IsPossible, HaveItems, IsKnown, IsPlainLetter, IsLetterOf, IsLetter}
 use Rattle.collation_letters.specs.Finding.{IsLastClass, IsAs, HasRole}
+use Rattle.collation_letters.proofs.ApartLemmas.{many_at}
 use Rattle.collation_letters.proofs.SymbolLemmas.{last-nil}
 
 -- ---- the points of one character
-
-pub from-one : (start c : ℕ) → points_from start (c ∷ []) ≡ points_of start c
-unfolding points_from
-from-one start c = append-nil (points_of start c)
-
-many_at : (start : ℕ) (first : Bool) (ds : List ℕ) → length (points_at start first ds) ≡ length ds
-unfolding points_at
-many_at start first [] = refl
-many_at start first (d ∷ ds) = omega (arith, many_at start false ds)
 
 pub few-points : DecompositionsAreShort → (start c : ℕ) → length (points_of start c) ≤ MOST_WAITING
 few-points law start c =
@@ -185,13 +176,25 @@ points-plain table pattern ps l base plain h =
     }
 
 -- nothing else speaks of units that reach into a letter
+pub known-with : (table : TableMap) (pattern : Compiled) (ps : List Point) (l : Letter) (apart : Bool) → IsKnown table pattern ps l → IsKnown table pattern ps (record l { is_apart = apart })
+known-with table pattern ps l apart k = record { some = k.some; in_order = k.in_order; count = k.count; few = k.few; class = k.class; starter = k.starter; one = k.one; items = k.items }
+
 pub letter-without_apart : (table : TableMap) (pattern : Compiled) (cs : List ℕ) (l : Letter) → IsLetter table pattern cs l → IsLetter table pattern cs (record l { is_apart = false })
 letter-without_apart table pattern cs l h =
     record {
       closed = h.closed;
       apart = λ yes. absurd (false≢true yes);
-      known = λ some.
-          let k = h.known some in
-          record { some = k.some; in_order = k.in_order; count = k.count; few = k.few; class = k.class; starter = k.starter; one = k.one; items = k.items };
+      known = λ some. known-with table pattern (ordered_from 0 cs) l false (h.known some);
+      plain = h.plain;
+    }
+
+-- what is said of them comes to the letter of the points
+pub letter-with : (table : TableMap) (pattern : Compiled) (cs : List ℕ) (ps : List Point) (l : Letter) (apart : Bool) → ps ≡ ordered_from 0 cs → (apart ≡ true → AreApart table (points_from 0 cs)) → IsLetterOf table pattern ps l →
+    IsLetter table pattern cs (record l { is_apart = apart })
+letter-with table pattern cs ps l apart same begins h =
+    record {
+      closed = λ yes. subst (AreClosed table) same (h.closed yes);
+      apart = begins;
+      known = λ some. known-with table pattern (ordered_from 0 cs) l apart (subst (λ (qs : List Point). IsKnown table pattern qs l) same (h.known some));
       plain = h.plain;
     }

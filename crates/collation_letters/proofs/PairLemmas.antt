@@ -1,13 +1,22 @@
--- Two characters that are one mapped string, with which no longer one begins: what is found of their points is their letter.
-use Rattle.std.proofs.Common.{◌≡◌, ◌∙◌, ℕ, ◌+◌, true, not, ◌&&◌, nat_lt, [], ◌∷◌, ◌++◌, length, sym, ap, ap₂, arith, length-append}
+-- Two characters: what is found of their points is their letter.
+use Rattle.std.proofs.Common.{◌≡◌, ◌∙◌, ℕ, ◌+◌, true, not, ◌&&◌, nat_lt, [], ◌∷◌, ◌++◌, refl, sym, ap, ap₂, arith}
 use Rattle.std.specs.Char.{len_utf8}
 use Rattle.std.proofs.lemmas.Bool.{eqb-true}
 use Rattle.nfd_points.specs.declared.points.Point.{Point}
-use Rattle.nfd_points.specs.Points.{is_in_order, is_reorderable, is_starter, points_from, points_of, shifted}
+use Rattle.nfd_points.specs.Points.{byte_len, is_in_order, is_reorderable, is_starter, points_from, points_of, shifted}
 use Rattle.collation_table.specs.Table.{TableMap, GoesOnInNoString, is_mapped}
 use Rattle.collation_elements.specs.Units.{units, MappedPairsAreUnits}
 use Rattle.collation_letters.specs.Letters.{AreClosed}
-use Rattle.collation_letters.specs.Finding.{IsLastClass}
+
+-- ---- the bytes before them
+
+pub bytes-none : 0 ≡ byte_len []
+unfolding byte_len
+bytes-none = refl
+
+pub bytes-one : (c : ℕ) → len_utf8 c ≡ byte_len (c ∷ [])
+unfolding byte_len
+bytes-one c = omega arith
 
 -- ---- the points of both
 
@@ -22,14 +31,6 @@ unfolding is_in_order is_reorderable
 in_order-pair p q starter =
     let zero_class : q.ccc ≡ 0 = eqb-true q.ccc 0 starter in
     ap (λ (n : ℕ). not (nat_lt 0 n && nat_lt n p.ccc) && true) zero_class
-
-pub class-pair : (p q : Point) → is_starter q ≡ true → IsLastClass (p ∷ q ∷ []) 0
-class-pair p q starter [] last same = absurd (omega (arith, ap length same))
-class-pair p q starter (x ∷ []) last same =
-    let is : q ≡ last = cc in
-    sym (eqb-true q.ccc 0 starter) ∙ ap (λ (r : Point). r.ccc) is
-class-pair p q starter (x ∷ y ∷ before) last same =
-    absurd (omega (arith, ap length same, length-append before (last ∷ [])))
 
 -- ---- what they are to the table
 

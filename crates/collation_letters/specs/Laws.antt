@@ -1,10 +1,9 @@
 -- The laws of points on which it stands that characters are taken before the one that follows.
-use Rattle.nfd_points.specs.Laws.{AsciiIsItself, DecompositionsAreShort, DecompositionsAreInOrder, FewPointsAreGood, StartersBeginAnew, BytesOfParts, PointsOfParts, PointsAreShifted, OrderingIsShifted, OrderingStopsAtStarters, OrderedStays}
+use Rattle.nfd_points.specs.Laws.{AsciiIsItself, DecompositionsAreShort, FewPointsAreGood, StartersBeginAnew, BytesOfParts, PointsOfParts, PointsAreShifted, OrderingIsShifted, OrderingStopsAtStarters}
 
 pub record LetterLaws : Type 0 where
   pub ascii : AsciiIsItself
   pub short : DecompositionsAreShort
-  pub in_order : DecompositionsAreInOrder
   pub few : FewPointsAreGood
   pub anew : StartersBeginAnew
   pub bytes : BytesOfParts
@@ -12,4 +11,3 @@ pub record LetterLaws : Type 0 where
   pub shifted : PointsAreShifted
   pub order_shifted : OrderingIsShifted
   pub at_starters : OrderingStopsAtStarters
-  pub stays : OrderedStays

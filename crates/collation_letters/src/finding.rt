@@ -1,21 +1,23 @@
 //! The letter of a character, as the table says it.
 ghost use Rattle.std.specs.Prelude.{◌≡◌, ◌≢◌, ◌≤◌, List, [], ◌∷◌, ◌++◌, true, false, None, length, All, IfSome};
 ghost use Rattle.std.specs.Option.{ForSome, option_to_list};
-ghost use Rattle.nfd_points.specs.declared.limits.TheConstants.{MOST_DECOMPOSITION};
-ghost use Rattle.nfd_points.specs.Points.{begins_with_starter};
+ghost use Rattle.nfd_points.specs.declared.limits.TheConstants.{MOST_DECOMPOSITION, MOST_WAITING};
+ghost use Rattle.nfd_points.specs.Points.{begins_with_starter, is_in_order};
 ghost use Rattle.nfd_points.specs.Reordering.{IsSoundPoint};
 ghost use Rattle.collation_table.specs.Table.{BeginsNoLongerString};
 ghost use Rattle.collation_elements.specs.declared.keys.Key.{Key as KeyValue};
 ghost use Rattle.collation_elements.specs.CharacterItems.{AreItemsOfPoints, character_keys};
 ghost use Rattle.collation_elements.specs.Weighing.{weigher};
 ghost use Rattle.collation_letters.specs.Finding.{AreItemsOfRole, HasRole, IsLastClass, IsSilent};
-ghost use Rattle.collation_letters.specs.Letters.{AreApart, IsLetter, IsPossible, is_mark};
+ghost use Rattle.collation_letters.specs.Letters.{AreApart, AreClosed, IsLetter, IsLetterOf, IsPossible, is_mark};
 ghost use Rattle.collation_letters.specs.Symbols.{AreLastSymbols, listed};
 ghost use Rattle.collation_letters.specs.declared.letter.Role.TheVariants.{Steps as LeftToSteps, Plain};
 
 use crate::letter::{Letter, Role};
 use crate::symbols::{Lengths, NO_SYMBOLS, Symbols, symbol_for};
-use collation_elements::{CharacterItems, Key, Variable, Weigher, Window, units_stay_apart};
+use collation_elements::{
+    CharacterItems, Key, Variable, Weigher, Window, begin_anew, units_stay_apart,
+};
 use collation_pattern::Pattern;
 use collation_table::Weights;
 use nfd_points::laws::{laws_of_decompositions, laws_of_points};
@@ -41,6 +43,34 @@ pub(crate) fn find_letter<W: Weights>(
     let points = points_of_character(c, 0);
     let points = points.as_slice();
     let is_closed = are_closed(table, points);
+    let letter = letter_of(table, pattern, lengths, window, points, is_closed);
+    Letter {
+        is_apart: begin_apart(table, points, letter.role),
+        ..letter
+    }
+}
+
+/// The letter of points in canonical order, out of which no unit reaches where `is_closed` says so. It says nothing of units that reach into
+/// them. They go through the window, which is then as it was.
+pub(crate) fn letter_of<W: Weights>(
+    table: &W,
+    pattern: &Pattern,
+    lengths: Lengths,
+    window: &mut Window,
+    points: &[Point],
+    is_closed: bool,
+) -> Letter
+    requires empty { window.old.points ≡ [] }
+    requires open { window.old.has_ended ≡ false }
+    requires room { length points.now ≤ window.old.capacity }
+    requires some { 1 ≤ length points.now }
+    requires few { length points.now ≤ MOST_WAITING }
+    requires sound { All IsSoundPoint points.now }
+    requires in_order { is_in_order points.now ≡ true }
+    requires closed { is_closed ≡ true → AreClosed (W.table table.now) points.now }
+    ensures window { window.new ≡ window.old }
+    ensures letter { IsLetterOf (W.table table.now) pattern.now points.now result }
+{
     let (role, symbols) = match items_of(table, pattern, window, points) {
         Some((plain, after)) => {
             role_and_symbols(pattern, lengths, points, is_closed, &plain, &after)
@@ -50,7 +80,7 @@ pub(crate) fn find_letter<W: Weights>(
     let letter = Letter {
         role,
         is_closed,
-        is_apart: begin_apart(table, points, role),
+        is_apart: false,
         points: points.len() as u8,
         class: last_class(points),
         symbols,
@@ -59,7 +89,7 @@ pub(crate) fn find_letter<W: Weights>(
 }
 
 /// Whether none of these points begins a mapped string of two or more code points, as far as the table knows.
-fn are_closed<W: Weights>(table: &W, points: &[Point]) -> bool
+pub(crate) fn are_closed<W: Weights>(table: &W, points: &[Point]) -> bool
     ensures { result ≡ true → All (λ p. BeginsNoLongerString (W.table table.now) p.cp) points.now }
 {
     for point in points {
@@ -71,7 +101,7 @@ fn are_closed<W: Weights>(table: &W, points: &[Point]) -> bool
 }
 
 /// Whether these points begin with a starter.
-fn begins_with_starter(points: &[Point]) -> bool
+pub(crate) fn begins_with_starter(points: &[Point]) -> bool
     ensures { result ≡ begins_with_starter points.now }
 {
     match points {
@@ -109,7 +139,7 @@ fn last_class(points: &[Point]) -> u8
 
 /// The items of these points where the last element that was variable or primary was not variable, and where it was, if that may
 /// be; `None` where there are more than three keys.
-pub(crate) fn items_of<W: Weights>(
+fn items_of<W: Weights>(
     table: &W,
     pattern: &Pattern,
     window: &mut Window,
@@ -134,13 +164,16 @@ pub(crate) fn items_of<W: Weights>(
     if variable == Variable::NonIgnorable {
         return Some((plain, None));
     }
+    if begin_anew(table, points) {
+        return Some((plain, Some(plain)));
+    }
     let after = Weigher::restore(strength, variable, true);
     let after = CharacterItems::of_points(table, window, after, points)?;
     Some((plain, Some(after)))
 }
 
 /// What a search does with points that have these items, and the symbols of their keys.
-pub(crate) fn role_and_symbols(
+fn role_and_symbols(
     pattern: &Pattern,
     lengths: Lengths,
     points: &[Point],

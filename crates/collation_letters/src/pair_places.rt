@@ -102,7 +102,9 @@ fn empty_places(alloc: Global) -> Result<Vec<KeptPair>, AllocError>
     vec![in alloc; NO_KEPT_PAIR; LAST_PLACE + 1]
 }
 
-/// The place of two characters. The vowels and the consonants of Thai have places of their own, and so have those of Lao.
+/// The place of two characters. The vowels and the consonants of Thai have places of their own, and so have most of Lao; a small letter and
+/// its capital with one mark have two.
 fn place_of(first: char, second: char) -> usize {
-    ((first as usize) << 6 ^ second as usize) & LAST_PLACE
+    let first = first as usize;
+    (first << 6 ^ first >> 4 ^ second as usize) & LAST_PLACE
 }

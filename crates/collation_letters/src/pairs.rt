@@ -1,22 +1,26 @@
-//! The letter of two characters that are one mapped string, as a Thai or Lao vowel and the consonant behind it are.
-ghost use Rattle.std.specs.Prelude.{◌≡◌, ◌≤◌, [], ◌∷◌, true, false, All, IfSome};
+//! The letter of two characters together: of those that are one mapped string, as a Thai or Lao vowel and the consonant behind it are, and of
+//! one with a mark behind it that does not simply join, since it goes before another one or a unit may reach over it.
+ghost use Rattle.std.specs.Prelude.{◌≡◌, ◌≤◌, [], ◌∷◌, true, false, length, All, IfSome};
 ghost use Rattle.nfd_points.specs.declared.limits.TheConstants.{MOST_DECOMPOSITION};
 ghost use Rattle.nfd_points.specs.Points.{is_starter, points_from, points_of};
 ghost use Rattle.nfd_points.specs.Reordering.{IsSoundPoint};
 ghost use Rattle.collation_table.specs.Table.{GoesOnInNoString, is_mapped};
-ghost use Rattle.collation_letters.specs.Letters.{IsLetter};
+ghost use Rattle.collation_letters.specs.Letters.{IsLetter, ordered_from};
 
-use crate::finding::{are_apart, items_of, role_and_symbols};
-use crate::letter::{Letter, Role, UNKNOWN};
-use crate::symbols::{Lengths, NO_SYMBOLS};
+use crate::finding::{are_apart, are_closed, begins_with_starter, letter_of};
+use crate::letter::{Letter, UNKNOWN};
+use crate::symbols::Lengths;
+use arrayvec::ArrayVec;
 use collation_elements::{Window, units_stay_apart};
 use collation_pattern::Pattern;
 use collation_table::Weights;
-use nfd_points::{Point, points_of_character};
+use nfd_points::{MOST_DECOMPOSITION, MOST_GIVEN, Point, Reorder, points_of_character};
+use std::alloc::Global;
 
-/// The letter of two characters, where they are a mapped string with which no longer one begins, and patterns of these lengths have
-/// symbols. Their points go through the window, which is then as it was.
+/// The letter of two characters, where patterns of these lengths have symbols, and they are a mapped string with which no longer one begins,
+/// or the second is a mark. Their points go through the window, which is then as it was.
 pub(crate) fn find_letter_of_pair<W: Weights>(
+    alloc: Global,
     table: &W,
     pattern: &Pattern,
     lengths: Lengths,
@@ -31,23 +35,51 @@ pub(crate) fn find_letter_of_pair<W: Weights>(
     ensures letter { IsLetter (W.table table.now) pattern.now (first ∷ second ∷ []) result }
 {
     units_stay_apart();
-    let Some((one, other)) = points_of_pair(table, first, second) else {
+    if let Some((one, other)) = points_of_pair(table, first, second) {
+        let points = [one, other];
+        let letter = letter_of(table, pattern, lengths, window, &points, true);
+        return Letter {
+            is_apart: are_apart(table, &points),
+            ..letter
+        };
+    }
+    let Some(points) = points_with_mark(alloc, first, second) else {
         return UNKNOWN;
     };
-    let points = [one, other];
-    let (role, symbols) = match items_of(table, pattern, window, &points) {
-        Some((plain, after)) => role_and_symbols(pattern, lengths, &points, true, &plain, &after),
-        None => (Role::Steps, NO_SYMBOLS),
+    let points = points.as_slice();
+    let is_closed = are_closed(table, points);
+    letter_of(table, pattern, lengths, window, points, is_closed).without_apart()
+}
+
+/// The points of a character and a mark behind it, in canonical order, unless they are many; `None` where `mark` begins with a starter.
+fn points_with_mark(alloc: Global, first: char, mark: char) -> Option<ArrayVec<Point, MOST_GIVEN>>
+    ensures points { IfSome result (λ ps. ps.items ≡ ordered_from 0 (first ∷ mark ∷ [])) }
+    ensures sound { IfSome result (λ ps. All IsSoundPoint ps.items) }
+    ensures some { IfSome result (λ ps. 1 ≤ length ps.items) }
+    ensures few { IfSome result (λ ps. length ps.items ≤ MOST_DECOMPOSITION) }
+{
+    if begins_with_starter(points_of_character(mark, 0).as_slice()) {
+        return None;
+    }
+    let mut reorder = Reorder::new(alloc);
+    let mut points = ArrayVec::new();
+    let Ok(()) = reorder.push(first, 0, &mut points) else {
+        return None;
     };
-    let letter = Letter {
-        role,
-        is_closed: true,
-        is_apart: are_apart(table, &points),
-        points: 2,
-        class: 0,
-        symbols,
+    let mut rest = ArrayVec::new();
+    let Ok(()) = reorder.push(mark, first.len_utf8() as u64, &mut rest) else {
+        return None;
     };
-    letter.settled()
+    // all of the mark's wait
+    if !rest.is_empty() || points.is_empty() {
+        return None;
+    }
+    reorder.finish(&mut rest);
+    if points.len() + rest.len() > MOST_DECOMPOSITION {
+        return None;
+    }
+    points.try_extend_from_slice(rest.as_slice()).unwrap();
+    Some(points)
 }
 
 /// The points of two characters that are a starter each, where they are a mapped string with which no longer one begins, as far as

@@ -13,12 +13,15 @@ use collation_pattern::Pattern;
 use collation_table::Weights;
 use std::alloc::{AllocError, Global};
 
-/// The greatest number of a place, at first, where a letter was found, where some were, and where many were.
+/// The greatest number of a place, at first, where a letter was found, where some were, as in text of an alphabet, where more were, and where
+/// many were.
 const LAST_OF_NONE: usize = 0;
 
 const LAST_OF_FEW: usize = 255;
 
-const LAST_OF_SOME: usize = 4_095;
+const LAST_OF_SOME: usize = 1_023;
+
+const LAST_OF_MORE: usize = 4_095;
 
 const LAST_OF_MANY: usize = 65_535;
 
@@ -27,6 +30,9 @@ const OFTEN: usize = 32;
 
 /// How many letters are found before there are more places.
 const SOME: usize = 192;
+
+/// How many letters are found before there are more again.
+const MORE: usize = 384;
 
 /// How many letters are found before there are the most places.
 const MANY: usize = 4_096;
@@ -173,8 +179,15 @@ impl Letters {
         ensures right { AreLetters (W.table table.now) pattern.now self.new }
         ensures letter { IsLetter (W.table table.now) pattern.now (first ∷ second ∷ []) result }
     {
-        let lengths = self.lengths;
-        let letter = find_letter_of_pair(table, pattern, lengths, &mut self.window, first, second);
+        let letter = find_letter_of_pair(
+            self.alloc,
+            table,
+            pattern,
+            self.lengths,
+            &mut self.window,
+            first,
+            second,
+        );
         self.pairs.keep(self.alloc, first, second, letter);
         letter
     }
@@ -193,6 +206,7 @@ impl Letters {
         self.found = self.found % MANY + 1;
         let last = match self.found {
             SOME => LAST_OF_SOME,
+            MORE => LAST_OF_MORE,
             MANY => LAST_OF_MANY,
             found => {
                 if found % OFTEN != 1 || !self.places.are_one() {

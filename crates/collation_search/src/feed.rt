@@ -67,7 +67,7 @@ fn starter_comes_first<W: Weights>(
 }
 
 impl<'a, W: Weights> Search<'a, W> {
-    ghost use Rattle.std.specs.Prelude.{◌≡◌, ℕ, suc, ◌+◌, ◌-◌, ◌<◌, ◌≤◌, max, List, [], ◌++◌, length, take, None, Ok, true};
+    ghost use Rattle.std.specs.Prelude.{◌≡◌, ℕ, suc, ◌+◌, ◌-◌, ◌<◌, ◌≤◌, max, List, [], ◌++◌, length, take, None, Ok, Err, IfOk, IfErr, true};
     ghost use Rattle.std.specs.List.{FoldsTo};
     ghost use Rattle.std.specs.Str.{chars};
     ghost use Rattle.collation_table.specs.Table.{longest_mapped};
@@ -125,14 +125,12 @@ impl<'a, W: Weights> Search<'a, W> {
         let reach = self.reach(piece);
         let mut at = self.feed_letters(piece, reach, false, found, sink);
         while at < piece.len() {
-            match self.step_on(piece[at], found) {
-                Ok(()) => hand_out(found.as_slice(), sink),
-                Err(fault) => {
-                    hand_out(found.as_slice(), sink);
-                    return Err(fault);
-                }
+            let stepped = self.step_far(&piece[at..], found);
+            hand_out(found.as_slice(), sink);
+            match stepped {
+                Ok(len) => at += len,
+                Err(fault) => return Err(fault),
             }
-            at += 1;
             at += self.feed_letters(&piece[at..], reach.saturating_sub(at), false, found, sink);
         }
         Ok(())
@@ -154,6 +152,56 @@ impl<'a, W: Weights> Search<'a, W> {
             return 0;
         }
         reach(&self.query, &mut self.cache.letters, piece)
+    }
+
+    /// Takes the character at the front of what is left of a piece, or one byte where [`Search::step_character`] takes none. It answers how
+    /// many bytes it took. `found` is emptied, and then holds the ranges that became known, in order.
+    fn step_far(&mut self, bytes: &[u8], found: &mut Found) -> Result<usize, TextFault>
+        requires none { self.old.fault ≡ None }
+        requires some { 0 < length bytes.now }
+        ensures within { IfOk result (λ n. (0 < n) × (n ≤ length bytes.now)) }
+        ensures taken { IfOk result (λ n.
+            TakesPart self.old 0 (take n bytes.now) (Ok tt) found.new.items self.new) }
+        ensures fault { IfErr result (λ f.
+            TakesPart self.old 0 (take 1 bytes.now) (Err f) found.new.items self.new) }
+    {
+        let len = self.step_character(bytes, found);
+        if len > 0 {
+            return Ok(len);
+        }
+        match self.step_on(bytes[0], found) {
+            Ok(()) => Ok(1),
+            Err(fault) => Err(fault),
+        }
+    }
+
+    /// Takes the character at the front of what is left of a piece, and answers how many bytes it has: none where it is not whole there,
+    /// or where it may be at fault, as a point waits. `found` is emptied, and then holds the ranges that became known, in order.
+    fn step_character(&mut self, bytes: &[u8], found: &mut Found) -> usize
+        requires none { self.old.fault ≡ None }
+        ensures within { result ≤ length bytes.now }
+        ensures taken { TakesPart self.old 0 (take result bytes.now) (Ok tt) found.new.items self.new }
+        ensures nothing { result ≡ 0 → found.new.items ≡ [] }
+    {
+        whole_characters_are_the_longest_text();
+        found.clear();
+        let count = self.cut.count();
+        if self.cut.held_start() != count
+            || MOST_BYTES - count < bytes.len() as u64
+            || !self.finder.reorder.waiting().is_empty()
+        {
+            return 0;
+        }
+        let Some(c) = first_character(bytes) else {
+            return 0;
+        };
+        let table = self.query.table;
+        let pattern = self.query.pattern;
+        // where no point waits no character is at fault
+        let _ = self.finder.take(table, pattern, c, count, found);
+        let len = c.len_utf8();
+        self.cut.take_characters(len as u64);
+        len
     }
 
     /// Takes the letters at the front of a piece that can be taken, up to `reach`, and ASCII behind it, and calls the sink once for each

@@ -30,15 +30,18 @@ const SHORT_TEXT: usize = 128;
 /// enough. A character of three bytes takes less than twice the steps of one byte.
 const FOR_EACH: usize = 7;
 
+/// The same of a text of ASCII, whose letters are found sooner.
+const FOR_EACH_OF_ASCII: usize = 5;
+
 /// The most bytes of a text in which nothing is passed by where the search is made for it: what passes text by is found anew then, and
 /// costs more than it saves.
 const LONGEST_WALKED: usize = 256;
 
 /// The same of a text with many different bytes, since more is found anew then.
-const LONGEST_WALKED_OF_MANY: usize = 2_048;
+const LONGEST_WALKED_OF_MANY: usize = 2_560;
 
 /// How many bytes such a text has at most for each different byte at its front.
-const WALKED_FOR_EACH: usize = 16;
+const WALKED_FOR_EACH: usize = 32;
 
 /// How many bytes these are of which the different ones are counted, and how many times one past ASCII counts: for a character of several
 /// bytes several moves are found.
@@ -306,7 +309,12 @@ fn bytes_by_steps(text: &[u8]) -> usize {
     }
     let (ascii, others) = different_bytes(text);
     let count = characters(text).saturating_add(text.len());
-    if count > ascii.saturating_add(others).saturating_mul(FOR_EACH) {
+    let for_each = if others == 0 {
+        FOR_EACH_OF_ASCII
+    } else {
+        FOR_EACH
+    };
+    if count > ascii.saturating_add(others).saturating_mul(for_each) {
         return 0;
     }
     usize::MAX

@@ -1,7 +1,7 @@
 -- What a state says of the bytes behind it, with one byte more.
 use Rattle.std.specs.Char.{len_utf8}
 use Rattle.std.specs.Str.{chars, IsUtf8}
-use Rattle.std.proofs.Common.{◌≡◌, ◌≢◌, ◌∙◌, ℕ, ◌+◌, ◌<◌, ◌≤◌, Bool, true, false, List, [], ◌∷◌, ◌++◌, length, min, map, Contains, refl, sym, ap, ap₂, subst, arith, append_assoc}
+use Rattle.std.proofs.Common.{◌≡◌, ◌≢◌, ◌∙◌, ℕ, ◌+◌, ◌<◌, ◌≤◌, Bool, true, false, List, [], ◌∷◌, ◌++◌, length, min, map, Contains, Option, None, IfSome, refl, sym, ap, ap₂, subst, arith, append_assoc}
 use Rattle.std.proofs.lemmas.Bool.{false≢true}
 use Rattle.std.proofs.lemmas.List.{append-nil}
 use Rattle.std.proofs.lemmas.Str.{IsUtf8-append, chars-append, len_utf8_bounds}
@@ -23,6 +23,7 @@ use Rattle.collation_elements.specs.Weighing.{after_units}
 use Rattle.collation_pattern.specs.Border.{border, border_up_to}
 use Rattle.collation_pattern.specs.Compiled.{Compiled}
 use Rattle.collation_letters.specs.Apart.{IsNext}
+use Rattle.collation_letters.specs.Clusters.{IsCluster}
 use Rattle.collation_letters.specs.declared.letter.Letter.{Letter}
 use Rattle.collation_letters.specs.declared.letter.Role.TheVariants.{Steps}
 use Rattle.collation_letters.specs.Letters.{begins_cluster, is_mark, flag_after, keys_alone, ordered_from, IsPossible, IsLetter}
@@ -35,10 +36,11 @@ use Rattle.collation_letters.proofs.LetterApart.{starter-counted}
 use Rattle.collation_letters.proofs.SymbolLemmas.{listed-some}
 use Rattle.collation_skip.specs.declared.begun.Begun.{Begun}
 use Rattle.collation_skip.specs.declared.begun.Begun.TheVariants.{Whole}
+use Rattle.collation_skip.specs.declared.state.Marks.{Marks}
 use Rattle.collation_skip.specs.declared.state.State.{State}
 use Rattle.collation_skip.specs.BegunBytes.{begun_bytes}
 use Rattle.collation_skip.specs.Passed.{IsQuiet}
-use Rattle.collation_skip.specs.Reached.{items_from, IsHeldAs, IsReached}
+use Rattle.collation_skip.specs.Reached.{items_from, AreMarksRight, IsHeldAs, IsReached}
 use Rattle.collation_skip.proofs.ItemLemmas.{letter_items, keys-append, keys-letter, quiet-more, later-more}
 
 -- ---- the items of a letter more
@@ -92,6 +94,7 @@ reached-begun table pattern s begun at bytes byte is r =
       own = r.own;
       letter = r.letter;
       kept = r.kept;
+      marks = r.marks;
       depth = r.depth;
       below = r.below;
       quiet = r.quiet;
@@ -121,11 +124,17 @@ further table pattern s at bytes byte c spelled r =
 pub kept-whole : (pattern : List Key) (depth : ℕ) (l : Letter) → IsHeldAs pattern depth l l false
 kept-whole pattern depth l = record { role = refl; closed = refl; whole = λ _. refl; some = λ yes. absurd (false≢true yes); none = λ yes. absurd (false≢true yes) }
 
+-- no marks are kept
+none-kept : (table : TableMap) (pattern : Compiled) (cs : List ℕ) (s : State) → s.marks ≡ None → AreMarksRight table pattern cs s
+none-kept table pattern cs s none =
+    subst (λ (o : Option Marks). IfSome o (λ m. IsCluster table pattern (ordered_from 0 cs) (record { letter = s.letter; base = m.base; before = m.before; last = m.last }))) (sym none) tt
+
 -- a character with which the last letter goes on
-pub reached-longer : (table : TableMap) (pattern : Compiled) (s : State) (l : Letter) (at : ℕ) (bytes : List ℕ) (byte c : ℕ) → SpellsCharacter (begun_bytes s.begun ++ byte ∷ []) c →
+pub reached-longer : (table : TableMap) (pattern : Compiled) (s : State) (l : Letter) (m : Option Marks) (at : ℕ) (bytes : List ℕ) (byte c : ℕ) → SpellsCharacter (begun_bytes s.begun ++ byte ∷ []) c →
     (r : IsReached table pattern s at bytes) → IsLetter table pattern (r.first ∷ (r.others ++ c ∷ [])) l →
-    IsReached table pattern (record { depth = s.depth; letter = l; is_spent = false; character = 0; len = 0; before = 0; begun = Whole }) at (bytes ++ byte ∷ [])
-reached-longer table pattern s l at bytes byte c spelled r h =
+    IfSome m (λ k. IsCluster table pattern (ordered_from 0 (r.first ∷ (r.others ++ c ∷ []))) (record { letter = l; base = k.base; before = k.before; last = k.last })) →
+    IsReached table pattern (record { depth = s.depth; letter = l; marks = m; is_spent = false; character = 0; len = 0; before = 0; begun = Whole }) at (bytes ++ byte ∷ [])
+reached-longer table pattern s l m at bytes byte c spelled r h marks =
     let f = further table pattern s at bytes byte c spelled r in
     record {
       text = r.text ++ (begun_bytes s.begun ++ byte ∷ []);
@@ -140,6 +149,7 @@ reached-longer table pattern s l at bytes byte c spelled r h =
       own = l;
       letter = h;
       kept = kept-whole pattern.keys s.depth l;
+      marks = marks;
       depth = r.depth;
       below = r.below;
       quiet = r.quiet;
@@ -179,9 +189,9 @@ pub reached-next : LetterLaws → PointsAreShifted → (table : TableMap) (patte
     ((start : ℕ) (cs : List ℕ) (own : Letter) → own.role ≡ s.letter.role → own.is_closed ≡ s.letter.is_closed → IsLetter table pattern cs own → IsNext table start cs c) →
     ((own : Letter) → IsHeldAs pattern.keys s.depth own s.letter s.is_spent →
     (before keys : List Key) → AreLastSymbols pattern.keys keys (listed own.symbols) → border pattern.keys before ≡ s.depth → border pattern.keys (before ++ keys) ≡ t.depth) →
-    t.depth < length pattern.keys → (l : Letter) → IsLetter table pattern (c ∷ []) l → IsHeldAs pattern.keys t.depth l t.letter t.is_spent → t.len ≡ len_utf8 c → (t.letter.is_closed ≡ false → c ≡ t.character) → t.begun ≡ Whole →
+    t.depth < length pattern.keys → (l : Letter) → IsLetter table pattern (c ∷ []) l → IsHeldAs pattern.keys t.depth l t.letter t.is_spent → t.len ≡ len_utf8 c → t.marks ≡ None → (t.character ≢ 0 → c ≡ t.character) → t.begun ≡ Whole →
     (0 < t.before → MayBeLeft s t) → IsReached table pattern s at bytes → IsReached table pattern t at (bytes ++ byte ∷ [])
-reached-next laws shift table pattern s t at bytes byte c spelled known starter apart deeper_than below l h kept len character begun clean r =
+reached-next laws shift table pattern s t at bytes byte c spelled known starter apart deeper_than below l h kept len unmarked character begun clean r =
     let own = r.own in
     let role = r.kept.role in
     let deeper = deeper_than own r.kept in
@@ -209,6 +219,7 @@ reached-next laws shift table pattern s t at bytes byte c spelled known starter 
       own = l;
       letter = h;
       kept = kept;
+      marks = none-kept table pattern (c ∷ []) t unmarked;
       depth = ap (border pattern.keys) keys ∙ deeper (item_keys items) more.keys more.symbols r.depth;
       below = below;
       quiet = subst (IsQuiet pattern.keys) (sym more.items) (quiet-more pattern.keys items (begins_cluster own.role) start more.keys r.quiet (subst (λ n. n < length pattern.keys) (sym r.depth) r.below));
@@ -254,9 +265,9 @@ no-item [] after i e = cc
 no-item (f ∷ first) after i e = cc
 
 pub reached-first : (table : TableMap) (pattern : Compiled) (s : State) (at : ℕ) (bytes : List ℕ) (c : ℕ) → SpellsCharacter bytes c → begins_with_starter (points_from 0 (c ∷ [])) ≡ true →
-    0 < length pattern.keys → (l : Letter) → IsLetter table pattern (c ∷ []) l → IsHeldAs pattern.keys s.depth l s.letter s.is_spent → s.depth ≡ 0 → s.len ≡ len_utf8 c → (s.letter.is_closed ≡ false → c ≡ s.character) → s.begun ≡ Whole → s.before ≡ 0 →
+    0 < length pattern.keys → (l : Letter) → IsLetter table pattern (c ∷ []) l → IsHeldAs pattern.keys s.depth l s.letter s.is_spent → s.depth ≡ 0 → s.len ≡ len_utf8 c → s.marks ≡ None → (s.character ≢ 0 → c ≡ s.character) → s.begun ≡ Whole → s.before ≡ 0 →
     IsReached table pattern s at bytes
-reached-first table pattern s at bytes c spelled starter some l h kept depth len character begun before =
+reached-first table pattern s at bytes c spelled starter some l h kept depth len unmarked character begun before =
     let one = one_char bytes c spelled in
     let none : points_from at [] ≡ [] = from_none at in
     let nothing : items_from table pattern at [] ≡ [] = ap (λ (ps : List Point). items_of table pattern.strength pattern.variable false (units table ps)) (ordered_none at) in
@@ -273,6 +284,7 @@ reached-first table pattern s at bytes c spelled starter some l h kept depth len
       own = l;
       letter = h;
       kept = kept;
+      marks = none-kept table pattern (c ∷ []) s unmarked;
       depth = ap (λ (l : List Item). border pattern.keys (item_keys l)) nothing ∙ none-ends pattern.keys ∙ sym depth;
       below = omega (arith, depth, some);
       quiet = λ first after start e. absurd (no-item first after (ClusterStart start) (sym nothing ∙ e));

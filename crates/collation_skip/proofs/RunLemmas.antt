@@ -10,7 +10,7 @@ use Rattle.std.proofs.lemmas.Option.{same_Some}
 use Rattle.std.proofs.lemmas.List.{append-nil, length-take, take_more, take-take}
 use Rattle.std.proofs.lemmas.List.Elements.{All-drop, All-head, All-tail, All-take}
 use Rattle.byte_dfa.specs.declared.moves.Cursor.{Cursor}
-use Rattle.byte_dfa.specs.Moves.{Accepts, Follows, HasRow, IsCursor, MovesLead, row_after}
+use Rattle.byte_dfa.specs.Moves.{Accepts, Follows, HasRow, IsCursor, MovesLead, cell_of, row_after}
 use Rattle.byte_dfa.proofs.MoveLemmas.{row_after-first}
 use Rattle.utf8_cut.specs.Sequences.{SpellsCharacter}
 use Rattle.nfd_points.specs.Points.{byte_len}
@@ -43,7 +43,7 @@ stands-after table pattern a before [] row to s right small is reached leads =
     let same = same_Some row to leads in
     ∣ (s, subst (λ n. IsRow a n s) same is, λ start. subst (HasReached table pattern s start) (sym (append-nil before)) (reached start)) ∣₁
 stands-after table pattern a before (byte ∷ bytes) row to s right small is reached leads =
-    let cell = slice_index a.cells (row + byte) in
+    let cell = cell_of a.cells row byte in
     let first = row_after-first a.cells row to byte bytes leads in
     let same : (before ++ byte ∷ []) ++ bytes ≡ before ++ byte ∷ bytes = append_assoc before (byte ∷ []) bytes in
     ∥∥₁_elim (right.cells row byte s (All-head (λ n. n < 256) byte bytes small) is first.0) ∥∥₁_prop (λ m.

@@ -1,5 +1,5 @@
 -- What a state of the automaton says of the bytes behind which it stands, and what a right move is.
-use Rattle.std.specs.Prelude.{◌≡◌, ℕ, ◌+◌, ◌<◌, ◌≤◌, Bool, false, true, List, [], ◌∷◌, ◌++◌, length, Contains}
+use Rattle.std.specs.Prelude.{◌≡◌, ◌≢◌, ℕ, ◌+◌, ◌<◌, ◌≤◌, Bool, false, true, List, [], ◌∷◌, ◌++◌, length, Contains, IfSome}
 use Rattle.std.specs.Char.{len_utf8}
 use Rattle.std.specs.Str.{chars, IsUtf8}
 use Rattle.nfd_points.specs.Points.{byte_len, points_from, begins_with_starter}
@@ -13,6 +13,7 @@ use Rattle.collation_elements.specs.Units.{units}
 use Rattle.collation_pattern.specs.Border.{border}
 use Rattle.collation_pattern.specs.Compiled.{Compiled}
 use Rattle.collation_letters.specs.Apart.{IsNext}
+use Rattle.collation_letters.specs.Clusters.{IsCluster}
 use Rattle.collation_letters.specs.declared.letter.Letter.{Letter}
 use Rattle.collation_letters.specs.Letters.{ordered_from, IsLetter}
 use Rattle.collation_letters.specs.Symbols.{AreLastSymbols, listed}
@@ -42,6 +43,11 @@ pub record IsHeldAs (pattern : List Key) (depth : ℕ) (own kept : Letter) (is_s
   pub none : is_spent ≡ true → (before keys : List Key) → AreLastSymbols pattern keys (listed own.symbols) → border pattern before ≡ depth
       → border pattern (before ++ keys) ≡ 0
 
+-- what a state keeps of the marks of its letter's characters is right
+abbrev pub AreMarksRight : TableMap → Compiled → List ℕ → State → Type 0
+AreMarksRight table pattern cs state =
+    IfSome state.marks (λ m. IsCluster table pattern (ordered_from 0 cs) (record { letter = state.letter; base = m.base; before = m.before; last = m.last }))
+
 -- Behind these bytes, the first of which stands at an offset: they are characters, the last of which are those of the state's letter,
 -- and the bytes of one that is not whole. No unit reaches from the characters before the letter to it, no match ends among them, and so
 -- many of the pattern's first keys end their keys.
@@ -58,13 +64,14 @@ pub record IsReached (table : TableMap) (pattern : Compiled) (state : State) (at
   pub own : Letter
   pub letter : IsLetter table pattern (first ∷ others) own
   pub kept : IsHeldAs pattern.keys state.depth own state.letter state.is_spent
+  pub marks : AreMarksRight table pattern (first ∷ others) state
   pub depth : border pattern.keys (item_keys (items_from table pattern at before)) ≡ state.depth
   pub below : state.depth < length pattern.keys
   pub quiet : IsQuiet pattern.keys (items_from table pattern at before)
   pub later : (start : ℕ) → Contains (items_from table pattern at before) (ClusterStart start) → at ≤ start
-  -- of a letter that is one character the length is known, and which it is where a unit may reach out of it
+  -- of a letter that is one character the length is known, and which it is where it may be wanted
   pub one : 0 < state.len → (others ≡ []) × (len_utf8 first ≡ state.len)
-  pub character : 0 < state.len → state.letter.is_closed ≡ false → first ≡ state.character
+  pub character : 0 < state.len → state.character ≢ 0 → first ≡ state.character
   pub behind : 0 < state.before → (0 < state.len) × ((begun_bytes state.begun ≡ []) × IsBehind table pattern at state.before before first)
 
 abbrev pub HasReached : TableMap → Compiled → State → ℕ → List ℕ → Type 0

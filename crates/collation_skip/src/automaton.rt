@@ -2,6 +2,7 @@
 //!
 //! A state has a row of cells (`byte_dfa`). It accepts where the text may be passed by up to the last character.
 
+use crate::moves::Keeping;
 use crate::passed::Passed;
 use crate::state::State;
 use byte_dfa::{Cells, Cursor, Guesses, come_to};
@@ -18,8 +19,9 @@ pub struct Automaton {
     pub(crate) cells: Cells,
     pub(crate) states: Vec<State>,
     /// Numbers of states at the places of their hashes, or after them. A state is compared before its number is used.
-    pub(crate) places: Vec<u32>,
+    pub(crate) places: Vec<u16>,
     pub(crate) guesses: Guesses,
+    pub(crate) keeping: Keeping,
     pub(crate) alloc: Global,
 }
 
@@ -44,8 +46,27 @@ impl Automaton {
             states: Vec::new(alloc),
             places: Vec::new(alloc),
             guesses: Guesses::new(alloc),
+            keeping: Keeping {
+                keeps_marks: false,
+                misses_marks: false,
+            },
             alloc,
         }
+    }
+
+    /// Begins anew with states that keep marks apart.
+    #[inline(never)]
+    fn keep_marks(&mut self)
+        ensures { (table : TableMap) (pattern : Compiled) → AreRowsRight table pattern self.new }
+    {
+        self.cells = Cells::new(self.alloc);
+        self.states = Vec::new(self.alloc);
+        self.places = Vec::new(self.alloc);
+        self.guesses = Guesses::new(self.alloc);
+        self.keeping = Keeping {
+            keeps_marks: true,
+            misses_marks: false,
+        };
     }
 
     /// What of a piece may be passed by, up to a character that begins not after `reach`; `None` where that is nothing. The first
@@ -66,6 +87,9 @@ impl Automaton {
         ensures right { AreRowsRight (W.table table.now) pattern.now self.new }
         ensures letters { AreLetters (W.table table.now) pattern.now letters.new }
     {
+        if self.keeping.misses_marks {
+            self.keep_marks();
+        }
         let within = &piece[..piece.len().min(reach)];
         let cursor = self.go(table, pattern, letters, within, is_calm)?;
         self.answer(table, pattern, letters, piece, cursor)
@@ -220,6 +244,7 @@ impl Automaton {
         if !letter.is_starter() || pattern.keys().is_empty() {
             return None;
         }
-        self.row_of(State::behind(pattern, 0, letter, first, 0))
+        let keeps_marks = self.keeping.keeps_marks;
+        self.row_of(&State::behind(pattern, 0, letter, first, 0, keeps_marks))
     }
 }

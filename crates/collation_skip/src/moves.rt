@@ -22,12 +22,22 @@ use collation_table::Weights;
 /// How many of a pattern's first keys the automaton follows at most.
 const MOST_DEPTH: usize = 8;
 
+/// How states keep marks: apart, so that one of a lower class can go before them, only from the first such mark on, for these states are
+/// many.
+#[derive(Clone, Copy, Debug)]
+pub(crate) struct Keeping {
+    pub(crate) keeps_marks: bool,
+    /// Whether a mark was met that had to go before others, which were not kept.
+    pub(crate) misses_marks: bool,
+}
+
 /// The state behind one byte more; `None` where the automaton stops: the byte makes an ill-formed sequence, a letter is left to the
 /// steps, or as many of the pattern's first keys have matched as it follows.
 pub(crate) fn state_after<W: Weights>(
     table: &W,
     pattern: &Pattern,
     letters: &mut Letters,
+    keeping: &mut Keeping,
     state: &State,
     byte: u8,
 ) -> Option<State>
@@ -40,7 +50,7 @@ pub(crate) fn state_after<W: Weights>(
         Decoded::More(begun) => Some(state.with_begun(begun)),
         Decoded::Character(c) => {
             let following = letters.letter(table, pattern, c);
-            behind_character(table, pattern, letters, state, c, following)
+            behind_character(table, pattern, letters, keeping, state, c, following)
         }
     }
 }
@@ -50,6 +60,7 @@ fn behind_character<W: Weights>(
     table: &W,
     pattern: &Pattern,
     letters: &mut Letters,
+    keeping: &mut Keeping,
     state: &State,
     c: char,
     following: Letter,
@@ -65,12 +76,14 @@ fn behind_character<W: Weights>(
         if state.is_spent {
             return None;
         }
-        return Some(state.with_letter(state.letter.with_mark(following)?));
+        if let Some(cluster) = state.cluster().with_mark(table, c, following) {
+            return Some(state.with_cluster(cluster, keeping.keeps_marks));
+        }
+        keeping.miss(state, &following);
+    } else if is_next(&state.letter, &following) {
+        return behind_letter(table, pattern, *keeping, state, c, following);
     }
-    if is_next(&state.letter, &following) {
-        return behind_letter(table, pattern, state, c, following);
-    }
-    if state.len == 0 || state.letter.is_closed {
+    if state.len == 0 || state.character == '\0' {
         return None;
     }
     let both = letters.pair(table, pattern, state.character, c);
@@ -80,10 +93,20 @@ fn behind_character<W: Weights>(
     Some(state.with_letter(both))
 }
 
+impl Keeping {
+    /// Notes a mark that does not join the last letter of a state, where it goes before one of its marks and these are not kept.
+    fn miss(&mut self, state: &State, mark: &Letter) {
+        if !self.keeps_marks && 0 < mark.class && mark.class < state.letter.class {
+            self.misses_marks = true;
+        }
+    }
+}
+
 /// The state behind a character with this letter, to which no unit reaches from the letter before.
 fn behind_letter<W: Weights>(
     table: &W,
     pattern: &Pattern,
+    keeping: Keeping,
     state: &State,
     c: char,
     following: Letter,
@@ -108,7 +131,8 @@ fn behind_letter<W: Weights>(
         return None;
     }
     let before = len_to_leave(state, depth);
-    Some(State::behind(pattern, depth, following, c, before))
+    let keeps_marks = keeping.keeps_marks;
+    Some(State::behind(pattern, depth, following, c, before, keeps_marks))
 }
 
 /// How many of the pattern's first keys have matched behind the last letter of a state.

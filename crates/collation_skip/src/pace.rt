@@ -18,6 +18,9 @@ const MANY_TIMES: u32 = 32;
 /// How many bytes are many, when it is seen whether the automaton comes to their end, but for `TURN` at most.
 const MANY_ASKED: usize = 512;
 
+/// How many bytes pass one by one at a time for each turn of the automaton: where it is soon asked, it goes faster.
+const FOREIGN_FOR_EACH: usize = 16;
+
 /// The most bytes that are walked over before text is asked for again, unless more were looked over in vain. And how many turns the
 /// automaton is not asked at most, but for one.
 const LONGEST: u32 = 256;
@@ -207,6 +210,11 @@ impl Pace {
         true
     }
 
+    /// The most bytes that pass one by one this time.
+    pub(crate) fn most_foreign(&self) -> usize {
+        (self.times as usize).saturating_mul(FOREIGN_FOR_EACH)
+    }
+
     /// The most bytes over which the automaton goes this time.
     pub(crate) fn most_moves(&mut self) -> usize {
         let most = if !self.blocks_pay {
@@ -226,8 +234,9 @@ impl Pace {
     }
 
     /// The automaton passed by so many bytes of those that it was asked, and blocks by so many. Where that was little, it is not asked one
-    /// time, then 3, 7, and so on. Where it passed no more than blocks did, or, once it goes far, no more than half of what it was asked, that
-    /// says nothing. Else it is asked at once, and once it goes far twice as soon.
+    /// time, then 3, 7, and so on. Until a place was sought half of what it was asked is not little, unless that is nothing: of a short
+    /// piece it is asked few bytes. Where it passed no more than blocks did, or, once it goes far, no more than half of what it was asked,
+    /// that says nothing. Else it is asked at once, and once it goes far twice as soon.
     pub(crate) fn after_moves(&mut self, asked: usize, passed: usize, in_blocks: usize) {
         if asked >= MANY_ASKED {
             self.is_calm = passed >= asked - TURN;
@@ -237,7 +246,12 @@ impl Pace {
         } else {
             0
         };
-        if passed < WORTH {
+        let much = if self.wanted < SAMPLE {
+            WORTH.min(asked / 2).max(1)
+        } else {
+            WORTH
+        };
+        if passed < much {
             self.goes_far = self.goes_far || self.times >= MANY_TIMES;
             self.times = self.times.min(LONGEST);
         } else if passed <= in_blocks.max(least) {

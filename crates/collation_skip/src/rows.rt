@@ -6,19 +6,19 @@ use crate::automaton::Automaton;
 use crate::begun::Begun;
 use crate::moves::state_after;
 use crate::state::State;
-use byte_dfa::{ROW, STOP};
+use byte_dfa::{FIRST_ROW, ROW, STOP};
 use collation_letters::Letters;
 use collation_pattern::Pattern;
 use collation_table::Weights;
 
 /// How many states there are at most.
-const MOST_STATES: usize = 1_000;
+const MOST_STATES: usize = 990;
 
 /// How many places there are by which states are found, a power of two.
 const STATE_PLACES: usize = 2_048;
 
 /// A place where no number stands.
-const NOTHING: u32 = 0xFFFF_FFFF;
+const NOTHING: u16 = 0xFFFF;
 
 impl Automaton {
     ghost use Rattle.std.specs.Prelude.{◌≡◌, ◌<◌, ℕ, slice_get, Some, true, IfSome};
@@ -54,7 +54,7 @@ impl Automaton {
         }
         let to = self.row_behind(table, pattern, letters, &state, byte);
         let cell = match to {
-            Some(to) => to as u32,
+            Some(to) => to as u16,
             None => STOP,
         };
         self.cells.set_cell(row, byte, cell);
@@ -75,20 +75,20 @@ impl Automaton {
         ensures moves { IfSome result
             (λ row. (to : StateValue) × IsRow self.new row to
             × IsMove (W.table table.now) pattern.now state.now byte to) }
-        ensures below { IfSome result (λ row. row < STOP) }
+        ensures below { IfSome result (λ row. row < 65536) }
         ensures grows { (other : ℕ) (state : StateValue) → IsRow self.old other state
             → IsRow self.new other state }
         ensures right { AreRowsRight (W.table table.now) pattern.now self.new }
         ensures letters { AreLetters (W.table table.now) pattern.now letters.new }
     {
-        let to = state_after(table, pattern, letters, state, byte)?;
-        self.row_of(to)
+        let to = state_after(table, pattern, letters, &mut self.keeping, state, byte)?;
+        self.row_of(&to)
     }
 
     /// The row of a state, which is made where there is none; `None` where there is no room or no memory.
-    pub(crate) fn row_of(&mut self, state: State) -> Option<usize>
-        ensures row { IfSome result (λ row. IsRow self.new row state) }
-        ensures below { IfSome result (λ row. row < STOP) }
+    pub(crate) fn row_of(&mut self, state: &State) -> Option<usize>
+        ensures row { IfSome result (λ row. IsRow self.new row state.now) }
+        ensures below { IfSome result (λ row. row < 65536) }
         ensures grows { (other : ℕ) (state : StateValue) → IsRow self.old other state
             → IsRow self.new other state }
         ensures right { (table : TableMap) (pattern : Compiled) → AreRowsRight table pattern self.old
@@ -98,16 +98,16 @@ impl Automaton {
         if number >= MOST_STATES {
             return None;
         }
-        Some(ROW * number + parity(&state))
+        Some(FIRST_ROW + ROW * number + parity(state))
     }
 
     /// The state whose row it is, if it is one.
     pub(crate) fn state_at(&self, row: usize) -> Option<State>
         ensures { IfSome result (IsRow self.now row) }
     {
-        let number = row / ROW;
+        let number = row.checked_sub(FIRST_ROW)? / ROW;
         let state = self.states.get(number)?;
-        if row == ROW * number + parity(state) {
+        if row == FIRST_ROW + ROW * number + parity(state) {
             Some(*state)
         } else {
             None
@@ -115,16 +115,16 @@ impl Automaton {
     }
 
     /// The number of a state, which is made where there is none.
-    fn number_of(&mut self, state: State) -> Option<usize>
+    fn number_of(&mut self, state: &State) -> Option<usize>
         ensures number { IfSome result
-            (λ number. slice_get self.new.states.items number ≡ Some state) }
+            (λ number. slice_get self.new.states.items number ≡ Some state.now) }
         ensures grows { (other : ℕ) (state : StateValue) → IsRow self.old other state
             → IsRow self.new other state }
         ensures right { (table : TableMap) (pattern : Compiled) → AreRowsRight table pattern self.old
             → AreRowsRight table pattern self.new }
     {
         self.make_places();
-        let (place, number) = self.find(&state)?;
+        let (place, number) = self.find(state)?;
         if let Some(number) = number {
             return Some(number);
         }
@@ -163,7 +163,7 @@ impl Automaton {
             → AreRowsRight table pattern self.new }
     {
         if place < self.places.len() && number < MOST_STATES {
-            self.places[place] = number as u32;
+            self.places[place] = number as u16;
         }
     }
 
@@ -195,9 +195,9 @@ impl Automaton {
     }
 
     /// Adds a state with a row of unknown moves; `None` where there is no room or no memory.
-    fn add(&mut self, state: State) -> Option<usize>
+    fn add(&mut self, state: &State) -> Option<usize>
         ensures number { IfSome result
-            (λ number. slice_get self.new.states.items number ≡ Some state) }
+            (λ number. slice_get self.new.states.items number ≡ Some state.now) }
         ensures grows { (other : ℕ) (state : StateValue) → IsRow self.old other state
             → IsRow self.new other state }
         ensures right { (table : TableMap) (pattern : Compiled) → AreRowsRight table pattern self.old
@@ -210,7 +210,7 @@ impl Automaton {
         if self.cells.add_row().is_err() {
             return None;
         }
-        self.states.push_reserved(state);
+        self.states.push_reserved(*state);
         Some(number)
     }
 }
@@ -232,7 +232,7 @@ fn hash(state: &State) -> usize {
         Begun::Two(first, second) => (first, second, 0),
         Begun::Three(first, second, third) => (first, second, third),
     };
-    let mut hash = state.depth as u64;
+    let mut hash = state.depth as u64 ^ hash_of_marks(state);
     for part in [
         state.character as u32 as u64,
         state.len as u64,
@@ -251,4 +251,18 @@ fn hash(state: &State) -> usize {
             .rotate_left(29);
     }
     hash as usize
+}
+
+/// A number that is the same for equal marks of states.
+fn hash_of_marks(state: &State) -> u64 {
+    match &state.marks {
+        None => 0,
+        Some(marks) => {
+            let classes = (marks.base.class as u64) << 16
+                | (marks.before.class as u64) << 8
+                | marks.last.class as u64;
+            let symbols = marks.base.symbols.third as u64;
+            (classes << 16 | symbols).wrapping_mul(0x9E37_79B9_7F4A_7C15)
+        }
+    }
 }

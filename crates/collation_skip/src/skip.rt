@@ -97,7 +97,8 @@ impl Skip {
                 return by_blocks;
             }
         } else if self.pace.rests() {
-            return pass_foreign(pattern, letters, piece, reach);
+            let reach = reach.min(self.pace.most_foreign());
+            return pass_foreign(table, pattern, letters, piece, reach);
         }
         let by_sets = self.pass_by_sets(table, pattern, letters, piece, reach, false, looked);
         if by_sets.is_some() {

@@ -6,12 +6,20 @@ ghost use Rattle.collation_letters.specs.Symbols.{AreLastSymbols, listed};
 
 use crate::begun::Begun;
 use crate::depth::depth_after;
-use collation_letters::{FOREIGN, Letter, NO_SYMBOL, Symbols};
+use collation_letters::{Cluster, FOREIGN, Letter, NO_SYMBOL, Symbols};
 use collation_pattern::Pattern;
 
 /// How many keys a pattern has at most for which all letters are kept as they are: most are foreign to it, so few differ, and a full table
 /// of states ends what would be found for characters that come once.
 const FEW_KEYS: usize = 12;
+
+/// What a `Cluster` knows of a letter besides: its last two marks, and the letter without them.
+#[derive(Clone, Copy, Debug)]
+pub(crate) struct Marks {
+    pub(crate) base: Letter,
+    pub(crate) before: Letter,
+    pub(crate) last: Letter,
+}
 
 /// What is known behind some bytes. What it means stands in `specs/Reached.antt`.
 #[derive(Clone, Copy, Debug)]
@@ -20,9 +28,11 @@ pub(crate) struct State {
     pub(crate) depth: usize,
     /// The last letter: a character, one with the marks behind it, or two that are one mapped string.
     pub(crate) letter: Letter,
+    /// Its last marks, where states keep them apart.
+    pub(crate) marks: Option<Marks>,
     /// Whether it is kept without its symbols, for behind it no key of the pattern waits. No mark joins it then.
     pub(crate) is_spent: bool,
-    /// The character that it is, where a unit may reach out of it.
+    /// The character that it is, where a unit may reach out of it, or a mark go before one of its points; else 0.
     pub(crate) character: char,
     /// How many bytes it has, if it is one character, else 0.
     pub(crate) len: u8,
@@ -33,24 +43,31 @@ pub(crate) struct State {
 }
 
 impl State {
-    ghost use Rattle.std.specs.Prelude.{◌≡◌, ◌≤◌, length, true, false};
+    ghost use Rattle.std.specs.Prelude.{◌≡◌, ◌≢◌, ◌≤◌, ℕ, List, length, true, false, None};
     ghost use Rattle.std.specs.Char.{len_utf8};
-    ghost use Rattle.collation_skip.specs.Reached.{IsHeldAs};
+    ghost use Rattle.collation_table.specs.Table.{TableMap};
+    ghost use Rattle.collation_pattern.specs.Compiled.{Compiled};
+    ghost use Rattle.collation_letters.specs.Clusters.{IsCluster};
+    ghost use Rattle.collation_letters.specs.Letters.{IsLetter, ordered_from};
+    ghost use Rattle.collation_skip.specs.Reached.{AreMarksRight, IsHeldAs};
     ghost use Rattle.collation_skip.specs.declared.begun.Begun.TheVariants.{Whole};
 
-    /// Behind a letter that is one character, before which stands a character of so many bytes up to which the text may be passed by.
+    /// Behind a letter that is one character, before which stands a character of so many bytes up to which the text may be passed by. Where
+    /// marks are kept apart, so is a character of which one is a point.
     pub(crate) fn behind(
         pattern: &Pattern,
         depth: usize,
         letter: Letter,
         c: char,
         before: u8,
+        keeps_marks: bool,
     ) -> State
         requires { depth ≤ length pattern.now.keys }
         ensures depth { result.depth ≡ depth }
         ensures letter { IsHeldAs pattern.now.keys depth (record letter { is_apart = false })
             result.letter result.is_spent }
-        ensures character { letter.is_closed ≡ false → result.character ≡ c }
+        ensures marks { result.marks ≡ None }
+        ensures character { result.character ≢ 0 → result.character ≡ c }
         ensures len { result.len ≡ len_utf8 c }
         ensures before { result.before ≡ before }
         ensures begun { result.begun ≡ Whole }
@@ -59,8 +76,13 @@ impl State {
         State {
             depth,
             letter: kept(letter, is_spent),
+            marks: None,
             is_spent,
-            character: if letter.is_closed { '\0' } else { c },
+            character: if !letter.is_closed || (keeps_marks && ends_in_a_mark(&letter)) {
+                c
+            } else {
+                '\0'
+            },
             len: c.len_utf8() as u8,
             before,
             begun: Begun::Whole,
@@ -74,6 +96,7 @@ impl State {
         State {
             depth: self.depth,
             letter: self.letter,
+            marks: self.marks,
             is_spent: self.is_spent,
             character: self.character,
             len: self.len,
@@ -88,6 +111,7 @@ impl State {
             ≡ record {
               depth = self.now.depth;
               letter = record letter { is_apart = false };
+              marks = None;
               is_spent = false;
               character = 0;
               len = 0;
@@ -98,11 +122,57 @@ impl State {
         State {
             depth: self.depth,
             letter: letter.without_apart(),
+            marks: None,
             is_spent: false,
             character: '\0',
             len: 0,
             before: 0,
             begun: Begun::Whole,
+        }
+    }
+
+    /// The same with the letter of a cluster, whose marks are kept apart if `keeps_marks` says so.
+    pub(crate) fn with_cluster(&self, cluster: Cluster, keeps_marks: bool) -> State
+        ensures letter { result
+            ≡ record {
+              depth = self.now.depth;
+              letter = record cluster.letter { is_apart = false };
+              marks = result.marks;
+              is_spent = false;
+              character = 0;
+              len = 0;
+              before = 0;
+              begun = Whole;
+            } }
+        ensures marks { (table : TableMap) (pattern : Compiled) (cs : List ℕ)
+            → IsCluster table pattern (ordered_from 0 cs) cluster
+            → AreMarksRight table pattern cs result }
+    {
+        let mut state = self.with_letter(cluster.letter);
+        if keeps_marks {
+            state.marks = Some(Marks {
+                base: cluster.base,
+                before: cluster.before,
+                last: cluster.last,
+            });
+        }
+        state
+    }
+
+    /// The last letter, with what is known of its marks.
+    pub(crate) fn cluster(&self) -> Cluster
+        ensures { (table : TableMap) (pattern : Compiled) (cs : List ℕ)
+            → IsLetter table pattern cs self.now.letter → AreMarksRight table pattern cs self.now
+            → IsCluster table pattern (ordered_from 0 cs) result }
+    {
+        match self.marks {
+            None => Cluster::new(self.letter),
+            Some(marks) => Cluster {
+                letter: self.letter,
+                base: marks.base,
+                before: marks.before,
+                last: marks.last,
+            },
         }
     }
 
@@ -112,6 +182,7 @@ impl State {
     {
         self.depth == other.depth
             && are_same(&self.letter, &other.letter)
+            && are_same_marks(&self.marks, &other.marks)
             && self.is_spent == other.is_spent
             && self.character == other.character
             && self.len == other.len
@@ -162,6 +233,26 @@ fn kept(letter: Letter, is_spent: bool) -> Letter
             second: NO_SYMBOL,
             third: FOREIGN,
         },
+    }
+}
+
+/// Whether the last point of a character is a mark, before which another one may go.
+fn ends_in_a_mark(letter: &Letter) -> bool {
+    letter.points > 1 && letter.class > 0
+}
+
+/// Whether these marks are the same, or both unknown.
+fn are_same_marks(marks: &Option<Marks>, other: &Option<Marks>) -> bool
+    ensures { result ≡ true → marks.now ≡ other.now }
+{
+    match (marks, other) {
+        (None, None) => true,
+        (Some(marks), Some(other)) => {
+            are_same(&marks.base, &other.base)
+                && are_same(&marks.before, &other.before)
+                && are_same(&marks.last, &other.last)
+        }
+        _ => false,
     }
 }
 

@@ -5,35 +5,39 @@ ghost use Rattle.std.specs.Prelude.{◌≡◌, ◌*◌, ◌+◌, ◌≤◌, leng
 ghost use Rattle.byte_dfa.specs.Moves.{HasRow};
 
 use crate::calls::{same, same_at};
-use byte_dfa::{Cells, Cursor, Guesses, ROW};
+use byte_dfa::{Cells, Cursor, FIRST_ROW, Guesses, ROW};
 use std::alloc::{AllocError, Global};
 use std::process::Abort;
 
 /// The row behind no letter of `ab`, the one behind its first, and the one behind both, which accepts.
-const NONE: usize = 0;
+const NONE: usize = FIRST_ROW;
 
-const FIRST: usize = ROW;
+const FIRST: usize = FIRST_ROW + ROW;
 
-const BOTH: usize = 2 * ROW + 1;
+const BOTH: usize = FIRST_ROW + 2 * ROW + 1;
+
+/// How many cells the three rows have, with those of the stops.
+const CELLS: usize = 4 * (FIRST_ROW + 3 * ROW);
 
 /// Fills the cells of the letters in a row, where a `b` leads to this row. The other cells are not known.
 fn fill(cells: &mut Cells, row: usize, behind_b: usize)
     requires row { HasRow cells.old row }
+    requires no_stop { FIRST_ROW ≤ row }
     requires first { HasRow cells.old FIRST }
     requires behind_b { HasRow cells.old behind_b }
     requires small { behind_b ≤ BOTH }
     ensures { length cells.new ≡ length cells.old }
 {
     for byte in b'a'..b'{' {
-        cells.set_cell(row, byte, NONE as u32);
+        cells.set_cell(row, byte, NONE as u16);
     }
-    cells.set_cell(row, b'a', FIRST as u32);
-    cells.set_cell(row, b'b', behind_b as u32);
+    cells.set_cell(row, b'a', FIRST as u16);
+    cells.set_cell(row, b'b', behind_b as u16);
 }
 
 /// A table that accepts letters that end with `ab`. A run stops at what is no letter.
 fn table_of_rows(alloc: Global) -> Result<Cells, AllocError>
-    ensures { IfOk result (λ cells. length cells ≡ 3 * ROW) }
+    ensures { IfOk result (λ cells. length cells ≡ CELLS) }
 {
     let mut cells = Cells::new(alloc);
     cells.add_row()?;
@@ -47,7 +51,7 @@ fn table_of_rows(alloc: Global) -> Result<Cells, AllocError>
 
 /// How far a run goes over a piece from its beginning, and where it accepted last.
 fn run_over(alloc: Global, cells: &Cells, piece: &[u8], by_four: bool) -> (usize, usize)
-    requires { length cells.now ≡ 3 * ROW }
+    requires { length cells.now ≡ CELLS }
 {
     let mut guesses = Guesses::new(alloc);
     guesses.make(alloc, piece.len());

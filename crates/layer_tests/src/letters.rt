@@ -439,7 +439,7 @@ fn try_four(alloc: Global, table: &Table, pattern: &Pattern) -> Result<[Letter; 
     Ok([first, again, back, other])
 }
 
-/// The same of pairs. U+0823 with `h` has the place of `ch`.
+/// The same of pairs. U+4063 with `h` has the place of `ch`.
 fn try_four_pairs(
     alloc: Global,
     table: &Table,
@@ -448,7 +448,7 @@ fn try_four_pairs(
     let mut letters = Letters::new(alloc, table)?;
     let first = letters.pair(table, pattern, 'c', 'h');
     let again = letters.pair(table, pattern, 'c', 'h');
-    let other = letters.pair(table, pattern, '\u{823}', 'h');
+    let other = letters.pair(table, pattern, '\u{4063}', 'h');
     let back = letters.pair(table, pattern, 'c', 'h');
     drop(letters);
     Ok([first, again, back, other])
@@ -475,13 +475,16 @@ fn same_letter_is_answered_again(rt: HostRuntime) {
     four_are(&rt, alloc, pairs, "Plain 255 255 2;", "Steps");
 }
 
-/// `c` with `h` is mapped, and so is `u` with an accent, which is no starter.
-const PAIRS: [(char, char, &str); 6] = [
+/// `c` with `h` is mapped, and so is `u` with an accent; marks behind other characters, one that goes before a point of the first too.
+const PAIRS: [(char, char, &str); 9] = [
     ('c', 'h', "Plain 255 255 2; 2/0; closed apart"),
     ('\u{823}', 'h', "Steps 255 255 255; 0/0;"),
     ('c', 'a', "Steps 255 255 255; 0/0;"),
     ('h', 'c', "Steps 255 255 255; 0/0;"),
-    ('u', '\u{301}', "Steps 255 255 255; 0/0;"),
+    ('u', '\u{301}', "Base 255 255 0; 2/230;"),
+    ('a', '\u{301}', "Plain 255 255 0; 2/230; closed"),
+    ('\u{E9}', '\u{327}', "Plain 255 255 0; 3/230; closed"),
+    ('\u{301}', '\u{327}', "Steps 255 255 255; 0/0;"),
     ('\0', '\0', "Steps 255 255 255; 0/0;"),
 ];
 
@@ -545,12 +548,14 @@ fn are_kept(
 }
 
 /// Two characters, and how many others come before: from the first letter on those are kept together whose last eight bits differ, from the
-/// 192nd on the last twelve, and from the 4,096th on the last sixteen.
-const TOGETHER: [(u32, char, char, bool); 6] = [
+/// 192nd on the last ten, from the 384th on the last twelve, and from the 4,096th on the last sixteen.
+const TOGETHER: [(u32, char, char, bool); 8] = [
     (0, 'a', 'b', true),
     (0, 'a', '\u{161}', false),
     (189, 'a', '\u{161}', false),
     (190, 'a', '\u{161}', true),
+    (381, 'a', '\u{461}', false),
+    (382, 'a', '\u{461}', true),
     (4_093, 'a', '\u{1061}', false),
     (4_094, 'a', '\u{1061}', true),
 ];
@@ -568,7 +573,7 @@ fn more_letters_are_kept_where_more_are_found(rt: HostRuntime) {
     drop(table);
 }
 
-/// To be run with 130 requests in a row refused too, which is how often the first 4,096 letters ask for places.
+/// To be run with 131 requests in a row refused too, which is how often the first 4,096 letters ask for places.
 #[test]
 fn refused_places_are_asked_for_again(rt: HostRuntime) {
     let alloc = rt.alloc();

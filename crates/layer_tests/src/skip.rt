@@ -82,9 +82,9 @@ const TEXTS: [(&str, &str, Option<Place>); 22] = [
         "mm\u{4E00}\u{4E00}mb",
         Some((8, 9, 'b')),
     ),
-    // a mark joins the letter before it; one of a lower class is left to the steps
+    // a mark joins the letter before it, and one behind a letter that begins a string of the table
     ("b", "me\u{301}mm", Some((4, 5, 'm'))),
-    ("b", "mme\u{301}\u{327}mm", Some((1, 2, 'e'))),
+    ("b", "mmu\u{301}mm", Some((5, 6, 'm'))),
     ("b", "\u{301}mm", None),
     // two characters that are one mapped string
     ("b", "mchmm", Some((3, 4, 'm'))),
@@ -118,6 +118,25 @@ fn text_is_passed_by(rt: HostRuntime) {
     }
     for (pattern, text, want) in &CIRCLES {
         text_passes(&rt, rt.alloc(), (*pattern, TWO, KEPT), *text, *want);
+    }
+}
+
+/// A text, and where it is left at first and from then on.
+const OUT_OF_ORDER: [(&str, Place, Place); 3] = [
+    ("mme\u{301}\u{327}mm", (1, 2, 'e'), (7, 8, 'm')),
+    ("mm\u{E9}\u{327}mm", (1, 2, '\u{E9}'), (6, 7, 'm')),
+    ("mme\u{327}\u{301}mm", (7, 8, 'm'), (7, 8, 'm')),
+];
+
+/// A mark goes before another one, or before a point of a character: the first time it is a stop, and then states keep marks apart.
+#[test]
+fn marks_go_before_others(rt: HostRuntime) {
+    let alloc = rt.alloc();
+    let table = table_of(&rt, alloc, TABLE, None);
+    let pattern = compile(&rt, alloc, &table, ("b", ONE, KEPT));
+    for (text, first, again) in &OUT_OF_ORDER {
+        let got = passed(&rt, alloc, &table, &pattern, text.as_bytes(), text.len());
+        places_are(&rt, got, [Some(*first), Some(*again)], *text);
     }
 }
 
@@ -257,7 +276,7 @@ fn one_by_one(
 /// A text, how many bytes of it may be passed by, and where it is left.
 type Text<'a> = (&'a str, usize, Option<Place>);
 
-/// Characters with other keys go one by one, before a character whose letter is known and is no mark, and that begins not after `reach`.
+/// Characters with other keys go one by one, before a character that is no mark, and that begins not after `reach`.
 const CHARACTERS: [Text; 8] = [
     ("m\u{4E00}\u{D55C}m", 8, Some((4, 7, 'm'))),
     ("m\u{4E00}\u{D55C}m", 4, Some((1, 4, '\u{D55C}'))),
@@ -265,8 +284,8 @@ const CHARACTERS: [Text; 8] = [
     ("m\u{4E00}\u{D55C}m", 0, None),
     ("\u{4E00}mbm", 6, Some((3, 4, 'b'))),
     ("mm\u{301}m", 5, Some((0, 1, 'm'))),
-    // `a` is not known
-    ("mmam", 4, Some((0, 1, 'm'))),
+    // the letter of `a` was not found before
+    ("mmam", 4, Some((2, 3, 'm'))),
     ("bmm", 3, None),
 ];
 
@@ -414,11 +433,15 @@ fn bytes_are_walked_over_behind_tries_in_vain(rt: HostRuntime) {
     same_at(&rt, &pace.due(), &1_000, &"prepared");
 }
 
+/// Before these characters a match stands, and so the automaton passes little of the text by.
+const MATCH_AND_OTHERS: &str =
+    "mbbmab\u{4E00}\u{4E00}\u{4E00}\u{4E00}\u{4E00}\u{4E00}\u{4E00}\u{4E00}\u{4E00}\u{4E00}";
+
 /// Whether the automaton is asked of a text, of which it passes little by: it goes over keys of the pattern too, and characters one by one
 /// stop before these.
 fn is_asked(rt: &impl Abort, ways: &mut Ways<'_>) -> bool {
-    let place = ways.pass(b"mbbm", 4);
-    let is_asked = place == Some((2, 3, 'm'));
+    let place = ways.pass(MATCH_AND_OTHERS.as_bytes(), MATCH_AND_OTHERS.len());
+    let is_asked = place == Some((3, 4, 'a'));
     if !is_asked {
         same_at(rt, &place, &Some((0, 1, 'b')), &"where it rests");
     }

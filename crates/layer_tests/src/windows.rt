@@ -11,6 +11,9 @@ use std::process::Abort;
 /// The fewest bytes of a piece for which guesses are made, after which there are some for shorter pieces too.
 const WORTH_GUESSES: usize = 2_048;
 
+/// How many bytes of a text meet the first of its marks that are out of order.
+const FRONT: usize = 64;
+
 /// The longest piece, in bytes.
 const LONGEST: usize = 2_600;
 
@@ -139,6 +142,10 @@ fn compare_span(rt: &impl Abort, ways: &mut Ways<'_>, case: Case<'_>, span: (usi
 /// Compares pieces of each length of a text, of which the first one is so long that guesses are made.
 fn compare_spans(rt: &impl Abort, alloc: Global, table: &Table, pattern: &Pattern, case: Case<'_>) {
     let mut ways = ways_of(rt, alloc, table, pattern);
+    // behind the first mark that goes before another one states keep marks apart, from the next call on
+    let text = made_text(case, 0);
+    let _first = ways.run(&text, FRONT, false);
+    let _other = ways.run_other(&text, FRONT, false);
     for span in &SPANS {
         compare_span(rt, &mut ways, case, *span);
     }

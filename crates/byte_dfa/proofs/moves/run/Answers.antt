@@ -21,7 +21,7 @@ bytes-preserved-then-row-eq1 c =
     let i = c.bytes.invariant in
     let old = cursor_at at c.bytes.row c.bytes.accepted_at c.bytes.accepted_row in
     let new = cursor_at (at + 1) cell (at + 1) cell in
-    let one = leads-one cells piece at c.bytes.row cell c.requires.cells (omega (arith, c.bytes-test.true, c.requires.to)) (c.type_inv.piece at).fits c.cell_at-cell.ensures c.if-cell-ge-STOP.false i.follows.here.spot in
+    let one = leads-one cells piece at c.bytes.row cell c.requires.cells (omega (arith, c.bytes-test.true, c.requires.to)) (c.type_inv.piece at).fits c.cell_at-cell.ensures c.if-cell-le-STOP.false i.follows.here.spot in
     record {
       follows = follows-on cells piece c.args.from old new i.follows (follows-moved cells piece old new (at + 1) cell i.follows.order one refl refl (inr (refl, refl, c.if-row-eq1.true)));
       to = λ before. omega (arith, c.bytes-test.true);
@@ -36,7 +36,7 @@ bytes-preserved c =
     let i = c.bytes.invariant in
     let old = cursor_at at c.bytes.row c.bytes.accepted_at c.bytes.accepted_row in
     let new = cursor_at (at + 1) cell c.bytes.accepted_at c.bytes.accepted_row in
-    let one = leads-one cells piece at c.bytes.row cell c.requires.cells (omega (arith, c.bytes-test.true, c.requires.to)) (c.type_inv.piece at).fits c.cell_at-cell.ensures c.if-cell-ge-STOP.false i.follows.here.spot in
+    let one = leads-one cells piece at c.bytes.row cell c.requires.cells (omega (arith, c.bytes-test.true, c.requires.to)) (c.type_inv.piece at).fits c.cell_at-cell.ensures c.if-cell-le-STOP.false i.follows.here.spot in
     record {
       follows = follows-on cells piece c.args.from old new i.follows (follows-moved cells piece old new (at + 1) cell i.follows.order one refl refl (inl (refl, refl)));
       to = λ before. omega (arith, c.bytes-test.true);
@@ -51,11 +51,11 @@ returns-after-bytes-clause-to c = c.bytes.invariant.to
 pub returns-after-bytes-clause-end : goal.returns-after-bytes-clause-end
 returns-after-bytes-clause-end c = inl (let done = c.bytes-test.false in omega (arith, done))
 
-pub returns-then-cell-ge-STOP-clause-end : goal.returns-then-cell-ge-STOP-clause-end
-returns-then-cell-ge-STOP-clause-end c = inr (subst (λ cell. STOP ≤ cell) c.cell_at-cell.ensures c.if-cell-ge-STOP.true)
+pub returns-then-cell-le-STOP-clause-end : goal.returns-then-cell-le-STOP-clause-end
+returns-then-cell-le-STOP-clause-end c = inr (subst (λ cell. cell ≤ STOP) c.cell_at-cell.ensures c.if-cell-le-STOP.true)
 
-pub returns-then-cell-ge-STOP-clause-follows : goal.returns-then-cell-ge-STOP-clause-follows
-returns-then-cell-ge-STOP-clause-follows c = c.bytes.invariant.follows
+pub returns-then-cell-le-STOP-clause-follows : goal.returns-then-cell-le-STOP-clause-follows
+returns-then-cell-le-STOP-clause-follows c = c.bytes.invariant.follows
 
-pub returns-then-cell-ge-STOP-clause-to : goal.returns-then-cell-ge-STOP-clause-to
-returns-then-cell-ge-STOP-clause-to c = c.bytes.invariant.to
+pub returns-then-cell-le-STOP-clause-to : goal.returns-then-cell-le-STOP-clause-to
+returns-then-cell-le-STOP-clause-to c = c.bytes.invariant.to

@@ -1,13 +1,12 @@
 use Rattle.std.proofs.Common.{◌+◌, ◌-◌, ◌<◌, ◌≤◌}
-use Rattle.byte_dfa.specs.declared.moves.TheConstants.{STOP}
-use Rattle.byte_dfa.specs.Moves.{MovesLead}
+use Rattle.byte_dfa.proofs.MoveLemmas.{MayLead}
 use Rattle.byte_dfa.proofs.windows.move_window.Given as goal
 
 abbrev pub invariant-moves : goal.invariant-moves
 invariant-moves l = record {
   within : l.moves ≤ 12;
-  below : 0 < l.moves → l.now < STOP;
-  leads : MovesLead l.cells l.piece l.at l.row (l.at + l.moves) l.now;
+  below : 0 < l.moves → l.now < 65536;
+  leads : MayLead l.cells l.piece l.at l.row (l.at + l.moves) l.now;
 }
 
 abbrev pub decreases-moves : goal.decreases-moves

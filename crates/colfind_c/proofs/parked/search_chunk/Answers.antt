@@ -12,7 +12,7 @@ returns g c = record {
       let queue = c.queue-1.given.1 (chained_keeps _ (λ ys s. c.feed_with-arg-3-1.given ≡ s.0.ghost_name) (λ ys q x v i k. search rules) fed.0 _ _ refl fed.1) in (
         fed.0,
         fed.2,
-        let here = chained_keeps _ (λ ys s. Gets c.args.queue.now ys s.0.now) (λ ys q x v i k. let one : Gets q.0.now (x ∷ []) v.0.now = search rules in gets_more _ _ _ ys (x ∷ []) i one) fed.0 _ _ (gets_none c.args.queue.now) fed.1 in
+        let here = chained_keeps _ (λ ys s. Gets c.args.queue.now ys s.0.now) (λ ys q x v i k. gets_more _ _ _ ys (x ∷ []) i k.met.1) fed.0 _ _ (gets_none c.args.queue.now) fed.1 in
             subst (λ q. Gets c.args.queue.now fed.0 q) (sym queue) here,
       );
 }

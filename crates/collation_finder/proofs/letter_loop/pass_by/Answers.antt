@@ -34,13 +34,13 @@ come g c first before ranges so_far =
     let matcher = c.args.matcher.now in
     let now : Matcher = record matcher { walk = c.pass_to.new.self } in
     let skipped : AreNext table piece offset reach from.len to from.next s.next =
-    next-n table piece text offset reach from.len from.next s.end s.next rest c.requires.near e.passes.reach e.passes.within e.passes.next e.passes.text e.begun e.apart (len_utf8_bounds s.next).0 in
+    next-n table piece text offset reach from.len from.next s.end s.next rest c.requires.may.near e.passes.reach e.passes.within e.passes.next e.passes.text e.begun e.apart (len_utf8_bounds s.next).0 in
     let count : s.end ≡ to - from.len = omega arith in
     let part : take s.end text ≡ take (to - from.len) (drop from.len piece) = ap (take s.end) rest ∙ ap (λ k. take k (drop from.len piece)) count in
     let goes : HasWalkedOn table pattern matcher now (units table (ordered_from start (chars (take (to - from.len) (drop from.len piece))))) [] =
     subst (λ (v : Walk). HasWalkedOn table pattern matcher (record matcher { walk = v }) (units table (ordered_from start (chars (take (to - from.len) (drop from.len piece))))) []) (sym c.pass_to.ensures)
     (subst (λ (t : List ℕ). HasWalkedOn table pattern matcher (record matcher { walk = passed_to matcher.walk (start + s.start) }) (units table (ordered_from start (chars t))) []) part
-    (e.walked matcher c.requires.flag c.requires.state)) in
+    (e.walked matcher c.requires.may.flag c.requires.may.state)) in
     subst (λ (t : List (ℕ × ℕ)). HasComeTo table pattern piece offset reach first before now to s.next t) (append-nil ranges)
     (come-further c.laws_of_characters.ensures table pattern piece offset reach first from.len to from.next s.next before matcher now ranges [] so_far skipped goes)
 

@@ -9,7 +9,6 @@ returns c =
     record {
       ascii = decompositions.ascii;
       short = decompositions.short;
-      in_order = decompositions.in_order;
       few = faults.few;
       anew = faults.anew;
       bytes = points.bytes_of_parts;
@@ -17,5 +16,4 @@ returns c =
       shifted = points.shifted;
       order_shifted = ordering.shifted;
       at_starters = ordering.at_starters;
-      stays = ordering.stays;
     }

@@ -1,4 +1,3 @@
-use Rattle.std.proofs.Common.{◌≡◌, ◌≢◌}
 use Rattle.collation_skip.proofs.classes.is_right_of_known.Goals as goal
 
 pub returns-clause-class : goal.returns-clause-class

@@ -1,4 +1,4 @@
-use Rattle.std.proofs.Common.{◌≡◌, ◌∙◌, ◌<◌, Bool, length, true, false, List, [], ◌∷◌, sym, ap, subst, arith}
+use Rattle.std.proofs.Common.{◌∙◌, ◌<◌, length, true, false, List, [], ◌∷◌, sym, ap, subst, arith}
 use Rattle.collation_elements.specs.declared.keys.Key.{Key}
 use Rattle.std.proofs.Math.Logic.{∥∥₁_map}
 use Rattle.collation_letters.specs.declared.letter.Letter.{Letter}
@@ -33,6 +33,6 @@ returns g c =
     record {
       moves = λ byte spelled at bytes h. ∥∥₁_map h (λ r.
           reached-next laws laws.shifted table pattern s t at bytes byte c.args.c spelled c.requires.known.0 c.requires.known.1 c.requires.next
-          (λ own is before keys symbols so_far. c.depth_behind-depth.ensures own is before keys symbols so_far ∙ depth) below l letter kept c.behind.ensures.len
-          (λ closed. sym (c.behind.ensures.character (kept.closed ∙ closed))) c.behind.ensures.begun clean r);
+          (λ own is before keys symbols so_far. c.depth_behind-depth.ensures own is before keys symbols so_far ∙ depth) below l letter kept c.behind.ensures.len c.behind.ensures.marks
+          (λ known. sym (c.behind.ensures.character known)) c.behind.ensures.begun clean r);
     }

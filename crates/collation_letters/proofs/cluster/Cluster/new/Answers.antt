@@ -1,4 +1,4 @@
-use Rattle.std.proofs.Common.{◌≡◌, ◌∙◌, [], ◌++◌, length, refl, sym, ap, arith}
+use Rattle.std.proofs.Common.{◌∙◌, [], ◌++◌, length, refl, sym, ap, arith}
 use Rattle.std.proofs.lemmas.Bool.{false≢true}
 use Rattle.std.proofs.lemmas.List.{append-nil}
 use Rattle.collation_letters.specs.Letters.{ordered_from}

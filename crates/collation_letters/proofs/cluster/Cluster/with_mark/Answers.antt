@@ -1,6 +1,5 @@
-use Rattle.std.proofs.Common.{◌≡◌, ◌∙◌, ℕ, not, ap, true, false, List, [], ◌∷◌, ◌++◌, sym, subst}
+use Rattle.std.proofs.Common.{◌≡◌, ◌∙◌, not, ap, true, [], ◌∷◌, ◌++◌, sym, subst}
 use Rattle.std.proofs.lemmas.Bool.{false≢true}
-use Rattle.collation_letters.specs.declared.cluster.Cluster.{Cluster}
 use Rattle.collation_letters.specs.declared.letter.Letter.{Letter}
 use Rattle.nfd_points.specs.Points.{points_from}
 use Rattle.collation_letters.specs.Clusters.{ContinuesNone, IsCluster}

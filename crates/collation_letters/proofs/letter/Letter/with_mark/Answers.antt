@@ -1,4 +1,4 @@
-use Rattle.std.proofs.Common.{◌≡◌, ◌∙◌, ◌⊎◌, ◌≤◌, true, [], ◌∷◌, ◌++◌, inl, inr, refl, sym, arith}
+use Rattle.std.proofs.Common.{◌≡◌, ◌⊎◌, ◌≤◌, [], ◌∷◌, ◌++◌, inl, inr, refl, arith}
 use Rattle.collation_letters.proofs.JoiningLemmas.{is_so, letter-both, points-both}
 use Rattle.collation_letters.proofs.letter.Letter.with_mark.Goals as goal
 

@@ -1,4 +1,4 @@
-use Rattle.std.proofs.Common.{◌≡◌, ◌∙◌, ◌⊎◌, ◌≤◌, [], ◌∷◌, ◌++◌, inl, inr, refl, arith}
+use Rattle.std.proofs.Common.{◌≡◌, ◌⊎◌, ◌≤◌, inl, inr, refl, arith}
 use Rattle.collation_letters.proofs.JoiningLemmas.{points-outer}
 use Rattle.collation_letters.proofs.letter.Letter.with_outer_mark.Goals as goal
 

@@ -32,18 +32,18 @@ pub returns-clause-number : goal.returns-clause-number
 returns-clause-number c =
     let old = c.args.self.now.states in
     let many : c.len-number.result ≡ length old.items = omega (arith, c.len-number.ensures, old.ok.0) in
-    let states : c.push_reserved.new.self.items ≡ old.items ++ c.args.state ∷ [] = c.push_reserved.ensures.items ∙ ap (λ (l : List State). l ++ c.args.state ∷ []) c.reserve.ensures.items in
-    ap (λ (l : List State). slice_get l c.len-number.result) states ∙ ap (slice_get (old.items ++ c.args.state ∷ [])) many ∙ got-last old.items c.args.state
+    let states : c.push_reserved.new.self.items ≡ old.items ++ c.args.state.now ∷ [] = c.push_reserved.ensures.items ∙ ap (λ (l : List State). l ++ c.args.state.now ∷ []) c.reserve.ensures.items in
+    ap (λ (l : List State). slice_get l c.len-number.result) states ∙ ap (slice_get (old.items ++ c.args.state.now ∷ [])) many ∙ got-last old.items c.args.state.now
 
 pub returns-clause-grows : goal.returns-clause-grows
 returns-clause-grows c = λ other state h.
     let a = c.args.self.now in
-    let states : c.push_reserved.new.self.items ≡ a.states.items ++ c.args.state ∷ [] = c.push_reserved.ensures.items ∙ ap (λ (l : List State). l ++ c.args.state ∷ []) c.reserve.ensures.items in
-    row-more a (record a { cells = c.add_row.new.self; states = c.push_reserved.new.self }) (c.args.state ∷ []) states other state h
+    let states : c.push_reserved.new.self.items ≡ a.states.items ++ c.args.state.now ∷ [] = c.push_reserved.ensures.items ∙ ap (λ (l : List State). l ++ c.args.state.now ∷ []) c.reserve.ensures.items in
+    row-more a (record a { cells = c.add_row.new.self; states = c.push_reserved.new.self }) (c.args.state.now ∷ []) states other state h
 
 pub returns-clause-right : goal.returns-clause-right
 returns-clause-right c = λ table pattern right.
     let a = c.args.self.now in
-    let states : c.push_reserved.new.self.items ≡ a.states.items ++ c.args.state ∷ [] = c.push_reserved.ensures.items ∙ ap (λ (l : List State). l ++ c.args.state ∷ []) c.reserve.ensures.items in
+    let states : c.push_reserved.new.self.items ≡ a.states.items ++ c.args.state.now ∷ [] = c.push_reserved.ensures.items ∙ ap (λ (l : List State). l ++ c.args.state.now ∷ []) c.reserve.ensures.items in
     let cells = done c.add_row.result (sym c.is_err-2.ensures.value ∙ c.if-is_err-2.false) c.add_row.ensures.ok in
-    right-added table pattern a (record a { cells = c.add_row.new.self; states = c.push_reserved.new.self }) c.args.state right states cells
+    right-added table pattern a (record a { cells = c.add_row.new.self; states = c.push_reserved.new.self }) c.args.state.now right states cells

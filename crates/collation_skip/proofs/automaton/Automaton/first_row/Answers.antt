@@ -24,8 +24,8 @@ returns-clause-stands g c =
     let none = eqb-false (length c.keys.result.now) 0 (sym c.is_empty.ensures ∙ c.if-is_empty.false) in
     let keys = ap (λ (l : List Key). length l) c.keys.ensures in omega (arith, none, keys) in
     if-some c.row_of.result _ _ (λ row is piece spelled. stands-first table pattern c.row_of.new.self piece (len_utf8 first) row s is (λ start.
-    reached-first table pattern s start (take (len_utf8 first) piece) first spelled starter some l letter kept c.behind.ensures.depth c.behind.ensures.len
-    (λ closed. sym (c.behind.ensures.character (kept.closed ∙ closed))) c.behind.ensures.begun c.behind.ensures.before)) c.row_of.ensures.row
+    reached-first table pattern s start (take (len_utf8 first) piece) first spelled starter some l letter kept c.behind.ensures.depth c.behind.ensures.len c.behind.ensures.marks
+    (λ known. sym (c.behind.ensures.character known)) c.behind.ensures.begun c.behind.ensures.before)) c.row_of.ensures.row
 
 pub returns-clause-right : goal.returns-clause-right
 returns-clause-right g c = c.row_of.ensures.right (g.W.Weights.table c.args.table.now) c.args.pattern.now c.requires.right

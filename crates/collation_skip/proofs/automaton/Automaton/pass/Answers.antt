@@ -1,10 +1,21 @@
-use Rattle.std.proofs.Common.{◌≤◌, length, take, arith, inl, inr}
+use Rattle.std.proofs.Common.{◌≤◌, length, take, sym, subst, arith, inl, inr}
 use Rattle.std.proofs.lemmas.Bool.{cases_lt}
 use Rattle.std.proofs.lemmas.List.{length-take}
 use Rattle.collation_letters.proofs.SymbolLemmas.{some-map}
 use Rattle.collation_skip.specs.Passed.{PassesTo}
+use Rattle.collation_skip.specs.Rows.{AreRowsRight}
 use Rattle.collation_skip.proofs.RunLemmas.{stands-whole}
+use Rattle.collation_skip.proofs.automaton.Automaton.pass.Goals.{then-self, else-self}
 use Rattle.collation_skip.proofs.automaton.Automaton.pass.Goals as goal
+
+pub go-requires-clause-right : goal.go-requires-clause-right
+go-requires-clause-right g c =
+    let table = g.W.Weights.table c.args.table.now in
+    let pattern = c.args.pattern.now in
+    elim c.if-self.branch [
+      | then-self w ↦ subst (AreRowsRight table pattern) (sym w.self-is) (w.keep_marks.ensures table pattern)
+      | else-self w ↦ subst (AreRowsRight table pattern) (sym w.self-is) c.requires.right
+    ]
 
 pub answer-requires-clause-passed : goal.answer-requires-clause-passed
 answer-requires-clause-passed g c = λ some.
