@@ -50,8 +50,8 @@ const NO_ITEMS: CharacterItems = CharacterItems {
 
 impl CharacterItems {
     /// The items of these points by themselves, which this weigher weighs next; `None` where they have more than three keys, or a
-    /// cluster begins after the first of them. The window is then as it was: points go through it where one of them may begin a longer
-    /// string of the table or has more than one key. Their offsets are counted in bytes from the start of the first character.
+    /// cluster begins after the first of them. The window is then as it was: points go through it, unless each is a unit by itself with one
+    /// key at most, and there is an answer. Their offsets are counted in bytes from the start of the first character.
     pub fn of_points<W: Weights>(
         table: &W,
         window: &mut Window,

@@ -314,7 +314,7 @@ fn characters_are_passed_by(rt: HostRuntime) {
 }
 
 /// Rows beside those of the table, for blocks of ASCII. A unit may reach out of `l`. The control U+0001 has no key.
-const MORE: &str = "0001 ; [.0000.0000.0000]
+const TAILOR: &str = "0001 ; [.0000.0000.0000]
 006C ; [.1C60.0020.0002]
 006C 00B7 ; [.1C68.0020.0002]
 006F ; [.1C70.0020.0002]
@@ -332,7 +332,7 @@ fn in_blocks(
     text: &str,
     reach: usize,
 ) -> [Option<Place>; 2] {
-    let table = table_of(rt, alloc, TABLE, Some(MORE.as_bytes()));
+    let table = table_of(rt, alloc, TABLE, Some(TAILOR.as_bytes()));
     let pattern = compile(rt, alloc, &table, settings);
     let mut ways = ways_of(rt, alloc, &table, &pattern);
     let before = ways.pass_blocks(text.as_bytes(), reach);
