@@ -38,7 +38,7 @@ else:
     Bytes = object  # with bytes; each version of Python has another name for it
 
 __all__ = ["Fault", "Kind", "Pattern", "Search", "Table"]
-__version__ = "1.4.5"
+__version__ = "1.4.6"
 
 
 def _struct(**fields: type) -> type[Structure]:

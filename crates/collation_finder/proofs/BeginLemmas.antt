@@ -3,9 +3,9 @@ use Rattle.std.specs.List.{All}
 use Rattle.std.proofs.Common.{◌≡◌, ◌∙◌, ℕ, true, false, List, [], ◌∷◌, ◌++◌, slice_get, sym, ap, append_assoc}
 use Rattle.std.proofs.lemmas.List.Elements.{All-append}
 use Rattle.nfd_points.specs.declared.points.Point.{Point}
-use Rattle.nfd_points.specs.Points.{byte_len, points, points_from, begins_with_starter}
+use Rattle.nfd_points.specs.Points.{byte_len, points, points_from, begins_with_starter, is_starter}
 use Rattle.nfd_points.specs.Laws.{WaitingAreOthers}
-use Rattle.collation_table.specs.Table.{TableMap, BeginsNoLongerString}
+use Rattle.collation_table.specs.Table.{TableMap, BeginsNoLongerString, ContinuesNoString}
 use Rattle.collation_elements.specs.Units.{units}
 use Rattle.collation_pattern.specs.Compiled.{Compiled}
 use Rattle.collation_letters.specs.Laws.{LetterLaws}
@@ -15,7 +15,10 @@ use Rattle.collation_finder.specs.Pausing.{BeginsUnit}
 use Rattle.collation_finder.specs.declared.finder.Finder.{Finder}
 use Rattle.collation_finder.proofs.TakenAtOnceLemmas.{begun, begins_anywhere, from_one}
 use Rattle.collation_finder.proofs.CharacterLemmas.{apart-at}
-use Rattle.collation_finder.proofs.Untaken.{UnitsEndBefore}
+
+-- no unit reaches to a starter whose code point stands in no mapped string after the first place
+abbrev pub UnitsEndBefore : Type 0
+UnitsEndBefore = (table : TableMap) (ps : List Point) (d : Point) (more : List Point) → is_starter d ≡ true → ContinuesNoString table d.cp → units table (ps ++ d ∷ more) ≡ units table ps ++ units table (d ∷ more)
 
 -- a letter into which no unit reaches
 pub begins-apart : LetterLaws → UnitsEndBefore → (table : TableMap) (pattern : Compiled) (finder : Finder) (offset c : ℕ) (l : Letter) → l.is_apart ≡ true → IsLetter table pattern (c ∷ []) l →

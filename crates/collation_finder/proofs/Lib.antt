@@ -7,5 +7,5 @@ pub mod PointLetters
 pub mod EarlyLemmas
 pub mod SkipSteps
 pub mod LoopSteps
-pub mod Untaken
 pub mod BeginLemmas
+pub mod HeldText

@@ -1,11 +1,11 @@
 -- Points that are plain letters by themselves, one after another: their units are their own.
-use Rattle.std.proofs.Common.{◌≡◌, ◌∙◌, ℕ, ◌-◌, true, false, List, [], ◌∷◌, ◌++◌, length, take, drop, sym, ap, append_assoc}
+use Rattle.std.proofs.Common.{◌≡◌, ◌∙◌, ℕ, ◌-◌, true, false, List, [], ◌∷◌, ◌++◌, length, take, drop, sym, ap, subst, append_assoc}
 use Rattle.std.proofs.lemmas.List.{take-append-drop, take_rest}
 use Rattle.std.specs.List.{Contains}
-use Rattle.std.proofs.lemmas.List.Elements.{All-same, All-drop}
+use Rattle.std.proofs.lemmas.List.Elements.{All-same, All-contains, All-drop, All-weaker, Contains-append_left}
 use Rattle.nfd_points.specs.declared.points.Point.{Point}
-use Rattle.nfd_points.specs.Points.{decomposition, points_at}
-use Rattle.nfd_points.specs.Laws.{PointsAreShifted}
+use Rattle.nfd_points.specs.Points.{decomposition, points_at, points_of}
+use Rattle.nfd_points.specs.Laws.{PointsAreDecomposed, PointsAreShifted, WaitingAreOthers}
 use Rattle.nfd_points.specs.Reordering.{IsSoundPoint}
 use Rattle.collation_table.specs.Table.{TableMap}
 use Rattle.collation_elements.specs.Units.{units}
@@ -16,17 +16,30 @@ use Rattle.collation_letters.specs.declared.letter.Role.TheVariants.{Plain}
 use Rattle.collation_letters.specs.Letters.{IsLetter, ordered_from}
 use Rattle.collation_walk.specs.declared.matching.Matcher.{Matcher}
 use Rattle.collation_walk.specs.Walked.{HasWalkedOn}
-use Rattle.collation_finder.specs.TakenAtOnce.{AreClosedHere}
+use Rattle.collation_finder.specs.declared.finder.Finder.{Finder}
+use Rattle.collation_finder.specs.Finding.{FinderStandsFor}
+use Rattle.collation_finder.specs.TakenAtOnce.{AreClosedHere, AreDecomposed, IsDecomposed}
 use Rattle.collation_finder.specs.Matching.{HasMatched}
 use Rattle.collation_letters.proofs.ApartLemmas.{ordered_one}
 use Rattle.collation_letters.proofs.CharacterLemmas.{ordered_is_shifted}
 
 -- the points of one character, where it stands
-pub alone_from : (p : Point) → p.ccc ≡ 0 → p.first ≡ true → IsSoundPoint p → decomposition p.cp ≡ p.cp ∷ [] → ordered_from p.offset (p.cp ∷ []) ≡ p ∷ []
+pub point-from : (p : Point) → p.ccc ≡ 0 → p.first ≡ true → IsSoundPoint p → decomposition p.cp ≡ p.cp ∷ [] → points_of p.offset p.cp ≡ p ∷ []
 unfolding points_at
-alone_from p ccc first sound one =
-    ordered_one p.offset p.cp ∙ ap (points_at p.offset true) one ∙ ap (λ n. record { cp = p.cp; ccc = n; offset = p.offset; first = true } ∷ []) (sym sound.class)
+point-from p ccc first sound one =
+    ap (points_at p.offset true) one ∙ ap (λ n. record { cp = p.cp; ccc = n; offset = p.offset; first = true } ∷ []) (sym sound.class)
     ∙ ap (λ b. record { cp = p.cp; ccc = p.ccc; offset = p.offset; first = b } ∷ []) (sym first)
+
+-- in order too
+pub alone_from : (p : Point) → p.ccc ≡ 0 → p.first ≡ true → IsSoundPoint p → decomposition p.cp ≡ p.cp ∷ [] → ordered_from p.offset (p.cp ∷ []) ≡ p ∷ []
+alone_from p ccc first sound one = ordered_one p.offset p.cp ∙ point-from p ccc first sound one
+
+-- each point of the window is its own decomposition, as those of a text are
+pub decomposed : (others : WaitingAreOthers) (each : PointsAreDecomposed) (table : TableMap) (pattern : Compiled) (old : Finder) (taken : List ℕ) (handed : List (ℕ × ℕ)) →
+    FinderStandsFor table pattern old taken handed → AreDecomposed old.window.points
+decomposed others each table pattern old taken handed h =
+    let all = subst AreDecomposed (others old.reorder taken h.points h.reordered) (each taken) in
+    All-weaker (Contains h.points) IsDecomposed (λ p there. All-contains IsDecomposed (h.points ++ old.reorder.held) p all (Contains-append_left h.points old.reorder.held p there)) old.window.points h.matched.kept
 
 pub closed-one_point : PointsAreShifted → (table : TableMap) (pattern : Compiled) (p : Point) (l : Letter) → ordered_from p.offset (p.cp ∷ []) ≡ p ∷ [] → l.role ≡ Plain →
     IsLetter table pattern (p.cp ∷ []) l → AreClosedHere table (p ∷ [])

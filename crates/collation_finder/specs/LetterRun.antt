@@ -34,13 +34,6 @@ pub record IsFollowed (table : TableMap) (pattern : Compiled) (piece : List ℕ)
   pub next : SpellsCharacter (take (len_utf8 walked.next) (drop walked.len piece)) walked.next
   pub letter : IsLetter table pattern (walked.next ∷ []) walked.letter
 
--- The character c and the marks behind it, at the front of a piece, have this letter all together, and another character follows.
-pub record ReadsLetter (table : TableMap) (pattern : Compiled) (piece : List ℕ) (c : ℕ) (all : Letter) (walked : Walked) : Type 0 where
-  pub text : IsUtf8 (take walked.len piece)
-  pub begun : (others : List ℕ) × (chars (take walked.len piece) ≡ c ∷ others)
-  pub letter : IsLetter table pattern (chars (take walked.len piece)) all
-  pub followed : IsFollowed table pattern piece walked
-
 -- these characters, which have a letter, and one more are one letter
 abbrev pub IsJoined : TableMap → Compiled → List ℕ → Letter → ℕ → Letter → Letter → Type 0
 IsJoined table pattern cs letter c following both =

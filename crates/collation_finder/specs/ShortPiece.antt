@@ -1,9 +1,9 @@
--- A short piece behind characters of ASCII that a window holds.
-use Rattle.std.specs.Prelude.{◌≡◌, ℕ, ◌+◌, ◌-◌, ◌≤◌, true, List, [], ◌∷◌, ◌++◌, length, take, drop}
+-- A short piece behind characters that a window holds.
+use Rattle.std.specs.Prelude.{◌≡◌, ℕ, ◌+◌, ◌-◌, ◌≤◌, true, List, [], ◌∷◌, ◌++◌, length, take, drop, All}
 use Rattle.std.specs.Char.{len_utf8}
-use Rattle.std.specs.Str.{chars, IsAscii, IsUtf8}
+use Rattle.std.specs.Str.{chars, IsUtf8}
 use Rattle.utf8_cut.specs.Sequences.{SpellsCharacter}
-use Rattle.nfd_points.specs.Points.{byte_len, points_of, points_from, begins_with_starter}
+use Rattle.nfd_points.specs.Points.{byte_len, points_of, points_from, begins_with_starter, is_starter}
 use Rattle.collation_table.specs.Table.{TableMap}
 use Rattle.collation_elements.specs.Windows.{Held}
 use Rattle.collation_pattern.specs.Compiled.{Compiled}
@@ -12,15 +12,16 @@ use Rattle.collation_walk.specs.Walks.{passed_to}
 use Rattle.collation_finder.specs.declared.finder.Finder.{Finder}
 use Rattle.collation_finder.specs.declared.letter_loop.Front.{Front}
 use Rattle.collation_finder.specs.declared.short_piece.PassedShort.{PassedShort}
-use Rattle.collation_finder.specs.TakenAtOnce.{IsPausedBefore}
+use Rattle.collation_finder.specs.TakenAtOnce.{AreDecomposed, IsPausedBefore}
 use Rattle.collation_finder.specs.Finding.{FinderStandsFor}
 
--- The points of the window are those of these bytes of ASCII, one at least, which end at a byte offset, and no point waits.
-pub record HoldsAscii (finder : Finder) (end : ℕ) (bytes : List ℕ) : Type 0 where
-  pub ascii : IsAscii bytes
-  pub some : 1 ≤ length bytes
+-- The points of the window are starters, and, where each is its own decomposition, those of the characters of these bytes, which end at a
+-- byte offset; no point waits.
+pub record HoldsText (finder : Finder) (end : ℕ) (bytes : List ℕ) : Type 0 where
+  pub text : IsUtf8 bytes
   pub few : length bytes ≤ end
-  pub points : finder.window.points ≡ points_from (end - length bytes) bytes
+  pub points : AreDecomposed finder.window.points → finder.window.points ≡ points_from (end - length bytes) (chars bytes)
+  pub starters : All (λ p. is_starter p ≡ true) finder.window.points
   pub none_waits : finder.reorder.held ≡ []
 
 -- So many bytes of a piece, which stands at an offset, may be passed by together with what the window holds: with an empty window, and

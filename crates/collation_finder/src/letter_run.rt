@@ -2,11 +2,10 @@
 //! start of its cluster are then its own, whatever stands around it. What the window holds is cut before, as if the text ended
 //! there, and none of the characters comes into the window but the last one, and the ASCII behind it at
 //! the end of a piece. With these the steps go on.
-ghost use Rattle.std.specs.Prelude.{◌≡◌, [], ◌∷◌, true, All, IfSome};
+ghost use Rattle.std.specs.Prelude.{◌≡◌, ℕ, [], ◌∷◌, true, All};
+ghost use Rattle.nfd_points.specs.Points.{begins_with_starter, points_of};
 ghost use Rattle.collation_table.specs.Table.{BeginsNoLongerString};
-ghost use Rattle.collation_letters.specs.Letters.{IsLetter};
 ghost use Rattle.collation_letters.specs.Store.{AreLetters};
-ghost use Rattle.collation_finder.specs.LetterRun.{IsFollowed, ReadsLetter, StandsInFront};
 
 use crate::cache::Cache;
 use crate::finder::Finder;
@@ -18,11 +17,22 @@ use collation_letters::{Letter, Letters, is_next, laws_of_characters};
 use collation_table::Weights;
 use collation_walk::{Found, Query, hand_out};
 use nfd_points::Point;
-use nfd_points::laws::{laws_of_points, laws_of_reordering};
+use nfd_points::laws::{laws_of_decompositions, laws_of_points, laws_of_reordering};
 use utf8_cut::first_character;
 
-/// The character `c` at the front of a piece, which has this letter, with the marks behind it: their letter, and the character that
-/// follows; `None` where a mark is left to the steps, or no whole character follows.
+/// Whether a character is known to begin with a starter.
+pub fn is_starter<W: Weights>(query: &Query<'_, W>, letters: &mut Letters, c: char) -> bool
+    requires { AreLetters (W.table query.now.table.now) query.now.pattern.now letters.old }
+    ensures right { AreLetters (W.table query.now.table.now) query.now.pattern.now letters.new }
+    ensures starter { result ≡ true
+        → (offset : ℕ) → begins_with_starter (points_of offset c) ≡ true }
+{
+    laws_of_decompositions();
+    c.is_ascii() || letters.letter(query.table, query.pattern, c).is_starter()
+}
+
+/// A look at what comes: the letter of the character `c` at the front of a piece, which has this letter, with the marks behind it, and the
+/// character that follows; `None` where a mark is left to the steps, or no whole character follows.
 #[inline(always)]
 fn read_letter<W: Weights>(
     query: &Query<'_, W>,
@@ -31,17 +41,13 @@ fn read_letter<W: Weights>(
     c: char,
     letter: Letter,
 ) -> Option<(Letter, Walked)>
-    requires c { StandsInFront piece.now c }
-    requires letter { IsLetter (W.table query.now.table.now) query.now.pattern.now (c ∷ []) letter }
     requires right { AreLetters (W.table query.now.table.now) query.now.pattern.now letters.old }
-    ensures reads { IfSome result (λ r.
-        ReadsLetter (W.table query.now.table.now) query.now.pattern.now piece.now c r.0 r.1) }
     ensures right { AreLetters (W.table query.now.table.now) query.now.pattern.now letters.new }
 {
     let mut all = letter;
     let mut len = c.len_utf8();
     'marks: loop {
-        let next = first_character(&piece[len..])?;
+        let next = first_character(piece.get(len..)?)?;
         let following = letters.letter(query.table, query.pattern, next);
         if !following.role.is_mark() {
             return Some((
@@ -53,9 +59,9 @@ fn read_letter<W: Weights>(
                 },
             ));
         }
-        // nothing is read again here: this is only a look at what comes
+        // nothing is read again here
         all = if len == c.len_utf8() {
-            with_mark(query, letters, &piece[..len], &all, next, &following)?
+            with_mark(query, letters, piece.get(..len)?, &all, next, &following)?
         } else {
             all.with_mark(following)?
         };
@@ -71,11 +77,7 @@ fn next_apart<W: Weights>(
     c: char,
     letter: Letter,
 ) -> Option<Walked>
-    requires c { StandsInFront piece.now c }
-    requires letter { IsLetter (W.table query.now.table.now) query.now.pattern.now (c ∷ []) letter }
     requires right { AreLetters (W.table query.now.table.now) query.now.pattern.now letters.old }
-    ensures next { IfSome result
-        (IsFollowed (W.table query.now.table.now) query.now.pattern.now piece.now) }
     ensures right { AreLetters (W.table query.now.table.now) query.now.pattern.now letters.new }
 {
     let (all, walked) = read_letter(query, letters, piece, c, letter)?;
@@ -127,9 +129,6 @@ fn can_begin<W: Weights>(
     first: char,
     letter: Letter,
 ) -> bool
-    requires first { StandsInFront front.piece.now first }
-    requires letter { IsLetter (W.table query.now.table.now) query.now.pattern.now
-        (first ∷ []) letter }
     requires right { AreLetters (W.table query.now.table.now) query.now.pattern.now letters.old }
     ensures right { AreLetters (W.table query.now.table.now) query.now.pattern.now letters.new }
 {
@@ -137,30 +136,33 @@ fn can_begin<W: Weights>(
         return false;
     }
     let piece = front.piece;
-    if letter.is_closed && ascii_follows(query, letters, &piece[first.len_utf8()..], &letter) {
+    if letter.is_closed && ascii_follows(query, letters, piece, first.len_utf8(), &letter) {
         return true;
     }
     let Some(second) = next_apart(query, letters, piece, first, letter) else {
         return joins_next(query, letters, piece, first, letter);
     };
-    let piece = &piece[second.len..];
+    let Some(piece) = piece.get(second.len..) else {
+        return false;
+    };
     next_apart(query, letters, piece, second.next, second.letter).is_some()
         || joins_next(query, letters, piece, second.next, second.letter)
 }
 
-/// Whether two characters of ASCII stand at the front of a piece, and it is known that no unit reaches
-/// from one of this letter before them to the first, nor from the first to the second. So it is in most
-/// texts, and that is soon seen.
+/// Whether two characters of ASCII stand so far behind the front of a piece, and it is known that no unit
+/// reaches from one of this letter before them to the first, nor from the first to the second. So it is in
+/// most texts, and that is soon seen.
 fn ascii_follows<W: Weights>(
     query: &Query<'_, W>,
     letters: &mut Letters,
     piece: &[u8],
+    at: usize,
     letter: &Letter,
 ) -> bool
     requires right { AreLetters (W.table query.now.table.now) query.now.pattern.now letters.old }
     ensures right { AreLetters (W.table query.now.table.now) query.now.pattern.now letters.new }
 {
-    let [second, third, ..] = piece else {
+    let Some([second, third, ..]) = piece.get(at..) else {
         return false;
     };
     if !second.is_ascii() || !third.is_ascii() {
@@ -179,14 +181,16 @@ fn joins_next<W: Weights>(
     first: char,
     letter: Letter,
 ) -> bool
-    requires first { StandsInFront piece.now first }
     requires right { AreLetters (W.table query.now.table.now) query.now.pattern.now letters.old }
     ensures right { AreLetters (W.table query.now.table.now) query.now.pattern.now letters.new }
 {
     if letter.is_closed {
         return false;
     }
-    let Some(next) = first_character(&piece[first.len_utf8()..]) else {
+    let Some(rest) = piece.get(first.len_utf8()..) else {
+        return false;
+    };
+    let Some(next) = first_character(rest) else {
         return false;
     };
     let following = letters.letter(query.table, query.pattern, next);

@@ -24,3 +24,4 @@ mod short_piece;
 pub use crate::cache::Cache;
 pub use crate::finder::Finder;
 pub use crate::letter_loop::Front;
+pub use crate::letter_run::is_starter;

@@ -1,23 +1,21 @@
-//! A short piece behind characters of ASCII that the window holds, as those that ended the piece
-//! before. Where both may be passed by as one text, the search goes on as if it stood paused before
-//! these characters, so that nothing is walked over first.
-ghost use Rattle.std.specs.Prelude.{◌≡◌, ◌<◌, IfSome};
-ghost use Rattle.nfd_points.specs.Points.{ascii_point};
-ghost use Rattle.nfd_points.specs.Reordering.{IsSoundPoint};
+//! A short piece behind characters that the window holds, as those that ended the piece before.
+//! Where both may be passed by as one text, the search goes on as if it stood paused before these
+//! characters, so that nothing is walked over first.
+ghost use Rattle.std.specs.Prelude.{◌≡◌, ◌++◌, true, false};
+ghost use Rattle.std.specs.Char.{encode_utf8};
+ghost use Rattle.nfd_points.specs.Points.{is_starter};
 
 use crate::cache::Cache;
 use crate::finder::Finder;
 use crate::letter_loop::{Front, Walked};
+use crate::letter_run::is_starter;
 use arrayvec::ArrayVec;
-use collation_elements::units_stay_apart;
 use collation_letters::laws_of_characters;
 use collation_skip::WORTH;
 use collation_table::{MOST_STRING_POINTS, Weights};
 use collation_walk::{Found, Query};
 use nfd_points::Point;
-use nfd_points::laws::{
-    laws_of_decompositions, laws_of_faults, laws_of_points, laws_of_reordering,
-};
+use nfd_points::laws::{laws_of_points, laws_of_reordering};
 use utf8_cut::first_character;
 
 /// The most bytes of such a piece with those before it.
@@ -26,9 +24,6 @@ const ROOM: usize = 160;
 /// The most bytes of such a piece. A window between two pieces holds no more points than a table's
 /// longest string may have; within a piece it may hold more, and then there is no room.
 pub(crate) const MOST_OF_SHORT_PIECE: usize = ROOM - MOST_STRING_POINTS;
-
-/// The code points below this one are ASCII.
-const ASCII_END: u32 = 128;
 
 /// What may be passed by of such a piece, with the characters before it.
 #[derive(Clone, Copy)]
@@ -39,16 +34,30 @@ pub(crate) struct PassedShort {
     pub(crate) end: Walked,
 }
 
-/// The byte of a point that is a character of ASCII at a byte offset; `None` for any other.
-fn ascii_at(point: Point, offset: u64) -> Option<u8>
-    requires { IsSoundPoint point }
-    ensures { IfSome result (λ b. (b < 128) × (point ≡ ascii_point offset b)) }
+/// Whether a point is a starter, and the first one of the character that stands at a byte offset.
+fn is_starter_at(point: Point, offset: u64) -> bool
+    ensures starter { result ≡ true → is_starter point ≡ true }
+    ensures offset { result ≡ true → point.offset ≡ offset }
+    ensures first { result ≡ true → point.first ≡ true }
 {
-    laws_of_points();
-    if point.cp >= ASCII_END || point.offset != offset || !point.first {
-        return None;
+    point.ccc == 0 && point.offset == offset && point.first
+}
+
+/// Puts the bytes of a code point behind `text`; `false` where there is no room, or it is no scalar
+/// value.
+#[inline(always)]
+fn push_code_point(text: &mut ArrayVec<u8, ROOM>, cp: u32) -> bool
+    ensures pushed { result ≡ true → text.new.items ≡ text.old.items ++ encode_utf8 cp }
+{
+    if cp < 128 {
+        return text.try_push(cp as u8).is_ok();
     }
-    Some(point.cp as u8)
+    let Some(c) = char::from_u32(cp) else {
+        return false;
+    };
+    let mut bytes = [0; 4];
+    text.try_extend_from_slice(c.encode_utf8(&mut bytes).as_bytes())
+        .is_ok()
 }
 
 impl Finder {
@@ -58,7 +67,7 @@ impl Finder {
     ghost use Rattle.collation_matches.specs.GoodPrefix.{most_bytes};
     ghost use Rattle.collation_finder.specs.Caches.{IsCacheRight};
     ghost use Rattle.collation_finder.specs.Finding.{IsReady};
-    ghost use Rattle.collation_finder.specs.ShortPiece.{HoldsAscii, MayPassShort};
+    ghost use Rattle.collation_finder.specs.ShortPiece.{HoldsText, MayPassShort};
     ghost use Rattle.collation_finder.specs.Taking.{TakesText};
 
     /// Whether no key waits, and the last element that was variable or primary was not variable.
@@ -69,48 +78,57 @@ impl Finder {
         self.matcher.walk.state == 0 && !self.matcher.weigher.after_variable()
     }
 
-    /// Whether the first point of the window is ASCII.
-    fn begins_with_ascii(&self) -> bool {
-        self.window.len() > 0 && self.window.point(0).cp < ASCII_END
+    /// Whether the window seems to hold whole characters: its first and its last point are each the
+    /// first of one. Of Hangul the last point mostly is not, and that is soon seen so.
+    fn may_hold_text(&self) -> bool {
+        let len = self.window.len();
+        if len == 0 {
+            return false;
+        }
+        let first = self.window.point(0);
+        first.ccc == 0 && first.first && self.window.point(len - 1).first
     }
 
-    /// Puts the characters of ASCII that the window holds into `text`, which is empty before.
-    /// `false` where it holds none or any other, where these do not stand one after the other up to
-    /// the byte offset `end`, or where a point waits.
-    fn held_ascii(&self, end: u64, text: &mut ArrayVec<u8, ROOM>) -> bool
+    /// Puts the characters that the window holds into `text`, which is empty before. `false` where it
+    /// holds none, or a point that is no starter or not all of its character, where these do not stand
+    /// one after the other up to the byte offset `end`, or where a point waits.
+    fn held_text(&self, end: u64, text: &mut ArrayVec<u8, ROOM>) -> bool
+        requires end { end ≤ most_bytes }
         requires empty { text.old.items ≡ [] }
-        ensures held { result ≡ true → HoldsAscii self.now end text.new.items }
+        ensures held { result ≡ true → HoldsText self.now end text.new.items }
     {
-        laws_of_decompositions();
-        laws_of_points();
-        if !self.reorder.waiting().is_empty() {
-            return false;
-        }
         let len = self.window.len();
-        if len == 0 || len as u64 > end {
+        if len == 0 || !self.reorder.waiting().is_empty() {
             return false;
         }
-        let start = end - len as u64;
-        for i in 0..len {
-            let Some(byte) = ascii_at(self.window.point(i), start + i as u64) else {
-                return false;
-            };
-            text.push(byte);
+        let start = self.window.point(0).offset;
+        if start > end {
+            return false;
         }
-        true
+        for i in 0..len {
+            let point = self.window.point(i);
+            if !is_starter_at(point, start + text.len() as u64) {
+                return false;
+            }
+            if !push_code_point(text, point.cp) {
+                return false;
+            }
+        }
+        start + text.len() as u64 == end
     }
 
     /// Puts these characters, and a piece that stands at a byte offset, into `text`, which is empty
-    /// before. It answers how many bytes stand before the piece; `None` where `held_ascii` says no,
-    /// or where there is no room.
+    /// before. It answers how many bytes stand before the piece; `None` where `held_text` says no, or
+    /// where there is no room.
     fn join_held(&self, piece: &[u8], offset: u64, text: &mut ArrayVec<u8, ROOM>) -> Option<usize>
+        requires offset { offset ≤ most_bytes }
         requires empty { text.old.items ≡ [] }
         ensures joined { IfSome result (λ held. (bytes : List ℕ)
-            × HoldsAscii self.now offset bytes
+            × HoldsText self.now offset bytes
             × (length bytes ≡ held)
             × (text.new.items ≡ bytes ++ piece.now)) }
     {
-        if !self.held_ascii(offset, text) {
+        if !self.held_text(offset, text) {
             return None;
         }
         let held = text.len();
@@ -120,16 +138,16 @@ impl Finder {
         Some(held)
     }
 
-    /// What may be passed by at the front of a short piece, with the characters of ASCII that the
-    /// window holds before it: they begin with one into which no unit reaches, and no key waits
-    /// before them. `None` for any other piece, for one of few bytes, and where some are due to be
-    /// walked over first.
+    /// What may be passed by at the front of a short piece, with the characters that the window holds
+    /// before it, before which no key waits. `None` for any other piece, for one of few bytes, and
+    /// where some are due to be walked over first.
     pub(crate) fn pass_short<W: Weights>(
         &self,
         query: &Query<'_, W>,
         cache: &mut Cache,
         front: Front<'_>,
     ) -> Option<PassedShort>
+        requires open { self.now.window.has_ended ≡ false }
         requires fits { front.offset + length front.piece.now ≤ most_bytes }
         requires right { IsCacheRight (W.table query.now.table.now) query.now.pattern.now cache.old }
         ensures passes { IfSome result
@@ -137,11 +155,9 @@ impl Finder {
         ensures right { IsCacheRight (W.table query.now.table.now) query.now.pattern.now cache.new }
     {
         laws_of_characters();
-        laws_of_faults();
         laws_of_points();
         laws_of_reordering();
-        units_stay_apart();
-        if front.reach < WORTH || cache.skip.pace.due() > 0 || !self.begins_with_ascii() {
+        if front.reach < WORTH || cache.skip.pace.due() > 0 || !self.may_hold_text() {
             return None;
         }
         if !self.is_idle() {
@@ -151,9 +167,11 @@ impl Finder {
         let held = self.join_held(front.piece, front.offset, &mut room)?;
         let text = room.as_slice();
         let start = front.offset - held as u64;
+        if start == 0 {
+            return None;
+        }
         let first = first_character(text)?;
-        let letter = cache.letters.letter(query.table, query.pattern, first);
-        if start == 0 || !letter.is_apart {
+        if !is_starter(query, &mut cache.letters, first) {
             return None;
         }
         let reach = front.reach.saturating_add(held);

@@ -1,5 +1,5 @@
 -- Marks put in order: a mark that follows others of greater classes goes before them.
-use Rattle.std.proofs.Common.{◌≡◌, ◌∙◌, ℕ, ◌+◌, ◌<◌, Bool, true, false, cond, List, [], ◌∷◌, ◌++◌, length, map, refl, sym, ap, subst, arith, append_assoc}
+use Rattle.std.proofs.Common.{◌≡◌, ◌∙◌, ℕ, ◌+◌, ◌<◌, Bool, true, false, cond, List, [], ◌∷◌, ◌++◌, length, map, Option, None, refl, sym, ap, subst, arith, append_assoc}
 use Rattle.std.proofs.lemmas.List.{same_from_push}
 use Rattle.std.proofs.lemmas.Bool.{and_from, false≢true, lt-ltb}
 use Rattle.nfd_points.specs.declared.points.Point.{Point}
@@ -17,7 +17,7 @@ use Rattle.collation_letters.specs.declared.cluster.Cluster.{Cluster}
 use Rattle.collation_letters.specs.declared.letter.Letter.{Letter}
 use Rattle.collation_letters.specs.Letters.{begins_cluster, is_mark, flag_after, counted, here, ordered_from, keys_alone, IsLetterOf, IsLetter}
 use Rattle.collation_letters.specs.Symbols.{listed}
-use Rattle.collation_letters.specs.Clusters.{ContinuesNone, IsMarkOrNone, IsCluster}
+use Rattle.collation_letters.specs.Clusters.{ContinuesNone, IsMarkOrNone, IsClusterAt}
 use Rattle.collation_letters.proofs.LetterLemmas.{have-keys, known-with, letter-with}
 use Rattle.collation_letters.proofs.JoiningLemmas.{mark-known, mark-begins_none, shifted-twice, only-one, one-ordered}
 
@@ -68,14 +68,14 @@ letter-of table pattern cs l h = record { closed = h.closed; known = h.known; pl
 pub letter-from : (table : TableMap) (pattern : Compiled) (cs : List ℕ) (l : Letter) → IsLetterOf table pattern (ordered_from 0 cs) l → IsLetter table pattern cs (record l { is_apart = false })
 letter-from table pattern cs l h = letter-with table pattern cs (ordered_from 0 cs) l false refl (λ yes. absurd (false≢true yes)) h
 
-pub cluster-without_apart : (table : TableMap) (pattern : Compiled) (ps : List Point) (it : Cluster) → IsCluster table pattern ps it →
-    IsCluster table pattern ps (record { letter = record it.letter { is_apart = false }; base = it.base; before = it.before; last = it.last })
-cluster-without_apart table pattern ps it h = record {
+pub cluster-without_apart : (depth : Option ℕ) (table : TableMap) (pattern : Compiled) (ps : List Point) (it : Cluster) → IsClusterAt depth table pattern ps it →
+    IsClusterAt depth table pattern ps (record { letter = record it.letter { is_apart = false }; base = it.base; before = it.before; last = it.last })
+cluster-without_apart depth table pattern ps it h = record {
   first = h.first;
   before = h.before;
   last = h.last;
   all = h.all;
-  letter = record { closed = h.letter.closed; known = λ some. known-with table pattern ps it.letter false (h.letter.known some); plain = h.letter.plain };
+  letter = record { closed = h.letter.closed; known = λ some. known-with depth table pattern ps it.letter false (h.letter.known some); plain = h.letter.plain };
   base = h.base;
   closed = h.closed;
   before_is = h.before_is;
@@ -101,6 +101,7 @@ mark-shifted table pattern q l k mark h =
         some = km.some;
         in_order = in_order-one (shifted k q);
         count = km.count;
+        at_most = km.at_most;
         few = km.few;
         class = λ before last is. km.class [] q refl ∙ ap (λ (p : Point). p.ccc) (same_from_push [] before (shifted k q) last is).1;
         starter = λ no. absurd (false≢true (sym no ∙ mark));
@@ -109,7 +110,7 @@ mark-shifted table pattern q l k mark h =
             let has = km.items after possible in
             let keys = keys_alone table pattern one after in
             let E : List Item = map (λ key. Element key) keys in
-            have-keys table pattern there after (begins_cluster l.role) keys (counted l.role after (listed l.symbols)) (flag_after l.role after)
+            have-keys None table pattern there after (begins_cluster l.role) keys (counted l.role after (listed l.symbols)) (flag_after l.role after)
             (λ start.
             ap (λ (ps : List Point). items_of table pattern.strength pattern.variable after (units table ps)) (shifted-twice start k one) ∙ has.items (start + k)
             ∙ ap (λ b. cond b (ClusterStart (start + k) ∷ []) [] ++ E) none ∙ sym (ap (λ b. cond b (ClusterStart start ∷ []) [] ++ E) none))
@@ -119,9 +120,9 @@ mark-shifted table pattern q l k mark h =
     }
 
 -- a mark that follows is one point, which is put in order
-pub characters-on : PointsOfParts → PointsAreShifted → (table : TableMap) (pattern : Compiled) (cs : List ℕ) (c : ℕ) (m : Letter) (both : Cluster) (is_free : Bool) → (is_free ≡ true → ContinuesNone table (points_from 0 (c ∷ []))) → is_mark m.role ≡ true →
-    ((q : Point) → (is_free ≡ true → ContinuesNoString table q.cp) → IsLetterOf table pattern (q ∷ []) m → IsCluster table pattern (ordered (ordered_from 0 cs ++ q ∷ [])) both) → IsLetter table pattern (c ∷ []) m → IsCluster table pattern (ordered_from 0 (cs ++ c ∷ [])) both
-characters-on parts shift table pattern cs c m both is_free free mark on h =
+pub characters-on : PointsOfParts → PointsAreShifted → (depth : Option ℕ) (table : TableMap) (pattern : Compiled) (cs : List ℕ) (c : ℕ) (m : Letter) (both : Cluster) (is_free : Bool) → (is_free ≡ true → ContinuesNone table (points_from 0 (c ∷ []))) → is_mark m.role ≡ true →
+    ((q : Point) → (is_free ≡ true → ContinuesNoString table q.cp) → IsLetterOf table pattern (q ∷ []) m → IsClusterAt depth table pattern (ordered (ordered_from 0 cs ++ q ∷ [])) both) → IsLetter table pattern (c ∷ []) m → IsClusterAt depth table pattern (ordered_from 0 (cs ++ c ∷ [])) both
+characters-on parts shift depth table pattern cs c m both is_free free mark on h =
     let first = points_from 0 cs in
     let one = points_from 0 (c ∷ []) in
     let k = byte_len cs in
@@ -132,5 +133,5 @@ characters-on parts shift table pattern cs c m both is_free free mark on h =
     let there : 0 + k ≡ k + 0 = omega arith in
     let all : points_from 0 (cs ++ c ∷ []) ≡ first ++ shifted k q.q ∷ [] =
     parts 0 cs (c ∷ []) ∙ ap (λ (l : List Point). first ++ l) (ap (λ i. points_from i (c ∷ [])) there ∙ shift k 0 (c ∷ []) ∙ ap (λ (l : List Point). here k l) q.is) in
-    subst (λ (l : List Point). IsCluster table pattern l both) (ordered-prefix first (shifted k q.q ∷ []) ∙ ap ordered (sym all))
+    subst (λ (l : List Point). IsClusterAt depth table pattern l both) (ordered-prefix first (shifted k q.q ∷ []) ∙ ap ordered (sym all))
     (on (shifted k q.q) (λ yes. free yes q.q q.is) (mark-shifted table pattern q.q m k mark (subst (λ (l : List Point). IsLetterOf table pattern l m) itself of)))

@@ -1,5 +1,5 @@
 -- A letter and a mark that joins it.
-use Rattle.std.proofs.Common.{◌≡◌, ◌≢◌, ◌∙◌, ◌⊎◌, ℕ, ◌+◌, ◌≤◌, Bool, true, false, cond, not, nat_lt, ◌&&◌, List, [], ◌∷◌, ◌++◌, length, map, slice_get, inl, inr, refl, sym, ap, ap₂, subst, arith, append_assoc, length-append}
+use Rattle.std.proofs.Common.{◌≡◌, ◌≢◌, ◌∙◌, ◌⊎◌, ℕ, ◌+◌, ◌≤◌, Bool, true, false, cond, not, nat_lt, ◌&&◌, List, [], ◌∷◌, ◌++◌, length, map, slice_get, Option, None, inl, inr, refl, sym, ap, ap₂, subst, arith, append_assoc, length-append}
 use Rattle.std.proofs.lemmas.Bool.{false≢true, le-ltb}
 use Rattle.std.proofs.lemmas.List.{map-append, same_from_push}
 use Rattle.nfd_points.specs.declared.points.Point.{Point}
@@ -22,8 +22,8 @@ use Rattle.collation_letters.specs.declared.joining.TheConstants.{MOST_POINTS}
 use Rattle.collation_letters.specs.declared.letter.Letter.{Letter}
 use Rattle.collation_letters.specs.declared.letter.Role.{Role}
 use Rattle.collation_letters.specs.declared.letter.Role.TheVariants.{Steps, Plain, Base, VariableBase, Silent, PrimaryMark, Mark}
-use Rattle.collation_letters.specs.Symbols.{AreLastSymbols, listed}
-use Rattle.collation_letters.specs.Letters.{begins_cluster, is_mark, flag_after, counted, here, ordered_from, keys_alone, AreClosed, IsPossible, HaveItems, IsKnown, IsLetterOf, IsLetter}
+use Rattle.collation_letters.specs.Symbols.{AreSymbolsAt, listed}
+use Rattle.collation_letters.specs.Letters.{begins_cluster, is_mark, flag_after, counted, here, ordered_from, keys_alone, AreClosed, IsPossible, HaveItemsAt, IsKnown, IsKnownAt, IsLetterAt, IsLetterOf, IsLetter}
 use Rattle.collation_letters.specs.Joining.{Joins}
 use Rattle.collation_letters.proofs.LetterLemmas.{have-keys, letter-at}
 
@@ -33,7 +33,7 @@ is_so false h = absurd (false≢true (sym h))
 
 -- ---- roles
 
-base-not_mark : (r : Role) → begins_cluster r ≡ true → is_mark r ≡ false
+pub base-not_mark : (r : Role) → begins_cluster r ≡ true → is_mark r ≡ false
 base-not_mark Steps h = absurd (false≢true h)
 base-not_mark Plain h = refl
 base-not_mark Base h = refl
@@ -165,10 +165,10 @@ closed-parts table ps qs k closed = λ start. ap (units table) (here-two start k
 last-parts : (table : TableMap) (ps : List Point) (q : Point) (k : ℕ) → ContinuesNoString table q.cp → ArePartsAt table ps (q ∷ []) k
 last-parts table ps q k none = λ start. ap (units table) (here-two start k ps (q ∷ [])) ∙ units-last_point table (here start ps) (shifted (start + k) q) none
 
-items-both : (table : TableMap) (pattern : Compiled) (ps qs : List Point) (k : ℕ) (a m both : Letter) (after : Bool) → ArePartsAt table ps qs k → IsPossible pattern.variable after →
-    IsKnown table pattern ps a → IsKnown table pattern qs m → Joins a m (both.role, both.symbols) →
-    HaveItems table pattern (ps ++ here k qs) after (begins_cluster both.role) (counted both.role after (listed both.symbols)) (flag_after both.role after)
-items-both table pattern ps qs k a m both after cut possible ka km j =
+items-both : (depth : Option ℕ) (table : TableMap) (pattern : Compiled) (ps qs : List Point) (k : ℕ) (a m both : Letter) (after : Bool) → ArePartsAt table ps qs k → IsPossible pattern.variable after →
+    IsKnownAt depth table pattern ps a → IsKnown table pattern qs m → Joins a m (both.role, both.symbols) →
+    HaveItemsAt depth table pattern (ps ++ here k qs) after (begins_cluster both.role) (counted both.role after (listed both.symbols)) (flag_after both.role after)
+items-both depth table pattern ps qs k a m both after cut possible ka km j =
     let U = units table in
     let s = pattern.strength in
     let v = pattern.variable in
@@ -180,7 +180,7 @@ items-both table pattern ps qs k a m both after cut possible ka km j =
     let E : List Key → List Item = λ ks. map (λ key. Element key) ks in
     let first = keys_alone table pattern ps after in
     let later = keys_alone table pattern qs flag in
-    have-keys table pattern (ps ++ here k qs) after (begins_cluster both.role) (first ++ later) (counted both.role after (listed both.symbols)) (flag_after both.role after)
+    have-keys depth table pattern (ps ++ here k qs) after (begins_cluster both.role) (first ++ later) (counted both.role after (listed both.symbols)) (flag_after both.role after)
     (λ start.
     let begun : List Item = ClusterStart start ∷ [] in
     ap (items_of table s v after) (cut start) ∙ items-append table s v after (A start) (Q start)
@@ -191,13 +191,13 @@ items-both table pattern ps qs k a m both after cut possible ka km j =
     (λ start.
     ap (after_units table v after) (cut start) ∙ after-append table v after (A start) (Q start) ∙ ap (λ b. after_units table v b (Q start)) (ha.flag_is start)
     ∙ hm.flag_is (start + k) ∙ sym (j.flag after))
-    (subst (λ l. AreLastSymbols pattern.keys (first ++ later) l) (sym (base-counted both.role after (listed both.symbols) j.begins))
-    (j.symbols pattern.keys first later after
-    (subst (λ l. AreLastSymbols pattern.keys first l) (base-counted a.role after (listed a.symbols) j.base_begins) ha.symbols_are) hm.symbols_are))
+    (subst (λ l. AreSymbolsAt depth pattern.keys (first ++ later) l) (sym (base-counted both.role after (listed both.symbols) j.begins))
+    (j.symbols depth pattern.keys first later after
+    (subst (λ l. AreSymbolsAt depth pattern.keys first l) (base-counted a.role after (listed a.symbols) j.base_begins) ha.symbols_are) hm.symbols_are))
 
-known-both : (table : TableMap) (pattern : Compiled) (ps qs : List Point) (k : ℕ) (a m both : Letter) → ArePartsAt table ps qs k → (m.class ≡ 0 ⊎ a.class ≤ m.class) → both.class ≡ m.class → both.points ≡ a.points + 1 → both.points ≤ MOST_POINTS →
-    IsKnown table pattern ps a → IsKnown table pattern qs m → Joins a m (both.role, both.symbols) → IsKnown table pattern (ps ++ here k qs) both
-known-both table pattern ps qs k a m both cut stays class points most ka km j =
+known-both : (depth : Option ℕ) (table : TableMap) (pattern : Compiled) (ps qs : List Point) (k : ℕ) (a m both : Letter) → ArePartsAt table ps qs k → (m.class ≡ 0 ⊎ a.class ≤ m.class) → both.class ≡ m.class → both.points ≡ a.points + 1 → both.points ≤ MOST_POINTS →
+    IsKnownAt depth table pattern ps a → IsKnown table pattern qs m → Joins a m (both.role, both.symbols) → IsKnownAt depth table pattern (ps ++ here k qs) both
+known-both depth table pattern ps qs k a m both cut stays class points most ka km j =
     let one = only-one qs (km.one j.mark_joins) in
     let q = shifted k one.q in
     let all : ps ++ here k qs ≡ ps ++ q ∷ [] = ap (λ (l : List Point). ps ++ here k l) one.is in
@@ -211,12 +211,13 @@ known-both table pattern ps qs k a m both cut stays class points most ka km j =
         | inl starter ↦ inl (sym of_mark ∙ starter)
         | inr rises ↦ inr (omega (arith, rises, of_mark, ka.class before last is))
       ]);
-      count = let before = ka.count in omega (arith, points, before, long, short);
-      few = let before = ka.count in omega (arith, points, most, before, long, short);
+      count = λ everywhere. omega (arith, points, ka.count everywhere, long, short);
+      at_most = let before = ka.at_most in omega (arith, points, before, long, short);
+      few = let before = ka.at_most in omega (arith, points, most, before, long, short);
       class = λ before last is. class ∙ of_mark ∙ ap (λ (p : Point). p.ccc) (same_from_push ps before q last (sym all ∙ is)).1;
       starter = λ no. begins-more ps (here k qs) ka.some ∙ ka.starter (base-not_mark a.role j.base_begins);
       one = λ yes. absurd (false≢true (sym none ∙ yes));
-      items = λ after possible. items-both table pattern ps qs k a m both after cut possible ka km j;
+      items = λ after possible. items-both depth table pattern ps qs k a m both after cut possible ka km j;
     }
 
 -- no shift
@@ -226,10 +227,10 @@ here-none (p ∷ ps) =
     let same : 0 + p.offset ≡ p.offset = omega arith in
     ap₂ (λ i (qs : List Point). record p { offset = i } ∷ qs) same (here-none ps)
 
-pub points-both : (table : TableMap) (pattern : Compiled) (ps : List Point) (q : Point) (a m both : Letter) → a.is_closed ≡ true → m.is_closed ≡ true → (m.class ≡ 0 ⊎ a.class ≤ m.class) →
+pub points-both : (depth : Option ℕ) (table : TableMap) (pattern : Compiled) (ps : List Point) (q : Point) (a m both : Letter) → a.is_closed ≡ true → m.is_closed ≡ true → (m.class ≡ 0 ⊎ a.class ≤ m.class) →
     both.class ≡ m.class → both.points ≡ a.points + 1 → both.points ≤ MOST_POINTS → both.role ≢ Plain → Joins a m (both.role, both.symbols) →
-    IsLetterOf table pattern ps a → IsLetterOf table pattern (q ∷ []) m → IsLetterOf table pattern (ps ++ q ∷ []) both
-points-both table pattern ps q a m both closed_base closed_mark stays class points most other j ha hm =
+    IsLetterAt depth table pattern ps a → IsLetterOf table pattern (q ∷ []) m → IsLetterAt depth table pattern (ps ++ q ∷ []) both
+points-both depth table pattern ps q a m both closed_base closed_mark stays class points most other j ha hm =
     let qs : List Point = q ∷ [] in
     let same = here-none qs in
     let ka = ha.known (base-known a.role j.base_begins) in
@@ -237,21 +238,21 @@ points-both table pattern ps q a m both closed_base closed_mark stays class poin
     let closed = ha.closed closed_base in
     record {
       closed = λ yes. subst (λ l. AreClosed table (ps ++ l)) same (closed-both table ps qs 0 closed (hm.closed closed_mark));
-      known = λ some. subst (λ l. IsKnown table pattern (ps ++ l) both) same (known-both table pattern ps qs 0 a m both (closed-parts table ps qs 0 closed) stays class points most ka km j);
+      known = λ some. subst (λ l. IsKnownAt depth table pattern (ps ++ l) both) same (known-both depth table pattern ps qs 0 a m both (closed-parts table ps qs 0 closed) stays class points most ka km j);
       plain = λ yes. absurd (other yes);
     }
 
 -- behind points out of which a unit may reach
-pub points-outer : (table : TableMap) (pattern : Compiled) (ps : List Point) (q : Point) (a m both : Letter) → ContinuesNoString table q.cp → both.is_closed ≡ false → (m.class ≡ 0 ⊎ a.class ≤ m.class) →
+pub points-outer : (depth : Option ℕ) (table : TableMap) (pattern : Compiled) (ps : List Point) (q : Point) (a m both : Letter) → ContinuesNoString table q.cp → both.is_closed ≡ false → (m.class ≡ 0 ⊎ a.class ≤ m.class) →
     both.class ≡ m.class → both.points ≡ a.points + 1 → both.points ≤ MOST_POINTS → both.role ≢ Plain → Joins a m (both.role, both.symbols) →
-    IsLetterOf table pattern ps a → IsLetterOf table pattern (q ∷ []) m → IsLetterOf table pattern (ps ++ q ∷ []) both
-points-outer table pattern ps q a m both none is_open stays class points most other j ha hm =
+    IsLetterAt depth table pattern ps a → IsLetterOf table pattern (q ∷ []) m → IsLetterAt depth table pattern (ps ++ q ∷ []) both
+points-outer depth table pattern ps q a m both none is_open stays class points most other j ha hm =
     let qs : List Point = q ∷ [] in
     let ka = ha.known (base-known a.role j.base_begins) in
     let km = hm.known (mark-known m.role j.mark_joins) in
     record {
       closed = λ yes. absurd (false≢true (sym is_open ∙ yes));
-      known = λ some. subst (λ l. IsKnown table pattern (ps ++ l) both) (here-none qs) (known-both table pattern ps qs 0 a m both (last-parts table ps q 0 none) stays class points most ka km j);
+      known = λ some. subst (λ l. IsKnownAt depth table pattern (ps ++ l) both) (here-none qs) (known-both depth table pattern ps qs 0 a m both (last-parts table ps q 0 none) stays class points most ka km j);
       plain = λ yes. absurd (other yes);
     }
 
@@ -270,7 +271,7 @@ letter-both parts shift table pattern cs c a m both closed_base closed_mark stay
     let ka = ha.known (base-known a.role j.base_begins) in
     let km = hm.known (mark-known m.role j.mark_joins) in
     let closed = ha.closed closed_base in
-    let kb = known-both table pattern ps qs k a m both (closed-parts table ps qs k closed) stays class points most ka km j in
+    let kb = known-both None table pattern ps qs k a m both (closed-parts table ps qs k closed) stays class points most ka km j in
     let some : 1 ≤ length first = let some = ka.some in let count = length-ordered first in omega (arith, some, count) in
     let lone : length one ≡ 1 = let lone = km.one j.mark_joins in let count = length-ordered one in omega (arith, lone, count) in
     let same : ordered_from 0 (cs ++ c ∷ []) ≡ ps ++ here k qs =

@@ -1,7 +1,7 @@
 -- Where the units of a letter's characters end.
 use Rattle.std.specs.Char.{len_utf8}
 use Rattle.std.proofs.lemmas.Bool.{false≢true}
-use Rattle.std.proofs.Common.{◌≡◌, ◌≢◌, ◌∙◌, ◌⊎◌, ℕ, ◌+◌, Bool, true, false, List, [], ◌∷◌, ◌++◌, length, map, flat_map, inl, inr, refl, sym, ap, subst, arith, length-append}
+use Rattle.std.proofs.Common.{◌≡◌, ◌≢◌, ◌∙◌, ◌⊎◌, ℕ, ◌+◌, Bool, true, false, List, [], ◌∷◌, ◌++◌, length, map, flat_map, Option, inl, inr, refl, sym, ap, subst, arith, length-append}
 use Rattle.nfd_points.specs.declared.points.Point.{Point}
 use Rattle.nfd_points.specs.Points.{decomposition, byte_len, points_of, points_from, shifted, ordered, is_starter, begins_with_starter}
 use Rattle.nfd_points.specs.Laws.{OrderingIsShifted, PointsAreShifted}
@@ -12,7 +12,7 @@ use Rattle.collation_pattern.specs.Compiled.{Compiled}
 use Rattle.collation_letters.specs.declared.letter.Letter.{Letter}
 use Rattle.collation_letters.specs.declared.letter.Role.{Role}
 use Rattle.collation_letters.specs.declared.letter.Role.TheVariants.{Steps, Plain, Base, VariableBase, Silent, PrimaryMark, Mark}
-use Rattle.collation_letters.specs.Letters.{is_mark, counted, ordered_from, IsLetter}
+use Rattle.collation_letters.specs.Letters.{is_mark, counted, ordered_from, IsLetter, IsLetterAt}
 use Rattle.collation_letters.specs.Apart.{IsNext}
 use Rattle.collation_letters.specs.Laws.{LetterLaws}
 use Rattle.collation_letters.proofs.ApartLemmas.{begins_anywhere, from_one, many_at}
@@ -73,10 +73,10 @@ abbrev pub BeforeLaw : Type 0
 BeforeLaw =
     (table : TableMap) (ps : List Point) (d : Point) (more : List Point) → is_starter d ≡ true → ContinuesNoString table d.cp → units table (ps ++ d ∷ more) ≡ units table ps ++ units table (d ∷ more)
 
-pub next-of_letter : LetterLaws → OrderingIsShifted → PointsAreShifted → BeforeLaw → (table : TableMap) (pattern : Compiled) (at : ℕ) (cs : List ℕ) (next : ℕ) (letter following : Letter) → letter.role ≢ Steps →
-    begins_with_starter (points_from 0 (next ∷ [])) ≡ true → (letter.is_closed ≡ true ⊎ following.is_apart ≡ true) → IsLetter table pattern cs letter → IsLetter table pattern (next ∷ []) following →
+pub next-of_letter : LetterLaws → OrderingIsShifted → PointsAreShifted → BeforeLaw → (depth : Option ℕ) (table : TableMap) (pattern : Compiled) (at : ℕ) (cs : List ℕ) (next : ℕ) (letter following : Letter) → letter.role ≢ Steps →
+    begins_with_starter (points_from 0 (next ∷ [])) ≡ true → (letter.is_closed ≡ true ⊎ following.is_apart ≡ true) → IsLetterAt depth table pattern (ordered_from 0 cs) letter → IsLetter table pattern (next ∷ []) following →
     IsNext table at cs next
-next-of_letter laws ordering shift before table pattern at cs next letter following known starter which h f =
+next-of_letter laws ordering shift before depth table pattern at cs next letter following known starter which h f =
     let k = h.known known in
     let here : ordered_from at cs ≡ map (shifted at) (ordered_from 0 cs) = ap ordered (points_are_shifted shift at cs) ∙ ordering at (points_from 0 cs) in
     record {

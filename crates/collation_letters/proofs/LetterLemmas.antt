@@ -20,9 +20,9 @@ use Rattle.collation_pattern.specs.Compiled.{Compiled}
 use Rattle.collation_letters.specs.declared.letter.Letter.{Letter}
 use Rattle.collation_letters.specs.declared.letter.Role.{Role}
 use Rattle.collation_letters.specs.declared.letter.Role.TheVariants.{Steps, Plain, Base, VariableBase, Silent, PrimaryMark, Mark}
-use Rattle.collation_letters.specs.Symbols.{AreLastSymbols, listed}
+use Rattle.collation_letters.specs.Symbols.{AreLastSymbols, AreSymbolsAt, listed}
 use Rattle.std.proofs.lemmas.Bool.{false≢true}
-use Rattle.collation_letters.specs.Letters.{begins_cluster, is_mark, flag_after, counted, here, ordered_from, keys_alone, AreClosed, AreApart, IsPossible, HaveItems, IsKnown, IsPlainLetter, IsLetterOf, IsLetter}
+use Rattle.collation_letters.specs.Letters.{begins_cluster, is_mark, flag_after, counted, here, ordered_from, keys_alone, AreClosed, AreApart, IsPossible, HaveItems, HaveItemsAt, IsKnown, IsKnownAt, IsPlainLetter, IsLetterAt, IsLetterOf, IsLetter}
 use Rattle.collation_letters.specs.Finding.{IsLastClass, IsAs, HasRole}
 use Rattle.collation_letters.proofs.ApartLemmas.{many_at}
 use Rattle.collation_letters.proofs.SymbolLemmas.{last-nil}
@@ -59,15 +59,15 @@ keys-given true start ks = item_keys-map ks
 keys-given false start ks = item_keys-map ks
 
 -- points with these items
-pub have-keys : (table : TableMap) (pattern : Compiled) (ps : List Point) (after begins : Bool) (ks : List Key) (ss : List ℕ) (flag : Bool) →
+pub have-keys : (depth : Option ℕ) (table : TableMap) (pattern : Compiled) (ps : List Point) (after begins : Bool) (ks : List Key) (ss : List ℕ) (flag : Bool) →
     ((start : ℕ) → items_of table pattern.strength pattern.variable after (units table (here start ps)) ≡ cond begins (ClusterStart start ∷ []) [] ++ map (λ key. Element key) ks) →
-    ((start : ℕ) → after_units table pattern.variable after (units table (here start ps)) ≡ flag) → AreLastSymbols pattern.keys ks ss → HaveItems table pattern ps after begins ss flag
-have-keys table pattern ps after begins ks ss flag items flag_is symbols =
+    ((start : ℕ) → after_units table pattern.variable after (units table (here start ps)) ≡ flag) → AreSymbolsAt depth pattern.keys ks ss → HaveItemsAt depth table pattern ps after begins ss flag
+have-keys depth table pattern ps after begins ks ss flag items flag_is symbols =
     let same : keys_alone table pattern ps after ≡ ks = ap item_keys (items 0) ∙ keys-given begins 0 ks in
     record {
       items = λ start. items start ∙ ap (λ (ls : List Key). cond begins (ClusterStart start ∷ []) [] ++ map (λ key. Element key) ls) (sym same);
       flag_is = flag_is;
-      symbols_are = subst (λ (ls : List Key). AreLastSymbols pattern.keys ls ss) (sym same) symbols;
+      symbols_are = subst (λ (ls : List Key). AreSymbolsAt depth pattern.keys ls ss) (sym same) symbols;
     }
 
 counted-symbols : (pattern ks : List Key) (ss : List ℕ) (role : Role) (after : Bool) → AreLastSymbols pattern ks ss → AreLastSymbols pattern (counted role after ks) (counted role after ss)
@@ -84,7 +84,7 @@ have-items : (table : TableMap) (pattern : Compiled) (ps : List Point) (plain it
     AreItemsOfPoints table (weigher pattern.strength pattern.variable after) ps it → AreLastSymbols pattern.keys (character_keys plain) ss →
     HaveItems table pattern ps after (begins_cluster role) (counted role after ss) (flag_after role after)
 have-items table pattern ps plain it role after ss is are symbols =
-    have-keys table pattern ps after (begins_cluster role) (counted role after (character_keys plain)) (counted role after ss) (flag_after role after)
+    have-keys None table pattern ps after (begins_cluster role) (counted role after (character_keys plain)) (counted role after ss) (flag_after role after)
     (λ start. are.0 start ∙ ap₂ (λ b (ks : List Key). cond b (ClusterStart start ∷ []) [] ++ map (λ key. Element key) ks) is.0 is.1.1)
     (λ start. are.1 start ∙ is.1.0) (counted-symbols pattern.keys (character_keys plain) ss role after symbols)
 
@@ -121,7 +121,8 @@ known-at table pattern ps l plain after some few in_order count class are has sy
     record {
       some = some;
       in_order = in_order;
-      count = count;
+      count = λ everywhere. count;
+      at_most = omega (arith, count);
       few = few;
       class = class;
       starter = has.0;
@@ -143,18 +144,19 @@ base-is_known r base = λ steps. differ (sym base ∙ steps)
     differ : ◌≡◌ {A = Role} Base Steps → ⊥
     differ h = cc
 
-plain-known : (table : TableMap) (pattern : Compiled) (ps : List Point) (l : Letter) → l.role ≡ Base → IsKnown table pattern ps l → IsKnown table pattern ps (record l { role = Plain })
-plain-known table pattern ps l base k =
+plain-known : (depth : Option ℕ) (table : TableMap) (pattern : Compiled) (ps : List Point) (l : Letter) → l.role ≡ Base → IsKnownAt depth table pattern ps l → IsKnownAt depth table pattern ps (record l { role = Plain })
+plain-known depth table pattern ps l base k =
     record {
       some = k.some;
       in_order = k.in_order;
       count = k.count;
+      at_most = k.at_most;
       few = k.few;
       class = k.class;
       starter = λ no. k.starter (ap is_mark base ∙ no);
       one = λ yes. absurd (false≢true yes);
       items = λ after possible.
-          subst (λ r. HaveItems table pattern ps after (begins_cluster r) (counted r after (listed l.symbols)) (flag_after r after)) base (k.items after possible);
+          subst (λ r. HaveItemsAt depth table pattern ps after (begins_cluster r) (counted r after (listed l.symbols)) (flag_after r after)) base (k.items after possible);
     }
 
 pub letter-plain : (table : TableMap) (pattern : Compiled) (cs : List ℕ) (l : Letter) → l.role ≡ Base → IsPlainLetter l → IsLetter table pattern cs l → IsLetter table pattern cs (record l { role = Plain })
@@ -162,29 +164,29 @@ letter-plain table pattern cs l base plain h =
     record {
       closed = h.closed;
       apart = h.apart;
-      known = λ some. plain-known table pattern (ordered_from 0 cs) l base (h.known (base-is_known l.role base));
+      known = λ some. plain-known None table pattern (ordered_from 0 cs) l base (h.known (base-is_known l.role base));
       plain = λ yes. plain;
     }
 
 -- the same of points
-pub points-plain : (table : TableMap) (pattern : Compiled) (ps : List Point) (l : Letter) → l.role ≡ Base → IsPlainLetter l → IsLetterOf table pattern ps l → IsLetterOf table pattern ps (record l { role = Plain })
-points-plain table pattern ps l base plain h =
+pub points-plain : (depth : Option ℕ) (table : TableMap) (pattern : Compiled) (ps : List Point) (l : Letter) → l.role ≡ Base → IsPlainLetter l → IsLetterAt depth table pattern ps l → IsLetterAt depth table pattern ps (record l { role = Plain })
+points-plain depth table pattern ps l base plain h =
     record {
       closed = h.closed;
-      known = λ some. plain-known table pattern ps l base (h.known (base-is_known l.role base));
+      known = λ some. plain-known depth table pattern ps l base (h.known (base-is_known l.role base));
       plain = λ yes. plain;
     }
 
 -- nothing else speaks of units that reach into a letter
-pub known-with : (table : TableMap) (pattern : Compiled) (ps : List Point) (l : Letter) (apart : Bool) → IsKnown table pattern ps l → IsKnown table pattern ps (record l { is_apart = apart })
-known-with table pattern ps l apart k = record { some = k.some; in_order = k.in_order; count = k.count; few = k.few; class = k.class; starter = k.starter; one = k.one; items = k.items }
+pub known-with : (depth : Option ℕ) (table : TableMap) (pattern : Compiled) (ps : List Point) (l : Letter) (apart : Bool) → IsKnownAt depth table pattern ps l → IsKnownAt depth table pattern ps (record l { is_apart = apart })
+known-with depth table pattern ps l apart k = record { some = k.some; in_order = k.in_order; count = k.count; at_most = k.at_most; few = k.few; class = k.class; starter = k.starter; one = k.one; items = k.items }
 
 pub letter-without_apart : (table : TableMap) (pattern : Compiled) (cs : List ℕ) (l : Letter) → IsLetter table pattern cs l → IsLetter table pattern cs (record l { is_apart = false })
 letter-without_apart table pattern cs l h =
     record {
       closed = h.closed;
       apart = λ yes. absurd (false≢true yes);
-      known = λ some. known-with table pattern (ordered_from 0 cs) l false (h.known some);
+      known = λ some. known-with None table pattern (ordered_from 0 cs) l false (h.known some);
       plain = h.plain;
     }
 
@@ -195,6 +197,6 @@ letter-with table pattern cs ps l apart same begins h =
     record {
       closed = λ yes. subst (AreClosed table) same (h.closed yes);
       apart = begins;
-      known = λ some. known-with table pattern (ordered_from 0 cs) l apart (subst (λ (qs : List Point). IsKnown table pattern qs l) same (h.known some));
+      known = λ some. known-with None table pattern (ordered_from 0 cs) l apart (subst (λ (qs : List Point). IsKnown table pattern qs l) same (h.known some));
       plain = h.plain;
     }

@@ -9,7 +9,7 @@ use Rattle.collation_elements.specs.declared.keys.Key.{Key}
 use Rattle.collation_pattern.specs.Border.{border, border_up_to, ends_with_prefix, PrefixesEndWithTheLastKey, BordersGrowByOne, BordersGoOn}
 use Rattle.collation_pattern.proofs.KeyEquality.{same_keys-same}
 use Rattle.collation_letters.specs.declared.symbols.Symbols.{Symbols}
-use Rattle.collation_letters.specs.Symbols.{IsSymbol, AreLastSymbols, IsLastSymbol, AreInTurn, is_symbol, some_symbol, listed}
+use Rattle.collation_letters.specs.Symbols.{IsSymbol, AreLastSymbols, AreSymbolsAt, IsLastSymbol, AreInTurn, is_symbol, some_symbol, listed}
 
 pub some-map : {A : Type 0} {P Q : A → Type 0} (o : Option A) → IfSome o P → ((x : A) → P x → Q x) → IfSome o Q
 some-map (Some x) h f = f x h
@@ -295,6 +295,31 @@ pub last-more : (pattern keys more : List Key) (ss : List ℕ) (s : ℕ) → s �
     AreLastSymbols pattern (keys ++ more) (ss ++ s ∷ [])
 last-more pattern keys more ss s known h k =
     to-last pattern (keys ++ more) (ss ++ s ∷ []) (lasts-more pattern keys more ss s known (of-last pattern keys ss h) (of-last pattern more (s ∷ []) k))
+
+-- ---- the same at a depth
+
+pub at-foreign : (depth : Option ℕ) (pattern keys more : List Key) → AreLastSymbols pattern more (0 ∷ []) → AreSymbolsAt depth pattern (keys ++ more) (0 ∷ [])
+at-foreign None pattern keys more h = last-foreign pattern keys more h
+at-foreign (Some depth) pattern keys more h = inl (last-foreign pattern keys more h)
+
+pub at-more : (depth : Option ℕ) (pattern keys more : List Key) (ss : List ℕ) (s : ℕ) → s ≢ 0 → AreSymbolsAt depth pattern keys ss → AreLastSymbols pattern more (s ∷ []) →
+    AreSymbolsAt depth pattern (keys ++ more) (ss ++ s ∷ [])
+at-more None pattern keys more ss s known h k = last-more pattern keys more ss s known h k
+at-more (Some depth) pattern keys more ss s known (inl h) k = inl (last-more pattern keys more ss s known h k)
+at-more (Some depth) pattern keys more ss s known (inr h) k = inr (record {
+  spent = h.spent;
+  others = h.others ++ more;
+  other_symbols = h.other_symbols ++ s ∷ [];
+  keys_are = ap (λ (l : List Key). l ++ more) h.keys_are ∙ append_assoc h.spent h.others more;
+  some = h.some;
+  none_waits = h.none_waits;
+  symbols_are = ap (λ (l : List ℕ). l ++ s ∷ []) h.symbols_are;
+  others_are = last-more pattern h.others more h.other_symbols s known h.others_are k;
+})
+
+pub at-last : (depth : Option ℕ) (pattern keys : List Key) (ss : List ℕ) → AreLastSymbols pattern keys ss → AreSymbolsAt depth pattern keys ss
+at-last None pattern keys ss h = h
+at-last (Some depth) pattern keys ss h = inl h
 
 pub some-split : (pattern keys : List Key) (n : ℕ) (ss : List ℕ) → AreLastSymbols pattern keys (some_symbol n ++ ss) → AreInTurn pattern keys (some_symbol n) ss
 some-split pattern keys n ss h =

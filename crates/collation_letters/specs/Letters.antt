@@ -1,5 +1,5 @@
 -- What a letter says of the characters that it stands for, wherever they stand.
-use Rattle.std.specs.Prelude.{◌≡◌, ◌≢◌, ℕ, ◌≤◌, Bool, true, false, List, [], ◌∷◌, ◌++◌, map, length, slice_get, if◌then◌else◌}
+use Rattle.std.specs.Prelude.{◌≡◌, ◌≢◌, ℕ, ◌≤◌, Bool, true, false, List, [], ◌∷◌, ◌++◌, map, length, slice_get, if◌then◌else◌, Option, None}
 use Rattle.std.specs.Option.{ForSome}
 use Rattle.nfd_points.specs.declared.limits.TheConstants.{MOST_WAITING}
 use Rattle.nfd_points.specs.declared.points.Point.{Point}
@@ -19,7 +19,7 @@ use Rattle.collation_letters.specs.declared.letter.Letter.{Letter}
 use Rattle.collation_letters.specs.declared.letter.Role.{Role}
 use Rattle.collation_letters.specs.declared.letter.Role.TheVariants.{Steps, Plain, Base, VariableBase, Silent, PrimaryMark, Mark}
 use Rattle.collation_letters.specs.declared.symbols.TheConstants.{NO_SYMBOL}
-use Rattle.collation_letters.specs.Symbols.{AreLastSymbols, listed}
+use Rattle.collation_letters.specs.Symbols.{AreSymbolsAt, listed}
 
 -- ---- roles
 
@@ -84,38 +84,49 @@ abbrev pub keys_alone : TableMap → Compiled → List Point → Bool → List K
 keys_alone table pattern ps after = item_keys (items_of table pattern.strength pattern.variable after (units table (here 0 ps)))
 
 -- The items of these points by themselves, where `after` says whether the last element before them that was variable or primary was
--- variable: a cluster begins or not, and keys with these symbols follow; and that flag after them.
-pub record HaveItems (table : TableMap) (pattern : Compiled) (ps : List Point) (after begins : Bool) (symbols : List ℕ) (flag : Bool) : Type 0 where
+-- variable: a cluster begins or not, and keys with these symbols follow; and that flag after them. The symbols are right everywhere, or at a
+-- depth: where so many of the pattern's first keys end what stands before.
+pub record HaveItemsAt (depth : Option ℕ) (table : TableMap) (pattern : Compiled) (ps : List Point) (after begins : Bool) (symbols : List ℕ) (flag : Bool) : Type 0 where
   pub items : (start : ℕ) → let begun : List Item = ClusterStart start ∷ [] in
       items_of table pattern.strength pattern.variable after (units table (here start ps)) ≡ (if begins then begun else []) ++ map (λ key. Element key) (keys_alone table pattern ps after)
   pub flag_is : (start : ℕ) → after_units table pattern.variable after (units table (here start ps)) ≡ flag
-  pub symbols_are : AreLastSymbols pattern.keys (keys_alone table pattern ps after) symbols
+  pub symbols_are : AreSymbolsAt depth pattern.keys (keys_alone table pattern ps after) symbols
+
+abbrev pub HaveItems : TableMap → Compiled → List Point → Bool → Bool → List ℕ → Bool → Type 0
+HaveItems table pattern ps after begins symbols flag = HaveItemsAt None table pattern ps after begins symbols flag
 
 -- ---- letters
 
--- What a letter says that is not left to the steps: the points of the characters are in canonical order, so many, too few for a
--- run of non-starters that is a fault, the last of this class; they begin with a starter, or are the one point of a mark; and their
+-- What a letter says that is not left to the steps: the points of the characters are in canonical order, as many as it says, or at a
+-- depth no more, too few for a run of non-starters that is a fault, the last of this class; they begin with a starter, or are the one point of a mark; and their
 -- items are as its role and its symbols say.
-pub record IsKnown (table : TableMap) (pattern : Compiled) (ps : List Point) (l : Letter) : Type 0 where
+pub record IsKnownAt (depth : Option ℕ) (table : TableMap) (pattern : Compiled) (ps : List Point) (l : Letter) : Type 0 where
   pub some : 1 ≤ length ps
   pub in_order : is_in_order ps ≡ true
-  pub count : l.points ≡ length ps
+  pub count : depth ≡ None → l.points ≡ length ps
+  pub at_most : length ps ≤ l.points
   pub few : length ps ≤ MOST_WAITING
   pub class : (before : List Point) (last : Point) → ps ≡ before ++ last ∷ [] → l.class ≡ last.ccc
   pub starter : is_mark l.role ≡ false → begins_with_starter ps ≡ true
   pub one : is_mark l.role ≡ true → length ps ≡ 1
   pub items : (after : Bool) → IsPossible pattern.variable after
-      → HaveItems table pattern ps after (begins_cluster l.role) (counted l.role after (listed l.symbols)) (flag_after l.role after)
+      → HaveItemsAt depth table pattern ps after (begins_cluster l.role) (counted l.role after (listed l.symbols)) (flag_after l.role after)
+
+abbrev pub IsKnown : TableMap → Compiled → List Point → Letter → Type 0
+IsKnown table pattern ps l = IsKnownAt None table pattern ps l
 
 -- the role of most letters says besides that no unit reaches out of the characters, and that they have one symbol or none
 abbrev pub IsPlainLetter : Letter → Type 0
 IsPlainLetter l = (l.is_closed ≡ true) × ((l.symbols.first ≡ NO_SYMBOL) × (l.symbols.second ≡ NO_SYMBOL))
 
--- The letter of points, which says nothing of units that reach into them.
-pub record IsLetterOf (table : TableMap) (pattern : Compiled) (ps : List Point) (l : Letter) : Type 0 where
+-- The letter of points, everywhere or at a depth. It says nothing of units that reach into them.
+pub record IsLetterAt (depth : Option ℕ) (table : TableMap) (pattern : Compiled) (ps : List Point) (l : Letter) : Type 0 where
   pub closed : l.is_closed ≡ true → AreClosed table ps
-  pub known : l.role ≢ Steps → IsKnown table pattern ps l
+  pub known : l.role ≢ Steps → IsKnownAt depth table pattern ps l
   pub plain : l.role ≡ Plain → IsPlainLetter l
+
+abbrev pub IsLetterOf : TableMap → Compiled → List Point → Letter → Type 0
+IsLetterOf table pattern ps l = IsLetterAt None table pattern ps l
 
 -- The letter of some characters, in the order in which they stand in a text: it is that of their points in canonical order.
 pub record IsLetter (table : TableMap) (pattern : Compiled) (cs : List ℕ) (l : Letter) : Type 0 where

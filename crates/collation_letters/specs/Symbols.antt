@@ -1,5 +1,5 @@
 -- The keys of a text as a pattern sees them: its symbols.
-use Rattle.std.specs.Prelude.{◌≡◌, ◌≢◌, ℕ, suc, ◌-◌, ◌<◌, ◌≤◌, Bool, nat_lt, List, [], ◌∷◌, ◌++◌, length, drop, filter, slice_get, Some}
+use Rattle.std.specs.Prelude.{◌≡◌, ◌≢◌, ◌⊎◌, ℕ, suc, ◌-◌, ◌<◌, ◌≤◌, Bool, nat_lt, List, [], ◌∷◌, ◌++◌, length, drop, filter, slice_get, Option, Some, None}
 use Rattle.collation_elements.specs.declared.keys.Key.{Key}
 use Rattle.collation_pattern.specs.Border.{border}
 use Rattle.collation_letters.specs.declared.symbols.Symbols.{Symbols}
@@ -18,6 +18,23 @@ pub record AreLastSymbols (pattern : List Key) (keys : List Key) (symbols : List
   pub each : (i : ℕ) (key : Key) (symbol : ℕ) → slice_get (drop (length keys - length symbols) keys) i ≡ Some key → slice_get symbols i ≡ Some symbol
       → IsSymbol pattern key symbol
   pub cut : length symbols < length keys → slice_get symbols 0 ≡ Some 0
+
+-- The symbols of keys, where so many of the pattern's first keys end what stands before: 0 for some first keys behind which none waits there,
+-- as if the last of these were one that the pattern does not have, and then those of the others.
+pub record AreSpentSymbols (pattern : List Key) (depth : ℕ) (keys : List Key) (symbols : List ℕ) : Type 0 where
+  pub spent : List Key
+  pub others : List Key
+  pub other_symbols : List ℕ
+  pub keys_are : keys ≡ spent ++ others
+  pub some : 0 < length spent
+  pub none_waits : (before : List Key) → border pattern before ≡ depth → border pattern (before ++ spent) ≡ 0
+  pub symbols_are : symbols ≡ 0 ∷ other_symbols
+  pub others_are : AreLastSymbols pattern others other_symbols
+
+-- The symbols of keys wherever these stand, or where so many of the pattern's first keys end what stands before.
+abbrev pub AreSymbolsAt : Option ℕ → List Key → List Key → List ℕ → Type 0
+AreSymbolsAt None pattern keys symbols = AreLastSymbols pattern keys symbols
+AreSymbolsAt (Some depth) pattern keys symbols = AreLastSymbols pattern keys symbols ⊎ AreSpentSymbols pattern depth keys symbols
 
 -- The last symbol is that of the last key; there are keys before it only where it is 0.
 pub record IsLastSymbol (pattern : List Key) (keys : List Key) (symbol : ℕ) : Type 0 where

@@ -1,10 +1,9 @@
 //! Where the units of a letter's characters end: before which characters it can be taken by itself.
-ghost use Rattle.std.specs.Prelude.{◌≡◌, ◌≢◌, ◌∷◌, [], ℕ, List, true, false};
+ghost use Rattle.std.specs.Prelude.{◌≡◌, ◌≢◌, ◌∷◌, [], ℕ, List, true, false, Option};
 ghost use Rattle.collation_table.specs.Table.{TableMap};
 ghost use Rattle.collation_pattern.specs.Compiled.{Compiled};
 ghost use Rattle.collation_letters.specs.Apart.{IsNext};
-ghost use Rattle.collation_letters.specs.Letters.{IsLetter, is_mark};
-ghost use Rattle.collation_letters.specs.declared.letter.Letter.{Letter as LetterValue};
+ghost use Rattle.collation_letters.specs.Letters.{IsLetter, IsLetterAt, is_mark, ordered_from};
 ghost use Rattle.collation_letters.specs.declared.letter.Role.TheVariants.{Steps};
 
 use crate::laws::laws_of_characters;
@@ -12,14 +11,13 @@ use crate::letter::{Letter, Role};
 use collation_elements::units_stay_apart;
 
 /// Whether no unit reaches from the characters of a letter, which is not left to the steps, to the character that follows, and that
-/// begins with a starter and is no mark, as far as is known. The symbols of neither are asked: so it holds of each letter that has the role
-/// of the first one, and is closed as that one is.
+/// begins with a starter and is no mark, as far as is known. The symbols of neither are asked.
 #[inline(always)]
 pub fn is_next(letter: &Letter, following: &Letter) -> bool
     ensures apart { result ≡ true
-        → (table : TableMap) (pattern : Compiled) (at : ℕ) (cs : List ℕ) (next : ℕ)
-        → (own : LetterValue) → own.role ≡ letter.now.role → own.is_closed ≡ letter.now.is_closed
-        → IsLetter table pattern cs own → IsLetter table pattern (next ∷ []) following.now
+        → (depth : Option ℕ) (table : TableMap) (pattern : Compiled) (at : ℕ) (cs : List ℕ)
+        → (next : ℕ) → IsLetterAt depth table pattern (ordered_from 0 cs) letter.now
+        → IsLetter table pattern (next ∷ []) following.now
         → IsNext table at cs next }
     ensures known { result ≡ true → (letter.now.role ≢ Steps) × (is_mark letter.now.role ≡ false) }
 {

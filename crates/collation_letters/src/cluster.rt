@@ -1,12 +1,13 @@
 //! A letter whose last marks are known apart: a mark of a lower class goes before them, as canonical ordering has it.
-ghost use Rattle.std.specs.Prelude.{◌≡◌, ◌<◌, ◌∷◌, ◌++◌, List, [], true, false, IfSome};
-ghost use Rattle.nfd_points.specs.Points.{points_from, points_of};
+ghost use Rattle.std.specs.Prelude.{◌≡◌, ◌<◌, ◌∷◌, ◌++◌, ℕ, List, [], true, false, Option, IfSome};
+ghost use Rattle.nfd_points.specs.Points.{ordered, points_from, points_of};
 ghost use Rattle.nfd_points.specs.declared.points.Point.{Point as PointValue};
 ghost use Rattle.collation_table.specs.Table.{TableMap, ContinuesNoString};
 ghost use Rattle.collation_pattern.specs.Compiled.{Compiled};
-ghost use Rattle.collation_letters.specs.Clusters.{ContinuesNone};
-ghost use Rattle.collation_letters.specs.Letters.{IsLetterOf, begins_cluster, is_mark};
+ghost use Rattle.collation_letters.specs.Clusters.{ContinuesNone, IsCluster, IsClusterAt, IsMarkOrNone};
+ghost use Rattle.collation_letters.specs.Letters.{IsLetter, IsLetterAt, IsLetterOf, begins_cluster, is_mark, ordered_from};
 
+use crate::joining::letter_of_both;
 use crate::letter::{Letter, UNKNOWN};
 use collation_table::Weights;
 use nfd_points::laws::laws_of_points;
@@ -26,19 +27,11 @@ pub struct Cluster {
 }
 
 impl Cluster {
-    ghost use Rattle.std.specs.Prelude.{◌≡◌, ◌∷◌, ◌++◌, ℕ, List, [], true, false, IfSome};
-    ghost use Rattle.nfd_points.specs.Points.{ordered, points_from};
-    ghost use Rattle.nfd_points.specs.declared.points.Point.{Point as PointValue};
-    ghost use Rattle.collation_table.specs.Table.{TableMap, ContinuesNoString};
-    ghost use Rattle.collation_pattern.specs.Compiled.{Compiled};
-    ghost use Rattle.collation_letters.specs.Letters.{ordered_from, IsLetter, IsLetterOf, is_mark};
-    ghost use Rattle.collation_letters.specs.Clusters.{ContinuesNone, IsCluster, IsMarkOrNone};
-
     /// A letter of which no mark is known apart.
     pub fn new(letter: Letter) -> Cluster
-        ensures cluster { (table : TableMap) (pattern : Compiled) (cs : List ℕ)
-            → IsLetter table pattern cs letter
-            → IsCluster table pattern (ordered_from 0 cs) result }
+        ensures cluster { (depth : Option ℕ) (table : TableMap) (pattern : Compiled)
+            → (ps : List PointValue) → IsLetterAt depth table pattern ps letter
+            → IsClusterAt depth table pattern ps result }
         ensures letter { result.letter ≡ letter }
     {
         Cluster {
@@ -52,10 +45,11 @@ impl Cluster {
     /// That of these characters and a mark `c` that follows them, wherever canonical ordering has it; `None` where that is left to the
     /// steps. Where a unit may reach out of them, the mark has to stand in no mapped string after the first place.
     pub fn with_mark<W: Weights>(self, table: &W, c: char, mark: Letter) -> Option<Cluster>
-        ensures cluster { IfSome result (λ both. (pattern : Compiled) (cs : List ℕ)
-            → IsCluster (W.table table.now) pattern (ordered_from 0 cs) self
+        ensures cluster { IfSome result (λ both.
+            (depth : Option ℕ) (pattern : Compiled) (cs : List ℕ)
+            → IsClusterAt depth (W.table table.now) pattern (ordered_from 0 cs) self
             → IsLetter (W.table table.now) pattern (c ∷ []) mark
-            → IsCluster (W.table table.now) pattern (ordered_from 0 (cs ++ c ∷ [])) both) }
+            → IsClusterAt depth (W.table table.now) pattern (ordered_from 0 (cs ++ c ∷ [])) both) }
         ensures letter { IfSome result (λ both. (pattern : Compiled) (cs : List ℕ)
             → IsCluster (W.table table.now) pattern (ordered_from 0 cs) self
             → IsLetter (W.table table.now) pattern (c ∷ []) mark
@@ -71,19 +65,18 @@ impl Cluster {
         let both = self.placed(mark)?;
         Some(Cluster {
             letter: both.letter.without_apart(),
-            base: both.base,
-            before: both.before,
-            last: both.last,
+            ..both
         })
     }
 
     /// The same of points.
     fn placed(self, mark: Letter) -> Option<Cluster>
         ensures { IfSome result (λ both.
-            (table : TableMap) (pattern : Compiled) (ps : List PointValue) (q : PointValue)
+            (depth : Option ℕ) (table : TableMap) (pattern : Compiled)
+            → (ps : List PointValue) (q : PointValue)
             → (self.base.is_closed ≡ false → ContinuesNoString table q.cp)
-            → IsCluster table pattern ps self → IsLetterOf table pattern (q ∷ []) mark
-            → IsCluster table pattern (ordered (ps ++ q ∷ [])) both) }
+            → IsClusterAt depth table pattern ps self → IsLetterOf table pattern (q ∷ []) mark
+            → IsClusterAt depth table pattern (ordered (ps ++ q ∷ [])) both) }
     {
         if let Some(letter) = join(self.letter, mark) {
             return self.behind(letter, mark);
@@ -102,11 +95,12 @@ impl Cluster {
         requires mark { is_mark mark.role ≡ true }
         requires closed { letter.is_closed ≡ self.letter.is_closed }
         ensures { IfSome result (λ both.
-            (table : TableMap) (pattern : Compiled) (ps : List PointValue) (q : PointValue)
+            (depth : Option ℕ) (table : TableMap) (pattern : Compiled)
+            → (ps : List PointValue) (q : PointValue)
             → (self.base.is_closed ≡ false → ContinuesNoString table q.cp)
-            → IsCluster table pattern ps self → IsLetterOf table pattern (q ∷ []) mark
-            → IsLetterOf table pattern (ps ++ q ∷ []) letter
-            → IsCluster table pattern (ps ++ q ∷ []) both) }
+            → IsClusterAt depth table pattern ps self → IsLetterOf table pattern (q ∷ []) mark
+            → IsLetterAt depth table pattern (ps ++ q ∷ []) letter
+            → IsClusterAt depth table pattern (ps ++ q ∷ []) both) }
     {
         if mark.class == 0 {
             return Some(Cluster {
@@ -132,10 +126,11 @@ impl Cluster {
         requires some { 0 < mark.class }
         requires below { mark.class < self.last.class }
         ensures { IfSome result (λ both.
-            (table : TableMap) (pattern : Compiled) (ps : List PointValue) (q : PointValue)
+            (depth : Option ℕ) (table : TableMap) (pattern : Compiled)
+            → (ps : List PointValue) (q : PointValue)
             → (self.base.is_closed ≡ false → ContinuesNoString table q.cp)
-            → IsCluster table pattern ps self → IsLetterOf table pattern (q ∷ []) mark
-            → IsCluster table pattern (ordered (ps ++ q ∷ [])) both) }
+            → IsClusterAt depth table pattern ps self → IsLetterOf table pattern (q ∷ []) mark
+            → IsClusterAt depth table pattern (ordered (ps ++ q ∷ [])) both) }
     {
         let base = self.with_before()?;
         let inner = join(base, mark)?;
@@ -144,7 +139,7 @@ impl Cluster {
             letter,
             base,
             before: mark,
-            last: self.last,
+            ..self
         })
     }
 
@@ -157,10 +152,11 @@ impl Cluster {
         requires below_last { mark.class < self.last.class }
         requires below { mark.class < self.before.class }
         ensures { IfSome result (λ both.
-            (table : TableMap) (pattern : Compiled) (ps : List PointValue) (q : PointValue)
+            (depth : Option ℕ) (table : TableMap) (pattern : Compiled)
+            → (ps : List PointValue) (q : PointValue)
             → (self.base.is_closed ≡ false → ContinuesNoString table q.cp)
-            → IsCluster table pattern ps self → IsLetterOf table pattern (q ∷ []) mark
-            → IsCluster table pattern (ordered (ps ++ q ∷ [])) both) }
+            → IsClusterAt depth table pattern ps self → IsLetterOf table pattern (q ∷ []) mark
+            → IsClusterAt depth table pattern (ordered (ps ++ q ∷ [])) both) }
     {
         let base = join(self.base, mark)?;
         let inner = join(base, self.before)?;
@@ -168,18 +164,18 @@ impl Cluster {
         Some(Cluster {
             letter,
             base,
-            before: self.before,
-            last: self.last,
+            ..self
         })
     }
 
     /// The letter of the base and the mark before the last one, if it is known.
     fn with_before(self) -> Option<Letter>
         ensures letter { IfSome result (λ letter.
-            (table : TableMap) (pattern : Compiled) (first before : List PointValue)
-            → IsLetterOf table pattern first self.base
+            (depth : Option ℕ) (table : TableMap) (pattern : Compiled)
+            → (first before : List PointValue)
+            → IsLetterAt depth table pattern first self.base
             → IsMarkOrNone table pattern before self.before self.base.is_closed
-            → IsLetterOf table pattern (first ++ before) letter) }
+            → IsLetterAt depth table pattern (first ++ before) letter) }
         ensures closed { IfSome result (λ letter. letter.is_closed ≡ self.base.is_closed) }
     {
         if self.before.role.is_mark() {
@@ -193,10 +189,11 @@ impl Cluster {
 /// The letter of points and a mark behind them, which stands in no mapped string after the first place where a unit may reach out of them.
 fn join(letter: Letter, mark: Letter) -> Option<Letter>
     ensures points { IfSome result (λ both.
-        (table : TableMap) (pattern : Compiled) (ps : List PointValue) (q : PointValue)
+        (depth : Option ℕ) (table : TableMap) (pattern : Compiled)
+        → (ps : List PointValue) (q : PointValue)
         → (letter.is_closed ≡ false → ContinuesNoString table q.cp)
-        → IsLetterOf table pattern ps letter → IsLetterOf table pattern (q ∷ []) mark
-        → IsLetterOf table pattern (ps ++ q ∷ []) both) }
+        → IsLetterAt depth table pattern ps letter → IsLetterOf table pattern (q ∷ []) mark
+        → IsLetterAt depth table pattern (ps ++ q ∷ []) both) }
     ensures begins { IfSome result (λ both. begins_cluster both.role ≡ true) }
     ensures mark { IfSome result (λ both. is_mark mark.role ≡ true) }
     ensures closed { IfSome result (λ both. both.is_closed ≡ letter.is_closed) }
@@ -204,7 +201,7 @@ fn join(letter: Letter, mark: Letter) -> Option<Letter>
     if letter.is_closed {
         letter.with_mark(mark)
     } else {
-        letter.with_outer_mark(mark)
+        letter_of_both(letter, mark)
     }
 }
 

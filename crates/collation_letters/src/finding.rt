@@ -256,31 +256,9 @@ fn role_of_mark(plain: &CharacterItems, after: &Option<CharacterItems>) -> Role
 fn is_as(plain: &CharacterItems, after: &Option<CharacterItems>) -> bool
     ensures { result ≡ true → ForSome after.now (λ it. it ≡ plain.now) }
 {
-    if let Some(after) = after {
-        return are_same(after, plain);
-    }
-    true
-}
-
-/// Whether these items are the same.
-fn are_same(items: &CharacterItems, others: &CharacterItems) -> bool
-    ensures { result ≡ true → items.now ≡ others.now }
-{
-    items.begins_cluster == others.begins_cluster
-        && items.after_variable == others.after_variable
-        && are_one(items.first, others.first)
-        && are_one(items.second, others.second)
-        && are_one(items.third, others.third)
-}
-
-/// Whether these are one key, or both none.
-fn are_one(key: Option<Key>, other: Option<Key>) -> bool
-    ensures { result ≡ true → key ≡ other }
-{
-    match (key, other) {
-        (None, None) => true,
-        (Some(key), Some(other)) => key == other,
-        _ => false,
+    match after {
+        Some(after) => after == plain,
+        None => true,
     }
 }
 

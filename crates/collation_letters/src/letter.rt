@@ -1,6 +1,11 @@
 //! A letter: what is known of a character, or of one with marks behind it.
-ghost use Rattle.std.specs.Prelude.{◌≡◌, true};
-ghost use Rattle.collation_letters.specs.Letters.{begins_cluster, is_mark};
+ghost use Rattle.std.specs.Prelude.{◌≡◌, ◌<◌, ◌↔◌, ℕ, List, true, false, Option, IsTrue};
+ghost use Rattle.nfd_points.specs.Points.{begins_with_starter, points_from};
+ghost use Rattle.nfd_points.specs.declared.points.Point.{Point as PointValue};
+ghost use Rattle.collation_table.specs.Table.{TableMap};
+ghost use Rattle.collation_pattern.specs.Compiled.{Compiled};
+ghost use Rattle.collation_letters.specs.declared.letter.Role.TheVariants.{Steps};
+ghost use Rattle.collation_letters.specs.Letters.{IsClean, IsLetter, IsLetterAt, begins_cluster, flag_after, is_mark};
 
 use crate::symbols::{FOREIGN, NO_SYMBOL, NO_SYMBOLS, Symbols};
 
@@ -26,7 +31,7 @@ pub enum Role {
 }
 
 /// What is known of characters that stand together: one, or one and the marks behind it.
-#[derive(Clone, Copy, Debug)]
+#[derive(Clone, Copy, Debug, PartialEq, Eq)]
 pub struct Letter {
     /// What a search does with them. What follows but the first two says nothing where that is left to the steps.
     pub role: Role,
@@ -34,7 +39,7 @@ pub struct Letter {
     pub is_closed: bool,
     /// Whether no unit reaches into them, as they begin with a starter that stands in no mapped string after the first place.
     pub is_apart: bool,
-    /// How many points they have.
+    /// How many points they have, or, of a letter that is right at one depth alone, at most.
     pub points: u8,
     /// The canonical combining class of the last point.
     pub class: u8,
@@ -53,19 +58,12 @@ pub const UNKNOWN: Letter = Letter {
 };
 
 impl Role {
-    ghost use Rattle.std.specs.Prelude.{◌≡◌, ◌↔◌, IsTrue};
-    ghost use Rattle.collation_letters.specs.declared.letter.Role.TheVariants.{Steps};
-    ghost use Rattle.collation_letters.specs.Letters.{begins_cluster, flag_after, is_mark};
-
     /// Whether a cluster begins here.
     #[inline(always)]
     pub fn begins_cluster(self) -> bool
         ensures { result ≡ begins_cluster self }
     {
-        match self {
-            Role::Plain | Role::Base | Role::VariableBase => true,
-            _ => false,
-        }
+        matches!(self, Role::Plain | Role::Base | Role::VariableBase)
     }
 
     /// Whether, after characters of the role, the last element that was variable or primary was variable, in shifted weighting.
@@ -85,10 +83,7 @@ impl Role {
     pub fn is_steps(self) -> bool
         ensures { IsTrue result ↔ (self ≡ Steps) }
     {
-        match self {
-            Role::Steps => true,
-            _ => false,
-        }
+        matches!(self, Role::Steps)
     }
 
     /// Whether it is a mark: it joins the letter before it.
@@ -96,22 +91,11 @@ impl Role {
     pub fn is_mark(self) -> bool
         ensures { result ≡ is_mark self }
     {
-        match self {
-            Role::PrimaryMark | Role::Mark => true,
-            _ => false,
-        }
+        matches!(self, Role::PrimaryMark | Role::Mark)
     }
 }
 
 impl Letter {
-    ghost use Rattle.std.specs.Prelude.{◌≡◌, ℕ, ◌<◌, List, true, false};
-    ghost use Rattle.nfd_points.specs.Points.{begins_with_starter, points_from};
-    ghost use Rattle.collation_table.specs.Table.{TableMap};
-    ghost use Rattle.collation_pattern.specs.Compiled.{Compiled};
-    ghost use Rattle.nfd_points.specs.declared.points.Point.{Point as PointValue};
-    ghost use Rattle.collation_letters.specs.Letters.{IsClean, IsLetter, IsLetterOf, begins_cluster, flag_after};
-    ghost use Rattle.collation_letters.specs.declared.letter.Role.TheVariants.{Base};
-
     /// Whether its characters are known to begin with a starter, and are no mark.
     #[inline(always)]
     pub fn is_starter(&self) -> bool
@@ -157,52 +141,32 @@ impl Letter {
         ensures same { result ≡ record self { is_apart = false } }
     {
         Letter {
-            role: self.role,
-            is_closed: self.is_closed,
             is_apart: false,
-            points: self.points,
-            class: self.class,
-            symbols: self.symbols,
+            ..self
         }
     }
 
     /// The same letter, plain if it can be.
     #[inline(always)]
-    pub(crate) fn settled(self) -> Letter
+    pub fn settled(self) -> Letter
         ensures letter { (table : TableMap) (pattern : Compiled) (cs : List ℕ)
             → IsLetter table pattern cs self → IsLetter table pattern cs result }
-        ensures points { (table : TableMap) (pattern : Compiled) (ps : List PointValue)
-            → IsLetterOf table pattern ps self → IsLetterOf table pattern ps result }
+        ensures points { (depth : Option ℕ) (table : TableMap) (pattern : Compiled)
+            → (ps : List PointValue)
+            → IsLetterAt depth table pattern ps self → IsLetterAt depth table pattern ps result }
         ensures begins { begins_cluster self.role ≡ true → begins_cluster result.role ≡ true }
         ensures closed { result.is_closed ≡ self.is_closed }
     {
-        match self.role {
-            Role::Base => self.plain(),
-            _ => self,
-        }
-    }
-
-    /// The same letter, which is a base, plain if it can be.
-    #[inline(always)]
-    fn plain(self) -> Letter
-        requires { self.role ≡ Base }
-        ensures letter { (table : TableMap) (pattern : Compiled) (cs : List ℕ)
-            → IsLetter table pattern cs self → IsLetter table pattern cs result }
-        ensures points { (table : TableMap) (pattern : Compiled) (ps : List PointValue)
-            → IsLetterOf table pattern ps self → IsLetterOf table pattern ps result }
-        ensures begins { begins_cluster result.role ≡ true }
-        ensures closed { result.is_closed ≡ self.is_closed }
-    {
-        if !self.is_closed || self.symbols.first != NO_SYMBOL || self.symbols.second != NO_SYMBOL {
+        if self.role != Role::Base
+            || !self.is_closed
+            || self.symbols.first != NO_SYMBOL
+            || self.symbols.second != NO_SYMBOL
+        {
             return self;
         }
         Letter {
             role: Role::Plain,
-            is_closed: self.is_closed,
-            is_apart: self.is_apart,
-            points: self.points,
-            class: self.class,
-            symbols: self.symbols,
+            ..self
         }
     }
 }

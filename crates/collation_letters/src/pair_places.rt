@@ -2,6 +2,7 @@
 ghost use Rattle.std.specs.Prelude.{◌≡◌, ◌<◌, ◌∷◌, [], None, All, IfOk, IfSome};
 ghost use Rattle.collation_table.specs.Table.{TableMap};
 ghost use Rattle.collation_pattern.specs.Compiled.{Compiled};
+ghost use Rattle.collation_letters.specs.Letters.{IsLetter};
 ghost use Rattle.collation_letters.specs.Store.{ArePairsKept, IsOfNoPair};
 
 use crate::letter::{Letter, UNKNOWN};
@@ -32,12 +33,6 @@ pub(crate) struct PairPlaces {
 }
 
 impl PairPlaces {
-    ghost use Rattle.std.specs.Prelude.{◌≡◌, ◌∷◌, [], None, All, IfSome};
-    ghost use Rattle.collation_table.specs.Table.{TableMap};
-    ghost use Rattle.collation_pattern.specs.Compiled.{Compiled};
-    ghost use Rattle.collation_letters.specs.Letters.{IsLetter};
-    ghost use Rattle.collation_letters.specs.Store.{ArePairsKept, IsOfNoPair};
-
     /// No places. Takes no memory.
     pub(crate) fn new(alloc: Global) -> PairPlaces
         ensures { (table : TableMap) (pattern : Compiled) → ArePairsKept table pattern result }

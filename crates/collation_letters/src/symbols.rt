@@ -1,9 +1,9 @@
 //! Symbols: the keys of a text as a pattern sees them.
-ghost use Rattle.std.specs.Prelude.{◌≡◌, ◌≢◌, ◌<◌, ◌≤◌, ◌∷◌, ◌++◌, List, [], length, IfSome, true};
+ghost use Rattle.std.specs.Prelude.{◌≡◌, ◌≢◌, ◌<◌, ◌≤◌, ◌∷◌, ◌++◌, ℕ, List, [], length, Option, IfSome};
 ghost use Rattle.collation_elements.specs.declared.keys.Key.{Key as KeyValue};
 ghost use Rattle.collation_pattern.specs.Border.{border};
 ghost use Rattle.collation_letters.specs.declared.symbols.TheConstants.{FOREIGN};
-ghost use Rattle.collation_letters.specs.Symbols.{AreLastSymbols, IsSymbol, listed, some_symbol};
+ghost use Rattle.collation_letters.specs.Symbols.{AreLastSymbols, AreSymbolsAt, IsSymbol, listed, some_symbol};
 
 use collation_elements::Key;
 use collation_pattern::Pattern;
@@ -51,17 +51,13 @@ pub const NO_SYMBOLS: Symbols = Symbols {
 };
 
 impl Symbols {
-    ghost use Rattle.std.specs.Prelude.{◌≡◌, ◌<◌, ◌∷◌, ◌++◌, List, [], IfSome};
-    ghost use Rattle.collation_elements.specs.declared.keys.Key.{Key as KeyValue};
-    ghost use Rattle.collation_letters.specs.Symbols.{AreLastSymbols, listed, some_symbol};
-
     /// These symbols and one more; `None` where there is no room.
     pub fn with(self, symbol: u8) -> Option<Symbols>
         requires { symbol < 255 }
-        ensures { IfSome result (λ all. (pattern keys more : List KeyValue)
-            → AreLastSymbols pattern keys (listed self)
+        ensures { IfSome result (λ all. (depth : Option ℕ) (pattern keys more : List KeyValue)
+            → AreSymbolsAt depth pattern keys (listed self)
             → AreLastSymbols pattern more (symbol ∷ [])
-            → AreLastSymbols pattern (keys ++ more) (listed all)) }
+            → AreSymbolsAt depth pattern (keys ++ more) (listed all)) }
     {
         if symbol == FOREIGN {
             return Some(Symbols {
@@ -82,10 +78,10 @@ impl Symbols {
 
     /// These symbols and those of keys that follow; `None` where there is no room.
     pub fn with_all(self, more: Symbols) -> Option<Symbols>
-        ensures { IfSome result (λ all. (pattern keys later : List KeyValue)
-            → AreLastSymbols pattern keys (listed self)
+        ensures { IfSome result (λ all. (depth : Option ℕ) (pattern keys later : List KeyValue)
+            → AreSymbolsAt depth pattern keys (listed self)
             → AreLastSymbols pattern later (listed more)
-            → AreLastSymbols pattern (keys ++ later) (listed all)) }
+            → AreSymbolsAt depth pattern (keys ++ later) (listed all)) }
     {
         let all = with_some(self, more.first)?;
         let all = with_some(all, more.second)?;
@@ -95,10 +91,10 @@ impl Symbols {
 
 /// These symbols and one more, if it is one.
 fn with_some(symbols: Symbols, symbol: u8) -> Option<Symbols>
-    ensures { IfSome result (λ all. (pattern keys more : List KeyValue)
-        → AreLastSymbols pattern keys (listed symbols)
+    ensures { IfSome result (λ all. (depth : Option ℕ) (pattern keys more : List KeyValue)
+        → AreSymbolsAt depth pattern keys (listed symbols)
         → AreLastSymbols pattern more (some_symbol symbol)
-        → AreLastSymbols pattern (keys ++ more) (listed all)) }
+        → AreSymbolsAt depth pattern (keys ++ more) (listed all)) }
 {
     if symbol == NO_SYMBOL {
         return Some(symbols);
@@ -111,19 +107,10 @@ pub fn symbol_of(pattern: &Pattern, key: &Key) -> Option<u8>
     ensures symbol { IfSome result (λ symbol. IsSymbol pattern.now.keys key.now symbol) }
     ensures below { IfSome result (λ symbol. symbol < 255) }
 {
-    let keys = pattern.keys();
-    if keys.len() > MOST_KEYS {
+    if pattern.keys().len() > MOST_KEYS {
         return None;
     }
-    for place in 0..keys.len() {
-        if keys[place] == *key {
-            if place >= MOST_SYMBOLS {
-                return None;
-            }
-            return Some(place as u8 + 1);
-        }
-    }
-    Some(FOREIGN)
+    symbol_in(pattern, key)
 }
 
 /// The symbol of a key of a pattern of any length; `None` where the pattern has it first behind the keys that have symbols, or may have

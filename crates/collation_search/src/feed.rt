@@ -11,7 +11,7 @@ ghost use Rattle.collation_search.specs.Early.{starters_from};
 
 use crate::search::{MOST_BYTES, Search};
 use collation_elements::decided_units_stay;
-use collation_finder::Front;
+use collation_finder::{Front, is_starter};
 use collation_letters::Letters;
 use collation_matches::TextFault;
 use collation_table::Weights;
@@ -59,9 +59,8 @@ fn starter_comes_first<W: Weights>(
         × SpellsCharacter (take (len_utf8 c) bytes.now) c
         × (begins_with_starter (points_of 0 c) ≡ true) }
 {
-    laws_of_decompositions();
     match first_character(bytes) {
-        Some(c) => c.is_ascii() || letters.letter(query.table, query.pattern, c).is_starter(),
+        Some(c) => is_starter(query, letters, c),
         None => false,
     }
 }

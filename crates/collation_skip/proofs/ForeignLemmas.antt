@@ -1,7 +1,7 @@
 -- Characters behind which no key waits, passed by one after another.
 use Rattle.std.specs.Char.{len_utf8}
 use Rattle.std.specs.Str.{chars, IsUtf8}
-use Rattle.std.proofs.Common.{◌≡◌, ◌∙◌, ℕ, zero, suc, ◌+◌, ◌<◌, ◌≤◌, true, false, List, [], ◌∷◌, ◌++◌, length, take, drop, map, filter, Contains, refl, sym, ap, ap₂, subst, arith, append_assoc}
+use Rattle.std.proofs.Common.{◌≡◌, ◌∙◌, ℕ, zero, suc, ◌+◌, ◌<◌, ◌≤◌, true, false, List, [], ◌∷◌, ◌++◌, length, None, take, drop, map, filter, Contains, refl, sym, ap, ap₂, subst, arith, append_assoc}
 use Rattle.std.proofs.lemmas.List.{append-nil, length-take-le}
 use Rattle.std.proofs.lemmas.Str.{chars-nil, encodes-chars}
 use Rattle.utf8_cut.specs.Sequences.{SpellsCharacter}
@@ -25,6 +25,7 @@ use Rattle.collation_letters.specs.declared.letter.Role.TheVariants.{Plain}
 use Rattle.collation_letters.specs.Symbols.{AreLastSymbols, is_symbol, some_symbol, NothingWaitsBehindForeignKeys, OneSymbolIsOfTheLastKey}
 use Rattle.collation_letters.specs.Laws.{LetterLaws}
 use Rattle.collation_letters.proofs.ApartLemmas.{begins_before, from_none, ordered_none, next-more, next-none}
+use Rattle.collation_letters.proofs.ClusterLemmas.{letter-of}
 use Rattle.collation_letters.proofs.LetterApart.{plain-known}
 use Rattle.collation_skip.specs.Passed.{IsPassed, IsQuiet}
 use Rattle.collation_skip.specs.Reached.{items_from}
@@ -100,7 +101,7 @@ passed-one laws table pattern start cs c next l q h role small none apart =
     let at = start + byte_len cs in
     let known = plain-known l.role role in
     let plain = h.plain role in
-    let items = items-more laws laws.shifted table pattern start cs c [] l q.is_next known (ap is_mark role) h in
+    let items = items-more laws laws.shifted None table pattern start cs c [] l q.is_next known (ap is_mark role) (letter-of table pattern (c ∷ []) l h) in
     let I = items_from table pattern start cs in
     let symbols = subst (AreLastSymbols pattern.keys items.keys) (symbols-of l.symbols.first l.symbols.second l.symbols.third plain.1.0 plain.1.1) items.symbols in
     record {

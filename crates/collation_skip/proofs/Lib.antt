@@ -1,5 +1,6 @@
 pub mod ItemLemmas
 pub mod ReachedLemmas
+pub mod SpentLemmas
 pub mod PassedLemmas
 pub mod TextLemmas
 pub mod RowLemmas
@@ -11,3 +12,4 @@ pub mod ClassLemmas
 pub mod BlockLemmas
 pub mod ForeignLemmas
 pub mod TwoByteCharacters
+pub mod EqualStates

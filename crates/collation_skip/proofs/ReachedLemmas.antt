@@ -1,8 +1,7 @@
 -- What a state says of the bytes behind it, with one byte more.
 use Rattle.std.specs.Char.{len_utf8}
 use Rattle.std.specs.Str.{chars, IsUtf8}
-use Rattle.std.proofs.Common.{◌≡◌, ◌≢◌, ◌∙◌, ℕ, ◌+◌, ◌<◌, ◌≤◌, Bool, true, false, List, [], ◌∷◌, ◌++◌, length, min, map, Contains, Option, None, IfSome, refl, sym, ap, ap₂, subst, arith, append_assoc}
-use Rattle.std.proofs.lemmas.Bool.{false≢true}
+use Rattle.std.proofs.Common.{◌≡◌, ◌≢◌, ◌∙◌, ℕ, ◌+◌, ◌<◌, ◌≤◌, Bool, true, false, List, [], ◌∷◌, ◌++◌, length, min, map, Contains, Option, Some, None, IfSome, refl, sym, ap, ap₂, subst, arith, append_assoc}
 use Rattle.std.proofs.lemmas.List.{append-nil}
 use Rattle.std.proofs.lemmas.Str.{IsUtf8-append, chars-append, len_utf8_bounds}
 use Rattle.utf8_cut.specs.Sequences.{SpellsCharacter}
@@ -23,11 +22,11 @@ use Rattle.collation_elements.specs.Weighing.{after_units}
 use Rattle.collation_pattern.specs.Border.{border, border_up_to}
 use Rattle.collation_pattern.specs.Compiled.{Compiled}
 use Rattle.collation_letters.specs.Apart.{IsNext}
-use Rattle.collation_letters.specs.Clusters.{IsCluster}
+use Rattle.collation_letters.specs.Clusters.{IsClusterAt}
 use Rattle.collation_letters.specs.declared.letter.Letter.{Letter}
 use Rattle.collation_letters.specs.declared.letter.Role.TheVariants.{Steps}
-use Rattle.collation_letters.specs.Letters.{begins_cluster, is_mark, flag_after, keys_alone, ordered_from, IsPossible, IsLetter}
-use Rattle.collation_letters.specs.Symbols.{AreLastSymbols, listed}
+use Rattle.collation_letters.specs.Letters.{begins_cluster, is_mark, flag_after, keys_alone, ordered_from, IsPossible, IsLetterAt}
+use Rattle.collation_letters.specs.Symbols.{AreSymbolsAt, listed}
 use Rattle.collation_letters.specs.Laws.{LetterLaws}
 use Rattle.collation_letters.proofs.ApartLemmas.{begins-append, begun_from, from_none, from_one, ordered_none, next-more, units-next, next-none}
 use Rattle.collation_letters.proofs.CharacterLemmas.{ordered_is_shifted}
@@ -40,20 +39,21 @@ use Rattle.collation_skip.specs.declared.state.Marks.{Marks}
 use Rattle.collation_skip.specs.declared.state.State.{State}
 use Rattle.collation_skip.specs.BegunBytes.{begun_bytes}
 use Rattle.collation_skip.specs.Passed.{IsQuiet}
-use Rattle.collation_skip.specs.Reached.{items_from, AreMarksRight, IsHeldAs, IsReached}
+use Rattle.collation_skip.specs.Reached.{items_from, AreMarksRight, IsHeld, IsReached}
 use Rattle.collation_skip.proofs.ItemLemmas.{letter_items, keys-append, keys-letter, quiet-more, later-more}
+use Rattle.collation_skip.proofs.SpentLemmas.{keys-some}
 
 -- ---- the items of a letter more
 
-pub record MoreItems (table : TableMap) (pattern : Compiled) (at : ℕ) (before last : List ℕ) (l : Letter) : Type 0 where
+pub record MoreItems (depth : Option ℕ) (table : TableMap) (pattern : Compiled) (at : ℕ) (before last : List ℕ) (l : Letter) : Type 0 where
   pub keys : List Key
   pub items : items_from table pattern at (before ++ last) ≡ items_from table pattern at before ++ letter_items (begins_cluster l.role) (at + byte_len before) keys
   pub flag : after_units table pattern.variable false (units table (ordered_from at (before ++ last))) ≡ flag_after l.role (after_units table pattern.variable false (units table (ordered_from at before)))
-  pub symbols : AreLastSymbols pattern.keys keys (listed l.symbols)
+  pub symbols : AreSymbolsAt depth pattern.keys keys (listed l.symbols)
 
-pub items-more : LetterLaws → PointsAreShifted → (table : TableMap) (pattern : Compiled) (at : ℕ) (before : List ℕ) (first : ℕ) (others : List ℕ) (l : Letter) → IsNext table at before first → l.role ≢ Steps →
-    is_mark l.role ≡ false → IsLetter table pattern (first ∷ others) l → MoreItems table pattern at before (first ∷ others) l
-items-more laws shift table pattern at before first others l next known starter h =
+pub items-more : LetterLaws → PointsAreShifted → (depth : Option ℕ) (table : TableMap) (pattern : Compiled) (at : ℕ) (before : List ℕ) (first : ℕ) (others : List ℕ) (l : Letter) → IsNext table at before first → l.role ≢ Steps →
+    is_mark l.role ≡ false → IsLetterAt depth table pattern (ordered_from 0 (first ∷ others)) l → MoreItems depth table pattern at before (first ∷ others) l
+items-more laws shift depth table pattern at before first others l next known starter h =
     let S : Strength = pattern.strength in
     let V : Variable = pattern.variable in
     let last = first ∷ others in
@@ -72,7 +72,7 @@ items-more laws shift table pattern at before first others l next known starter 
       items = ap (items_of table S V false) cut ∙ items-append table S V false us vs
           ∙ ap (λ (l : List Item). items_of table S V false us ++ l) (ap (items_of table S V flag) here ∙ has.items start);
       flag = ap (after_units table V false) cut ∙ after-append table V false us vs ∙ ap (after_units table V flag) here ∙ has.flag_is start;
-      symbols = subst (λ ss. AreLastSymbols pattern.keys keys ss) (starter-counted l.role flag (listed l.symbols) starter) has.symbols_are;
+      symbols = subst (λ ss. AreSymbolsAt depth pattern.keys keys ss) (starter-counted l.role flag (listed l.symbols) starter) has.symbols_are;
     }
 
 -- ---- one byte more
@@ -91,9 +91,7 @@ reached-begun table pattern s begun at bytes byte is r =
       characters = r.characters;
       begins = r.begins;
       is_next = r.is_next;
-      own = r.own;
       letter = r.letter;
-      kept = r.kept;
       marks = r.marks;
       depth = r.depth;
       below = r.below;
@@ -120,20 +118,16 @@ further table pattern s at bytes byte c spelled r =
       characters = chars-append r.text more r.is_text ∙ ap₂ (λ (x y : List ℕ). x ++ y) r.characters one.1;
     }
 
--- a letter that is kept as it is
-pub kept-whole : (pattern : List Key) (depth : ℕ) (l : Letter) → IsHeldAs pattern depth l l false
-kept-whole pattern depth l = record { role = refl; closed = refl; whole = λ _. refl; some = λ yes. absurd (false≢true yes); none = λ yes. absurd (false≢true yes) }
-
 -- no marks are kept
 none-kept : (table : TableMap) (pattern : Compiled) (cs : List ℕ) (s : State) → s.marks ≡ None → AreMarksRight table pattern cs s
 none-kept table pattern cs s none =
-    subst (λ (o : Option Marks). IfSome o (λ m. IsCluster table pattern (ordered_from 0 cs) (record { letter = s.letter; base = m.base; before = m.before; last = m.last }))) (sym none) tt
+    subst (λ (o : Option Marks). IfSome o (λ m. IsClusterAt (Some s.depth) table pattern (ordered_from 0 cs) (record { letter = s.letter; base = m.base; before = m.before; last = m.last }))) (sym none) tt
 
 -- a character with which the last letter goes on
 pub reached-longer : (table : TableMap) (pattern : Compiled) (s : State) (l : Letter) (m : Option Marks) (at : ℕ) (bytes : List ℕ) (byte c : ℕ) → SpellsCharacter (begun_bytes s.begun ++ byte ∷ []) c →
-    (r : IsReached table pattern s at bytes) → IsLetter table pattern (r.first ∷ (r.others ++ c ∷ [])) l →
-    IfSome m (λ k. IsCluster table pattern (ordered_from 0 (r.first ∷ (r.others ++ c ∷ []))) (record { letter = l; base = k.base; before = k.before; last = k.last })) →
-    IsReached table pattern (record { depth = s.depth; letter = l; marks = m; is_spent = false; character = 0; len = 0; before = 0; begun = Whole }) at (bytes ++ byte ∷ [])
+    (r : IsReached table pattern s at bytes) → IsHeld table pattern s.depth (r.first ∷ (r.others ++ c ∷ [])) l →
+    IfSome m (λ k. IsClusterAt (Some s.depth) table pattern (ordered_from 0 (r.first ∷ (r.others ++ c ∷ []))) (record { letter = l; base = k.base; before = k.before; last = k.last })) →
+    IsReached table pattern (record { depth = s.depth; letter = l; marks = m; character = 0; len = 0; before = 0; begun = Whole }) at (bytes ++ byte ∷ [])
 reached-longer table pattern s l m at bytes byte c spelled r h marks =
     let f = further table pattern s at bytes byte c spelled r in
     record {
@@ -146,9 +140,7 @@ reached-longer table pattern s l m at bytes byte c spelled r h marks =
       characters = f.characters ∙ append_assoc r.before (r.first ∷ r.others) (c ∷ []);
       begins = r.begins;
       is_next = r.is_next;
-      own = l;
       letter = h;
-      kept = kept-whole pattern.keys s.depth l;
       marks = marks;
       depth = r.depth;
       below = r.below;
@@ -169,11 +161,6 @@ pub record MayBeLeft (s t : State) : Type 0 where
   pub some : s.letter.symbols.third < 255
   pub none : t.depth ≡ 0
 
--- a letter of which a last key is kept has one
-kept-some : (pattern : List Key) (depth : ℕ) (own kept : Letter) (is_spent : Bool) → IsHeldAs pattern depth own kept is_spent → kept.symbols.third < 255 → own.symbols.third < 255
-kept-some pattern depth own kept true is some = is.some refl
-kept-some pattern depth own kept false is some = subst (λ (l : Letter). l.symbols.third < 255) (is.whole refl) some
-
 pub begins-more : LetterLaws → (table : TableMap) (at : ℕ) (before : List ℕ) (first : ℕ) (others : List ℕ) → begins_with_starter (points_from at before) ≡ true → IsNext table at before first →
     begins_with_starter (points_from at (before ++ first ∷ others)) ≡ true
 begins-more laws table at [] first others h next =
@@ -186,24 +173,21 @@ begins-more laws table at (b ∷ before) first others h next =
 
 pub reached-next : LetterLaws → PointsAreShifted → (table : TableMap) (pattern : Compiled) (s t : State) (at : ℕ) (bytes : List ℕ) (byte c : ℕ) → SpellsCharacter (begun_bytes s.begun ++ byte ∷ []) c →
     s.letter.role ≢ Steps → is_mark s.letter.role ≡ false →
-    ((start : ℕ) (cs : List ℕ) (own : Letter) → own.role ≡ s.letter.role → own.is_closed ≡ s.letter.is_closed → IsLetter table pattern cs own → IsNext table start cs c) →
-    ((own : Letter) → IsHeldAs pattern.keys s.depth own s.letter s.is_spent →
-    (before keys : List Key) → AreLastSymbols pattern.keys keys (listed own.symbols) → border pattern.keys before ≡ s.depth → border pattern.keys (before ++ keys) ≡ t.depth) →
-    t.depth < length pattern.keys → (l : Letter) → IsLetter table pattern (c ∷ []) l → IsHeldAs pattern.keys t.depth l t.letter t.is_spent → t.len ≡ len_utf8 c → t.marks ≡ None → (t.character ≢ 0 → c ≡ t.character) → t.begun ≡ Whole →
+    ((start : ℕ) (cs : List ℕ) → IsHeld table pattern s.depth cs s.letter → IsNext table start cs c) →
+    ((before keys : List Key) → AreSymbolsAt (Some s.depth) pattern.keys keys (listed s.letter.symbols) → border pattern.keys before ≡ s.depth → border pattern.keys (before ++ keys) ≡ t.depth) →
+    t.depth < length pattern.keys → IsHeld table pattern t.depth (c ∷ []) t.letter → t.len ≡ len_utf8 c → t.marks ≡ None → (t.character ≢ 0 → c ≡ t.character) → t.begun ≡ Whole →
     (0 < t.before → MayBeLeft s t) → IsReached table pattern s at bytes → IsReached table pattern t at (bytes ++ byte ∷ [])
-reached-next laws shift table pattern s t at bytes byte c spelled known starter apart deeper_than below l h kept len unmarked character begun clean r =
-    let own = r.own in
-    let role = r.kept.role in
-    let deeper = deeper_than own r.kept in
+reached-next laws shift table pattern s t at bytes byte c spelled known starter apart deeper below h len unmarked character begun clean r =
+    let own = s.letter in
     let f = further table pattern s at bytes byte c spelled r in
     let last = r.first ∷ r.others in
     let start = at + byte_len r.before in
     let items = items_from table pattern at r.before in
-    let more = items-more laws shift table pattern at r.before r.first r.others own r.is_next (λ steps. known (sym role ∙ steps)) (ap is_mark role ∙ starter) r.letter in
+    let more = items-more laws shift (Some s.depth) table pattern at r.before r.first r.others own r.is_next known starter r.letter in
     let mine = letter_items (begins_cluster own.role) start more.keys in
     let keys : item_keys (items_from table pattern at (r.before ++ last)) ≡ item_keys items ++ more.keys =
     ap item_keys more.items ∙ keys-append items mine ∙ ap (λ (l : List Key). item_keys items ++ l) (keys-letter (begins_cluster own.role) start more.keys) in
-    let next = next-more laws table at r.first c r.before r.others last refl r.is_next (apart start last own role r.kept.closed r.letter) in
+    let next = next-more laws table at r.first c r.before r.others last refl r.is_next (apart start last r.letter) in
     let begins = begins-more laws table at r.before r.first r.others r.begins r.is_next in
     let long = (len_utf8_bounds c).0 in
     record {
@@ -216,9 +200,7 @@ reached-next laws shift table pattern s t at bytes byte c spelled known starter 
       characters = f.characters;
       begins = begins;
       is_next = next;
-      own = l;
       letter = h;
-      kept = kept;
       marks = none-kept table pattern (c ∷ []) t unmarked;
       depth = ap (border pattern.keys) keys ∙ deeper (item_keys items) more.keys more.symbols r.depth;
       below = below;
@@ -242,12 +224,12 @@ reached-next laws shift table pattern s t at bytes byte c spelled known starter 
                   is_next = next;
                   before = items;
                   keys = more.keys;
-                  items = more.items ∙ ap (λ b. items ++ letter_items b start more.keys) (ap begins_cluster role ∙ is.begins);
-                  flag = more.flag ∙ ap (λ x. flag_after x (after_units table pattern.variable false (units table (ordered_from at r.before)))) role ∙ is.flag (after_units table pattern.variable false (units table (ordered_from at r.before)));
+                  items = more.items ∙ ap (λ b. items ++ letter_items b start more.keys) is.begins;
+                  flag = more.flag ∙ is.flag (after_units table pattern.variable false (units table (ordered_from at r.before)));
                   quiet = quiet-more pattern.keys items true start [] r.quiet (subst (λ n. n < length pattern.keys) (sym r.depth) r.below);
                   later = r.later;
                   after_start = omega arith;
-                  some = let few = more.symbols.few in omega (arith, listed-some own.symbols (kept-some pattern.keys s.depth own s.letter s.is_spent r.kept is.some), few);
+                  some = keys-some (Some s.depth) pattern.keys more.keys (listed own.symbols) (listed-some own.symbols is.some) more.symbols;
                   none_waits = deeper (item_keys items) more.keys more.symbols r.depth ∙ is.none;
                 };
               },
@@ -265,9 +247,9 @@ no-item [] after i e = cc
 no-item (f ∷ first) after i e = cc
 
 pub reached-first : (table : TableMap) (pattern : Compiled) (s : State) (at : ℕ) (bytes : List ℕ) (c : ℕ) → SpellsCharacter bytes c → begins_with_starter (points_from 0 (c ∷ [])) ≡ true →
-    0 < length pattern.keys → (l : Letter) → IsLetter table pattern (c ∷ []) l → IsHeldAs pattern.keys s.depth l s.letter s.is_spent → s.depth ≡ 0 → s.len ≡ len_utf8 c → s.marks ≡ None → (s.character ≢ 0 → c ≡ s.character) → s.begun ≡ Whole → s.before ≡ 0 →
+    0 < length pattern.keys → IsHeld table pattern s.depth (c ∷ []) s.letter → s.depth ≡ 0 → s.len ≡ len_utf8 c → s.marks ≡ None → (s.character ≢ 0 → c ≡ s.character) → s.begun ≡ Whole → s.before ≡ 0 →
     IsReached table pattern s at bytes
-reached-first table pattern s at bytes c spelled starter some l h kept depth len unmarked character begun before =
+reached-first table pattern s at bytes c spelled starter some h depth len unmarked character begun before =
     let one = one_char bytes c spelled in
     let none : points_from at [] ≡ [] = from_none at in
     let nothing : items_from table pattern at [] ≡ [] = ap (λ (ps : List Point). items_of table pattern.strength pattern.variable false (units table ps)) (ordered_none at) in
@@ -281,9 +263,7 @@ reached-first table pattern s at bytes c spelled starter some l h kept depth len
       characters = one.1;
       begins = ap begins_with_starter none;
       is_next = next-none table at c starter;
-      own = l;
       letter = h;
-      kept = kept;
       marks = none-kept table pattern (c ∷ []) s unmarked;
       depth = ap (λ (l : List Item). border pattern.keys (item_keys l)) nothing ∙ none-ends pattern.keys ∙ sym depth;
       below = omega (arith, depth, some);

@@ -26,7 +26,7 @@ use Rattle.collation_letters.specs.Apart.{IsNext}
 use Rattle.collation_letters.specs.Letters.{ordered_from, AreApart}
 use Rattle.collation_letters.proofs.ApartLemmas.{begins_anywhere, from_one, next-more, next_of_one}
 use Rattle.collation_letters.proofs.CharacterLemmas.{points_are_shifted}
-use Rattle.collation_skip.specs.declared.two_byte_blocks.Ending.{Ending}
+use Rattle.collation_skip.specs.declared.passed.Passed.{Passed}
 use Rattle.collation_skip.specs.declared.two_byte_sets.TwoByteClasses.{TwoByteClasses}
 use Rattle.byte_blocks.specs.declared.sets.TheConstants.{LEADS, TRAILS}
 use Rattle.collation_skip.specs.Blocks.{IsClassifiedBy, items_at, most}
@@ -317,11 +317,11 @@ run-to laws table pattern classes rights bytes n p fits (suc (suc j)) next less 
 -- ---- what was passed
 
 -- up to behind a character behind which no key waits
-pub ending-of : RunLaws → Borders → (table : TableMap) (pattern : Compiled) (classes : TwoByteClasses) → AreSetsRight table pattern classes → (bytes : List ℕ) (n : ℕ) → Pass classes.sets bytes n → ((j : ℕ) → get_or bytes j 0 < 256) → (it : Ending) →
+pub ending-of : RunLaws → Borders → (table : TableMap) (pattern : Compiled) (classes : TwoByteClasses) → AreSetsRight table pattern classes → (bytes : List ℕ) (n : ℕ) → Pass classes.sets bytes n → ((j : ℕ) → get_or bytes j 0 < 256) → (it : Passed) →
     IsEnding table pattern classes.place bytes n it → IsUtf8 (take it.end bytes) × ((at : ℕ) → IsPassed table pattern at (at + it.start) (chars (take it.end bytes)) it.next)
 ending-of laws borders table pattern classes rights bytes n p fits it is =
     let start = it.start in
-    let c = it.character in
+    let c = is.last in
     let begins = is.begins in
     let less = is.inside in
     let spelled = is.character in
@@ -347,9 +347,9 @@ ending-of laws borders table pattern classes rights bytes n p fits it is =
     let within = is.within in (
       subst (λ k. IsUtf8 (take k bytes)) (sym is.end) (text-on bytes start (len_utf8 c) c refl come.text spelled),
       λ at. subst (λ k. IsPassed table pattern at (at + start) (chars (take k bytes)) it.next) (sym is.end)
-          (passed-on laws.points table pattern bytes start (len_utf8 c) c it.next at it.letter (omega (arith, within, is.end, long)) refl come.text spelled (come.gone at).quiet is.letter is.clean.0 is.clean.1
+          (passed-on laws.points table pattern bytes start (len_utf8 c) c it.next at is.own (omega (arith, within, is.end, long)) refl come.text spelled (come.gone at).quiet is.letter is.clean.0 is.clean.1
           (λ keys symbols.
-          let none = none-waits borders pattern.keys keys it.letter.symbols.third (most pattern.keys classes.place) is.clean.1 is.clean.2 symbols (item_keys (items_from table pattern at (chars (take start bytes)))) (come.gone at).state in
+          let none = none-waits borders pattern.keys keys is.own.symbols.third (most pattern.keys classes.place) is.clean.1 is.clean.2 symbols (item_keys (items_from table pattern at (chars (take start bytes)))) (come.gone at).state in
           omega (arith, none))
           (is.apart (at + start))),
     )

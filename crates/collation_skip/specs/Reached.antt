@@ -1,10 +1,9 @@
 -- What a state of the automaton says of the bytes behind which it stands, and what a right move is.
-use Rattle.std.specs.Prelude.{◌≡◌, ◌≢◌, ℕ, ◌+◌, ◌<◌, ◌≤◌, Bool, false, true, List, [], ◌∷◌, ◌++◌, length, Contains, IfSome}
+use Rattle.std.specs.Prelude.{◌≡◌, ◌≢◌, ℕ, ◌+◌, ◌<◌, ◌≤◌, false, true, List, [], ◌∷◌, ◌++◌, length, Contains, Some, IfSome}
 use Rattle.std.specs.Char.{len_utf8}
 use Rattle.std.specs.Str.{chars, IsUtf8}
 use Rattle.nfd_points.specs.Points.{byte_len, points_from, begins_with_starter}
 use Rattle.collation_table.specs.Table.{TableMap}
-use Rattle.collation_elements.specs.declared.keys.Key.{Key}
 use Rattle.collation_elements.specs.declared.keys.Item.{Item}
 use Rattle.collation_elements.specs.declared.keys.Item.TheVariants.{ClusterStart}
 use Rattle.collation_elements.specs.Items.{items as items_of}
@@ -13,10 +12,9 @@ use Rattle.collation_elements.specs.Units.{units}
 use Rattle.collation_pattern.specs.Border.{border}
 use Rattle.collation_pattern.specs.Compiled.{Compiled}
 use Rattle.collation_letters.specs.Apart.{IsNext}
-use Rattle.collation_letters.specs.Clusters.{IsCluster}
+use Rattle.collation_letters.specs.Clusters.{IsClusterAt}
 use Rattle.collation_letters.specs.declared.letter.Letter.{Letter}
-use Rattle.collation_letters.specs.Letters.{ordered_from, IsLetter}
-use Rattle.collation_letters.specs.Symbols.{AreLastSymbols, listed}
+use Rattle.collation_letters.specs.Letters.{ordered_from, IsLetterAt}
 use Rattle.collation_skip.specs.declared.state.State.{State}
 use Rattle.collation_skip.specs.BegunBytes.{begun_bytes}
 use Rattle.collation_skip.specs.Passed.{IsPassed, IsQuiet}
@@ -33,20 +31,15 @@ pub record IsBehind (table : TableMap) (pattern : Compiled) (at len : ℕ) (befo
   pub len_is : len_utf8 character ≡ len
   pub passed : IsPassed table pattern at (at + byte_len earlier) before last
 
--- How a letter is held, where so many of the pattern's first keys end the keys before it: as it is, or, where none ends those up to
--- its last key, spent: without its symbols.
-pub record IsHeldAs (pattern : List Key) (depth : ℕ) (own kept : Letter) (is_spent : Bool) : Type 0 where
-  pub role : own.role ≡ kept.role
-  pub closed : own.is_closed ≡ kept.is_closed
-  pub whole : is_spent ≡ false → kept ≡ own
-  pub some : is_spent ≡ true → own.symbols.third < 255
-  pub none : is_spent ≡ true → (before keys : List Key) → AreLastSymbols pattern keys (listed own.symbols) → border pattern before ≡ depth
-      → border pattern (before ++ keys) ≡ 0
+-- The letter of characters as a state holds it, where so many of the pattern's first keys end the keys before them: it may be spent, that is,
+-- without the symbols of keys behind which none waits there.
+abbrev pub IsHeld : TableMap → Compiled → ℕ → List ℕ → Letter → Type 0
+IsHeld table pattern depth cs l = IsLetterAt (Some depth) table pattern (ordered_from 0 cs) l
 
 -- what a state keeps of the marks of its letter's characters is right
 abbrev pub AreMarksRight : TableMap → Compiled → List ℕ → State → Type 0
 AreMarksRight table pattern cs state =
-    IfSome state.marks (λ m. IsCluster table pattern (ordered_from 0 cs) (record { letter = state.letter; base = m.base; before = m.before; last = m.last }))
+    IfSome state.marks (λ m. IsClusterAt (Some state.depth) table pattern (ordered_from 0 cs) (record { letter = state.letter; base = m.base; before = m.before; last = m.last }))
 
 -- Behind these bytes, the first of which stands at an offset: they are characters, the last of which are those of the state's letter,
 -- and the bytes of one that is not whole. No unit reaches from the characters before the letter to it, no match ends among them, and so
@@ -61,9 +54,7 @@ pub record IsReached (table : TableMap) (pattern : Compiled) (state : State) (at
   pub characters : chars text ≡ before ++ first ∷ others
   pub begins : begins_with_starter (points_from at before) ≡ true
   pub is_next : IsNext table at before first
-  pub own : Letter
-  pub letter : IsLetter table pattern (first ∷ others) own
-  pub kept : IsHeldAs pattern.keys state.depth own state.letter state.is_spent
+  pub letter : IsHeld table pattern state.depth (first ∷ others) state.letter
   pub marks : AreMarksRight table pattern (first ∷ others) state
   pub depth : border pattern.keys (item_keys (items_from table pattern at before)) ≡ state.depth
   pub below : state.depth < length pattern.keys

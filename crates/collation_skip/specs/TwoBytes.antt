@@ -8,7 +8,8 @@ use Rattle.collation_pattern.specs.Compiled.{Compiled}
 use Rattle.collation_letters.specs.Apart.{IsNext}
 use Rattle.collation_letters.specs.Letters.{IsLetter}
 use Rattle.collation_skip.specs.Blocks.{IsClassifiedBy, LeavesNone, most}
-use Rattle.collation_skip.specs.declared.two_byte_blocks.Ending.{Ending}
+use Rattle.collation_letters.specs.declared.letter.Letter.{Letter}
+use Rattle.collation_skip.specs.declared.passed.Passed.{Passed}
 use Rattle.collation_skip.specs.declared.two_byte_sets.TwoByteClasses.{TwoByteClasses}
 
 -- ---- sets
@@ -37,18 +38,20 @@ pub record AreSetsRight (table : TableMap) (pattern : Compiled) (classes : TwoBy
 
 -- ---- where the text may be left
 
--- A character behind which no key waits, for a place of the pattern, ends within the first `len` bytes of a piece, and the one that follows
--- is there, to which no unit reaches.
-pub record IsEnding (table : TableMap) (pattern : Compiled) (place : ℕ) (piece : List ℕ) (len : ℕ) (it : Ending) : Type 0 where
+-- What is passed by ends, within the first `len` bytes of a piece, with a character (`last`, with the letter `own`) behind which no key
+-- waits, for a place of the pattern, and the one that follows is there, to which no unit reaches.
+pub record IsEnding (table : TableMap) (pattern : Compiled) (place : ℕ) (piece : List ℕ) (len : ℕ) (it : Passed) : Type 0 where
+  pub last : ℕ
+  pub own : Letter
   pub begins : trails (slice_index piece it.start) ≡ 0
   pub inside : it.start < len
   pub whole : 128 ≤ slice_index piece it.start → suc it.start < len
   pub within : it.end ≤ len
-  pub end : it.end ≡ it.start + len_utf8 it.character
-  pub character : SpellsCharacter (take (len_utf8 it.character) (drop it.start piece)) it.character
-  pub letter : IsLetter table pattern (it.character ∷ []) it.letter
-  pub clean : LeavesNone (most pattern.keys place) it.letter
+  pub end : it.end ≡ it.start + len_utf8 last
+  pub character : SpellsCharacter (take (len_utf8 last) (drop it.start piece)) last
+  pub letter : IsLetter table pattern (last ∷ []) own
+  pub clean : LeavesNone (most pattern.keys place) own
   pub room : it.end + len_utf8 it.next ≤ length piece
   pub next : SpellsCharacter (take (len_utf8 it.next) (drop it.end piece)) it.next
-  pub following : IsLetter table pattern (it.next ∷ []) it.following
-  pub apart : (at : ℕ) → IsNext table at (it.character ∷ []) it.next
+  pub following : IsLetter table pattern (it.next ∷ []) it.letter
+  pub apart : (at : ℕ) → IsNext table at (last ∷ []) it.next

@@ -74,8 +74,7 @@ impl AsciiBlocks {
         ensures right { AreLetters (W.table table.now) pattern.now letters.new }
         ensures blocks { AreBlocksRight (W.table table.now) pattern.now self.new }
     {
-        let is_alone = pace.is_for_one_text();
-        self.classes = classes_for(table, pattern, letters, text, is_alone);
+        self.classes = classes_for(table, pattern, letters, text, pace.is_alone);
         pace.after_choice(text.len(), self.classes.is_some());
     }
 }

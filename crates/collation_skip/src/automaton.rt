@@ -2,7 +2,7 @@
 //!
 //! A state has a row of cells (`byte_dfa`). It accepts where the text may be passed by up to the last character.
 
-use crate::moves::Keeping;
+use crate::moves::{Keeping, MOVES_AHEAD};
 use crate::passed::Passed;
 use crate::state::State;
 use byte_dfa::{Cells, Cursor, Guesses, come_to};
@@ -49,6 +49,7 @@ impl Automaton {
             keeping: Keeping {
                 keeps_marks: false,
                 misses_marks: false,
+                moves_left: MOVES_AHEAD,
             },
             alloc,
         }
@@ -59,14 +60,8 @@ impl Automaton {
     fn keep_marks(&mut self)
         ensures { (table : TableMap) (pattern : Compiled) → AreRowsRight table pattern self.new }
     {
-        self.cells = Cells::new(self.alloc);
-        self.states = Vec::new(self.alloc);
-        self.places = Vec::new(self.alloc);
-        self.guesses = Guesses::new(self.alloc);
-        self.keeping = Keeping {
-            keeps_marks: true,
-            misses_marks: false,
-        };
+        *self = Automaton::new(self.alloc);
+        self.keeping.keeps_marks = true;
     }
 
     /// What of a piece may be passed by, up to a character that begins not after `reach`; `None` where that is nothing. The first
@@ -92,6 +87,7 @@ impl Automaton {
         }
         let within = &piece[..piece.len().min(reach)];
         let cursor = self.go(table, pattern, letters, within, is_calm)?;
+        self.keeping.pay(cursor.at);
         self.answer(table, pattern, letters, piece, cursor)
     }
 

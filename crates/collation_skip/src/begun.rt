@@ -1,5 +1,5 @@
 //! The bytes of a character that is not whole.
-ghost use Rattle.std.specs.Prelude.{◌≡◌, ◌∷◌, [], IfSome};
+ghost use Rattle.std.specs.Prelude.{◌≡◌, ◌∷◌, ◌++◌, [], IfSome};
 ghost use Rattle.utf8_cut.specs.Sequences.{SpellsCharacter};
 ghost use Rattle.collation_skip.specs.BegunBytes.{IsDecoded, begun_bytes};
 
@@ -24,9 +24,6 @@ pub(crate) enum Decoded {
 }
 
 impl Begun {
-    ghost use Rattle.std.specs.Prelude.{◌∷◌, ◌++◌, []};
-    ghost use Rattle.collation_skip.specs.BegunBytes.{IsDecoded, begun_bytes};
-
     /// What these bytes are with one more (the Unicode Standard, table 3-7).
     pub(crate) fn with(self, byte: u8) -> Decoded
         ensures { IsDecoded (begun_bytes self ++ byte ∷ []) result }

@@ -255,16 +255,10 @@ fn is_barred(classes: &Classes, byte: u8) -> bool
     ensures inner { result ≡ true → in_set classes.now.sets.inner byte ≢ 0 }
     ensures clean { result ≡ true → in_set classes.now.clean byte ≡ 0 }
 {
-    if in_ascii(&classes.sets.halt, byte) == 0 {
-        return false;
-    }
-    if in_ascii(&classes.sets.joins, byte) == 0 {
-        return false;
-    }
-    if in_ascii(&classes.sets.inner, byte) == 0 {
-        return false;
-    }
-    in_ascii(&classes.clean, byte) == 0
+    in_ascii(&classes.sets.halt, byte) != 0
+        && in_ascii(&classes.sets.joins, byte) != 0
+        && in_ascii(&classes.sets.inner, byte) != 0
+        && in_ascii(&classes.clean, byte) == 0
 }
 
 /// Whether the classes are right for a byte whose character has this letter.

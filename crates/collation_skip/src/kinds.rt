@@ -75,10 +75,7 @@ fn must_halt(letter: &Letter, is_key: bool, place: usize, most: usize) -> bool
     ensures lone { result ≡ false → IsLone letter.now }
     ensures last { result ≡ false → most ≡ place → is_key ≡ false }
 {
-    if !is_lone(letter) {
-        return true;
-    }
-    is_key && most == place
+    !is_lone(letter) || (is_key && most == place)
 }
 
 /// Whether there is no key, or one with this symbol may be the pattern's at a place.
@@ -87,10 +84,7 @@ fn may_come_later(pattern: &Pattern, symbol: u8, place: usize) -> bool
     ensures some { result ≡ false → symbol < 255 }
     ensures other { result ≡ false → IsNotAt pattern.now.keys symbol place }
 {
-    if symbol == NO_SYMBOL {
-        return true;
-    }
-    may_be(pattern, symbol, place)
+    symbol == NO_SYMBOL || may_be(pattern, symbol, place)
 }
 
 /// Whether the letter begins with a starter, is not left to the steps, and has one symbol at most.

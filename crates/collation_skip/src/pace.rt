@@ -65,7 +65,7 @@ pub struct Pace {
     wanted: usize,
     /// Whether a place would serve one text alone: then only the bytes pass that the piece has by which it is chosen, and the automaton rests,
     /// until little passes.
-    is_alone: bool,
+    pub(crate) is_alone: bool,
     /// Whether the last text of ASCII passed in blocks.
     blocks_pay: bool,
     /// At which turn the automaton is, of those in which it could be asked: it is asked at powers of two, and each time that it passed little
@@ -74,9 +74,10 @@ pub struct Pace {
     /// Whether it goes two turns at once: from then on it does.
     goes_far: bool,
     /// Whether it came to the end of the last text of many bytes that it was asked: then few stops are expected.
-    is_calm: bool,
-    /// Whether the last text that sets of two bytes passed by had such a character soon.
-    are_sets_first: bool,
+    pub(crate) is_calm: bool,
+    /// Whether the last text that sets of two bytes passed by had such a character soon: then they are asked before blocks of ASCII, else
+    /// after them.
+    pub(crate) are_sets_first: bool,
     /// How many bytes the automaton has still to pass by before sets are chosen; where there are some, how many bytes more they may lack.
     sets_left: usize,
     /// How many bytes it has to pass by before the next ones.
@@ -114,11 +115,6 @@ impl Pace {
         } else {
             SAMPLE
         };
-    }
-
-    /// Whether a place would serve one text alone.
-    pub(crate) fn is_for_one_text(&self) -> bool {
-        self.is_alone
     }
 
     /// How many bytes of what letters take next are walked over before text is asked for.
@@ -228,11 +224,6 @@ impl Pace {
         most
     }
 
-    /// Whether the automaton is expected to come to the end of what it is asked.
-    pub(crate) fn is_calm(&self) -> bool {
-        self.is_calm
-    }
-
     /// The automaton passed by so many bytes of those that it was asked, and blocks by so many. Where that was little, it is not asked one
     /// time, then 3, 7, and so on. Until a place was sought half of what it was asked is not little, unless that is nothing: of a short
     /// piece it is asked few bytes. Where it passed no more than blocks did, or, once it goes far, no more than half of what it was asked,
@@ -294,11 +285,6 @@ impl Pace {
     #[inline(always)]
     pub(crate) fn after_text(&mut self, text: &[u8]) {
         self.are_sets_first = !text[..text.len().min(TWO_BYTES_WITHIN)].is_ascii();
-    }
-
-    /// Whether sets of two bytes are asked before blocks of ASCII; else after them.
-    pub(crate) fn are_sets_first(&self) -> bool {
-        self.are_sets_first
     }
 }
 

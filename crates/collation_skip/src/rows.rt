@@ -1,6 +1,11 @@
 //! The rows of the automaton's states: how they are found, made and filled.
-ghost use Rattle.std.specs.Prelude.{◌≡◌};
-ghost use Rattle.collation_skip.specs.Rows.{parity};
+ghost use Rattle.std.specs.Prelude.{◌≡◌, ◌<◌, ℕ, slice_get, Some, true, IfSome};
+ghost use Rattle.collation_table.specs.Table.{TableMap};
+ghost use Rattle.collation_pattern.specs.Compiled.{Compiled};
+ghost use Rattle.collation_letters.specs.Store.{AreLetters};
+ghost use Rattle.collation_skip.specs.declared.state.State.{State as StateValue};
+ghost use Rattle.collation_skip.specs.Reached.{IsMove};
+ghost use Rattle.collation_skip.specs.Rows.{AreRowsRight, IsRow, parity};
 
 use crate::automaton::Automaton;
 use crate::begun::Begun;
@@ -21,14 +26,6 @@ const STATE_PLACES: usize = 2_048;
 const NOTHING: u16 = 0xFFFF;
 
 impl Automaton {
-    ghost use Rattle.std.specs.Prelude.{◌≡◌, ◌<◌, ℕ, slice_get, Some, true, IfSome};
-    ghost use Rattle.collation_table.specs.Table.{TableMap};
-    ghost use Rattle.collation_pattern.specs.Compiled.{Compiled};
-    ghost use Rattle.collation_letters.specs.Store.{AreLetters};
-    ghost use Rattle.collation_skip.specs.declared.state.State.{State as StateValue};
-    ghost use Rattle.collation_skip.specs.Reached.{IsMove};
-    ghost use Rattle.collation_skip.specs.Rows.{AreRowsRight, IsRow};
-
     /// The row to which a byte leads from a row, which is written into its cell; `None` where the automaton stops.
     pub(crate) fn learn<W: Weights>(
         &mut self,
@@ -55,7 +52,7 @@ impl Automaton {
         let to = self.row_behind(table, pattern, letters, &state, byte);
         let cell = match to {
             Some(to) => to as u16,
-            None => STOP,
+            None => self.keeping.stop(),
         };
         self.cells.set_cell(row, byte, cell);
         to
@@ -172,7 +169,7 @@ impl Automaton {
         ensures { result ≡ true → slice_get self.now.states.items number ≡ Some state.now }
     {
         match self.states.get(number) {
-            Some(other) => other.is(state),
+            Some(other) => other == state,
             None => false,
         }
     }
@@ -261,8 +258,10 @@ fn hash_of_marks(state: &State) -> u64 {
             let classes = (marks.base.class as u64) << 16
                 | (marks.before.class as u64) << 8
                 | marks.last.class as u64;
-            let symbols = marks.base.symbols.third as u64;
-            (classes << 16 | symbols).wrapping_mul(0x9E37_79B9_7F4A_7C15)
+            let symbols = (marks.base.symbols.third as u64) << 16
+                | (marks.before.symbols.third as u64) << 8
+                | marks.last.symbols.third as u64;
+            (classes << 24 | symbols).wrapping_mul(0x9E37_79B9_7F4A_7C15)
         }
     }
 }

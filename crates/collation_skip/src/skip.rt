@@ -132,7 +132,7 @@ impl Skip {
         ensures right { IsSkipRight (W.table table.now) pattern.now self.new }
         ensures letters { AreLetters (W.table table.now) pattern.now letters.new }
     {
-        if self.pace.are_sets_first() != first {
+        if self.pace.are_sets_first != first {
             return None;
         }
         let Some(sets) = &self.sets else {
@@ -169,7 +169,7 @@ impl Skip {
         ensures letters { AreLetters (W.table table.now) pattern.now letters.new }
     {
         let reach = reach.min(self.pace.most_moves());
-        let is_calm = self.pace.is_calm();
+        let is_calm = self.pace.is_calm;
         let by_moves = self
             .automaton
             .pass(table, pattern, letters, piece, reach, is_calm);

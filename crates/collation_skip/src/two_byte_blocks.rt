@@ -9,7 +9,7 @@ use crate::passed::Passed;
 use crate::two_byte_sets::TwoByteClasses;
 use byte_blocks::{TRAILS, going_len};
 use collation_elements::{units_stay_apart, weighers_go_on};
-use collation_letters::{Letter, Letters, is_next, laws_of_characters, laws_of_symbols};
+use collation_letters::{Letters, is_next, laws_of_characters, laws_of_symbols};
 use collation_pattern::Pattern;
 use collation_pattern::laws::laws_of_borders;
 use collation_table::Weights;
@@ -48,30 +48,15 @@ pub(crate) fn pass_two_bytes<W: Weights>(
         piece,
         piece.len().min(reach).min(MOST_AT_ONCE),
     );
-    let Some(ending) = last_ending(table, pattern, letters, classes.place, piece, len) else {
+    let Some(passed) = last_ending(table, pattern, letters, classes.place, piece, len) else {
         *looked = len.max(*looked);
         return None;
     };
-    Some(Passed {
-        start: ending.start,
-        end: ending.end,
-        next: ending.next,
-        letter: ending.following,
-    })
+    Some(passed)
 }
 
-/// A character behind which no key waits, and the one that follows it, to which no unit reaches.
-#[derive(Clone, Copy)]
-struct Ending {
-    start: usize,
-    end: usize,
-    character: char,
-    letter: Letter,
-    next: char,
-    following: Letter,
-}
-
-/// The last such character that ends within the first `len` bytes of a piece, and begins not long before.
+/// Text to the end of the last character behind which no key waits, and before one to which no unit reaches, where that ends within the
+/// first `len` bytes of a piece, and begins not long before.
 #[inline(always)]
 fn last_ending<W: Weights>(
     table: &W,
@@ -80,7 +65,7 @@ fn last_ending<W: Weights>(
     place: usize,
     piece: &[u8],
     len: usize,
-) -> Option<Ending>
+) -> Option<Passed>
     requires right { AreLetters (W.table table.now) pattern.now letters.old }
     requires place { place < length pattern.now.keys }
     requires len { len ≤ length piece.now }
@@ -100,7 +85,7 @@ fn last_ending<W: Weights>(
     None
 }
 
-/// Such a character that begins at `start`.
+/// The same where that character begins at `start`.
 #[inline(always)]
 fn ending_at<W: Weights>(
     table: &W,
@@ -110,7 +95,7 @@ fn ending_at<W: Weights>(
     piece: &[u8],
     len: usize,
     start: usize,
-) -> Option<Ending>
+) -> Option<Passed>
     requires right { AreLetters (W.table table.now) pattern.now letters.old }
     requires place { place < length pattern.now.keys }
     requires len { len ≤ length piece.now }
@@ -134,12 +119,10 @@ fn ending_at<W: Weights>(
     if !is_next(&letter, &following) {
         return None;
     }
-    Some(Ending {
+    Some(Passed {
         start,
         end,
-        character,
-        letter,
         next,
-        following,
+        letter: following,
     })
 }

@@ -65,12 +65,12 @@ const TEXTS: [(&str, &str, Option<Place>); 22] = [
     ("ab", "mmab", Some((1, 2, 'a'))),
     // a character of three bytes, and one of four
     ("b", "m\u{4E00}m\u{20000}m", Some((5, 9, 'm'))),
-    // a mark joins Han, and for a pattern of many keys does not; Han that this has, behind which no key waits, or the first ones
+    // a mark joins Han; Han that the pattern has, behind which no key waits, or the first ones
     ("b", "mm\u{4E00}\u{301}mm", Some((7, 8, 'm'))),
     (
         "bbbbbbbbbbbbbbbbb",
         "mm\u{4E00}\u{301}mm",
-        Some((1, 2, '\u{4E00}')),
+        Some((7, 8, 'm')),
     ),
     (
         "bbbbbbbbbbbbbbbbb\u{4E00}",

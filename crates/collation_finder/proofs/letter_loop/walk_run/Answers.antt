@@ -1,12 +1,13 @@
 use Rattle.std.specs.Char.{len_utf8}
 use Rattle.std.specs.List.{FoldsTo}
 use Rattle.std.specs.Str.{chars}
-use Rattle.std.proofs.Common.{◌<◌, ◌≡◌, ◌∙◌, ℕ, ◌+◌, ◌-◌, List, [], ◌∷◌, ◌++◌, length, take, drop, true, refl, sym, ap, subst, arith, rules, append_assoc}
+use Rattle.std.proofs.Common.{◌<◌, ◌≡◌, ◌∙◌, ℕ, ◌+◌, ◌-◌, List, [], ◌∷◌, ◌++◌, length, take, drop, None, true, refl, sym, ap, subst, arith, rules, append_assoc}
 use Rattle.std.proofs.lemmas.Bool.{false≢true}
 use Rattle.std.proofs.lemmas.List.{append-nil, take_rest, length-drop}
 use Rattle.utf8_cut.specs.Sequences.{SpellsCharacter}
 use Rattle.nfd_points.specs.Points.{points_of, begins_with_starter}
 use Rattle.collation_letters.specs.Letters.{IsLetter}
+use Rattle.collation_letters.proofs.ClusterLemmas.{letter-of}
 use Rattle.collation_walk.specs.declared.matching.Matcher.{Matcher}
 use Rattle.collation_finder.specs.LetterRun.{AreNext, HasComeTo, HasWalkedTo}
 use Rattle.collation_finder.proofs.CharacterLemmas.{part-more, one_part, one_taken, chars-len, some-bytes}
@@ -93,7 +94,8 @@ following g c =
       spelled = subst (λ (bs : List ℕ). SpellsCharacter (take (len_utf8 next) bs) next) rest some.1;
       part = i.part;
       first = i.first;
-      ends = c.is_next.ensures.apart c.if-not-is_next.false (g.W.Weights.table c.args.query.now.table.now) c.args.query.now.pattern.now (c.args.front.offset + at) (chars (take (l.end - at) (drop at piece))) next l.here.letter refl refl i.letter c.letter-following.ensures.letter;
+      ends = c.is_next.ensures.apart c.if-not-is_next.false None (g.W.Weights.table c.args.query.now.table.now) c.args.query.now.pattern.now (c.args.front.offset + at) (chars (take (l.end - at) (drop at piece))) next
+          (letter-of (g.W.Weights.table c.args.query.now.table.now) c.args.query.now.pattern.now (chars (take (l.end - at) (drop at piece))) l.here.letter i.letter) c.letter-following.ensures.letter;
     }
 
 begins : (g : given.Over) (c : After-walk_letter-has_range g) → begins_with_starter (points_of (c.args.front.offset + c.characters.end) c.in-Some.next) ≡ true

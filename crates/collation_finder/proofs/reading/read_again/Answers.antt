@@ -1,10 +1,11 @@
 use Rattle.std.specs.Char.{len_utf8}
 use Rattle.std.specs.Str.{chars}
-use Rattle.std.proofs.Common.{◌≡◌, ◌∙◌, ◌+◌, ℕ, List, [], ◌∷◌, ◌++◌, length, take, drop, sym, ap, subst, arith}
+use Rattle.std.proofs.Common.{◌≡◌, ◌∙◌, ◌+◌, ℕ, List, [], ◌∷◌, ◌++◌, length, take, drop, None, sym, ap, subst, arith}
 use Rattle.std.proofs.lemmas.List.{take_rest, length-drop}
 use Rattle.utf8_cut.specs.Sequences.{SpellsCharacter}
 use Rattle.collation_letters.specs.Clusters.{IsCluster}
 use Rattle.collation_letters.specs.Letters.{ordered_from}
+use Rattle.collation_letters.proofs.ClusterLemmas.{letter-of}
 use Rattle.collation_finder.proofs.CharacterLemmas.{one_taken, text-more, chars-more}
 use Rattle.collation_finder.proofs.reading.read_again.Goals as goal
 
@@ -20,7 +21,7 @@ marks-init g c =
       within = omega (arith, some.0, c.in_ok-first.ensures.len);
       text = one.0;
       cluster = subst (λ (cs : List ℕ). IsCluster table pattern (ordered_from 0 cs) c.new-cluster.result) (sym one.1)
-          (c.new-cluster.ensures.cluster table pattern (first ∷ []) c.letter.ensures.letter);
+          (c.new-cluster.ensures.cluster None table pattern (ordered_from 0 (first ∷ [])) (letter-of table pattern (first ∷ []) c.letter.result c.letter.ensures.letter));
       right = c.letter.ensures.right;
     }
 
@@ -45,6 +46,6 @@ marks-preserved g c =
       within = omega (arith, some.0, long, c.in_ok-c.ensures.len, i.within);
       text = text-more text at n i.text one.0;
       cluster = subst (λ (cs : List ℕ). IsCluster table pattern (ordered_from 0 cs) c.in_ok-cluster.cluster) (sym codes)
-          (c.in_ok-cluster.ensures.cluster pattern (chars (take at text)) i.cluster c.letter-mark.ensures.letter);
+          (c.in_ok-cluster.ensures.cluster None pattern (chars (take at text)) i.cluster c.letter-mark.ensures.letter);
       right = c.letter-mark.ensures.right;
     }

@@ -1,4 +1,4 @@
-use Rattle.std.proofs.Common.{◌≡◌, ◌≢◌, ◌∙◌, refl, sym, ap, subst, arith}
+use Rattle.std.proofs.Common.{◌≡◌, ◌≢◌, ◌∙◌, None, refl, sym, ap, subst, arith}
 use Rattle.collation_elements.specs.CharacterItems.{character_keys}
 use Rattle.collation_letters.specs.declared.letter.Role.{Role}
 use Rattle.collation_letters.specs.declared.letter.Role.TheVariants.{Steps, Plain}
@@ -20,7 +20,7 @@ returns-clause-letter g c =
       | in-Some w ↦ λ is. w.role_and_symbols.ensures.other (sym (ap (λ r. r.0) w.role-is) ∙ is)
       | in-None w ↦ λ is. steps_or_plain (sym (ap (λ r. r.0) w.role-is) ∙ is)
     ] in
-    c.settled.ensures.points table pattern ps (record {
+    c.settled.ensures.points None table pattern ps (record {
       closed = c.requires.closed;
       known = λ known. elim c.match-items_of.branch [
         | in-Some w ↦

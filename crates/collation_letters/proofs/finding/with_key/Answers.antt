@@ -1,4 +1,4 @@
-use Rattle.std.proofs.Common.{List, [], ◌∷◌, ◌++◌, sym, subst, ap}
+use Rattle.std.proofs.Common.{List, [], ◌∷◌, ◌++◌, None, sym, subst, ap}
 use Rattle.std.specs.Option.{option_to_list}
 use Rattle.collation_elements.specs.declared.keys.Key.{Key}
 use Rattle.collation_letters.specs.Symbols.{AreLastSymbols, listed}
@@ -10,4 +10,4 @@ returns-in_ok-symbol_for-in-Some c =
     let pattern = c.args.pattern.now.keys in
     some-map c.with.result c.with.ensures (λ all h keys k.
     subst (λ (o : List Key). AreLastSymbols pattern (keys ++ o) (listed all)) (sym (ap option_to_list c.in-Some.is))
-    (h pattern keys (c.in-Some.key ∷ []) k (last-one pattern c.in-Some.key _ c.in_ok-symbol_for-in-Some.ensures.symbol)))
+    (h None pattern keys (c.in-Some.key ∷ []) k (last-one pattern c.in-Some.key _ c.in_ok-symbol_for-in-Some.ensures.symbol)))

@@ -2,7 +2,7 @@ use Rattle.std.proofs.Common.{◌≡◌, ◌∙◌, List, [], ◌++◌, true, re
 use Rattle.std.proofs.lemmas.List.{append-nil}
 use Rattle.collation_elements.specs.declared.keys.Key.{Key}
 use Rattle.collation_letters.specs.Letters.{begins_cluster, is_mark, flag_after, counted}
-use Rattle.collation_letters.specs.Symbols.{AreLastSymbols, listed}
+use Rattle.collation_letters.specs.Symbols.{AreLastSymbols, AreSymbolsAt, listed}
 use Rattle.collation_letters.proofs.SymbolLemmas.{last-none}
 use Rattle.collation_letters.proofs.joining.joined.Goals as goal
 
@@ -15,12 +15,12 @@ returns-in-VariableBase-Mark-clause-joins c =
       mark_joins = ap is_mark mark;
       begins = refl;
       flag = λ after. sym (ap (λ r. flag_after r (flag_after c.args.base.role after)) mark ∙ ap (λ r. flag_after r after) base);
-      symbols = λ pattern keys later after h k.
+      symbols = λ depth pattern keys later after h k.
           let flag : flag_after c.args.base.role after ≡ true = ap (λ r. flag_after r after) base in
           let none : counted c.args.mark.role (flag_after c.args.base.role after) (listed c.args.mark.symbols) ≡ [] =
           ap₂ (λ r b. counted r b (listed c.args.mark.symbols)) mark flag in
           let nothing = last-none pattern later (subst (λ l. AreLastSymbols pattern later l) none k) in
-          subst (λ (l : List Key). AreLastSymbols pattern l (listed c.args.base.symbols)) (sym (ap (λ (l : List Key). keys ++ l) nothing ∙ append-nil keys)) h;
+          subst (λ (l : List Key). AreSymbolsAt depth pattern l (listed c.args.base.symbols)) (sym (ap (λ (l : List Key). keys ++ l) nothing ∙ append-nil keys)) h;
     }
 
 pub returns-in_ok-with_all-in-Plain-PrimaryMark-clause-joins : goal.returns-in_ok-with_all-in-Plain-PrimaryMark-clause-joins
@@ -32,7 +32,7 @@ returns-in_ok-with_all-in-Plain-PrimaryMark-clause-joins c =
       mark_joins = ap is_mark mark;
       begins = refl;
       flag = λ after. sym (ap (λ r. flag_after r (flag_after c.args.base.role after)) mark);
-      symbols = λ pattern keys later after h k. c.in_ok-with_all-in-Plain-PrimaryMark.ensures pattern keys later h (subst (λ l. AreLastSymbols pattern later l) (ap (λ r. counted r (flag_after c.args.base.role after) (listed c.args.mark.symbols)) mark) k);
+      symbols = λ depth pattern keys later after h k. c.in_ok-with_all-in-Plain-PrimaryMark.ensures depth pattern keys later h (subst (λ l. AreLastSymbols pattern later l) (ap (λ r. counted r (flag_after c.args.base.role after) (listed c.args.mark.symbols)) mark) k);
     }
 
 pub returns-in_ok-with_all-in-Plain-Mark-clause-joins : goal.returns-in_ok-with_all-in-Plain-Mark-clause-joins
@@ -44,7 +44,7 @@ returns-in_ok-with_all-in-Plain-Mark-clause-joins c =
       mark_joins = ap is_mark mark;
       begins = refl;
       flag = λ after. sym (ap₂ (λ r b. flag_after r b) mark (ap (λ r. flag_after r after) base));
-      symbols = λ pattern keys later after h k. c.in_ok-with_all-in-Plain-Mark.ensures pattern keys later h (subst (λ l. AreLastSymbols pattern later l) (ap₂ (λ r b. counted r b (listed c.args.mark.symbols)) mark (ap (λ r. flag_after r after) base)) k);
+      symbols = λ depth pattern keys later after h k. c.in_ok-with_all-in-Plain-Mark.ensures depth pattern keys later h (subst (λ l. AreLastSymbols pattern later l) (ap₂ (λ r b. counted r b (listed c.args.mark.symbols)) mark (ap (λ r. flag_after r after) base)) k);
     }
 
 pub returns-in_ok-with_all-in-Base-PrimaryMark-clause-joins : goal.returns-in_ok-with_all-in-Base-PrimaryMark-clause-joins
@@ -56,7 +56,7 @@ returns-in_ok-with_all-in-Base-PrimaryMark-clause-joins c =
       mark_joins = ap is_mark mark;
       begins = refl;
       flag = λ after. sym (ap (λ r. flag_after r (flag_after c.args.base.role after)) mark);
-      symbols = λ pattern keys later after h k. c.in_ok-with_all-in-Base-PrimaryMark.ensures pattern keys later h (subst (λ l. AreLastSymbols pattern later l) (ap (λ r. counted r (flag_after c.args.base.role after) (listed c.args.mark.symbols)) mark) k);
+      symbols = λ depth pattern keys later after h k. c.in_ok-with_all-in-Base-PrimaryMark.ensures depth pattern keys later h (subst (λ l. AreLastSymbols pattern later l) (ap (λ r. counted r (flag_after c.args.base.role after) (listed c.args.mark.symbols)) mark) k);
     }
 
 pub returns-in_ok-with_all-in-Base-Mark-clause-joins : goal.returns-in_ok-with_all-in-Base-Mark-clause-joins
@@ -68,7 +68,7 @@ returns-in_ok-with_all-in-Base-Mark-clause-joins c =
       mark_joins = ap is_mark mark;
       begins = refl;
       flag = λ after. sym (ap₂ (λ r b. flag_after r b) mark (ap (λ r. flag_after r after) base));
-      symbols = λ pattern keys later after h k. c.in_ok-with_all-in-Base-Mark.ensures pattern keys later h (subst (λ l. AreLastSymbols pattern later l) (ap₂ (λ r b. counted r b (listed c.args.mark.symbols)) mark (ap (λ r. flag_after r after) base)) k);
+      symbols = λ depth pattern keys later after h k. c.in_ok-with_all-in-Base-Mark.ensures depth pattern keys later h (subst (λ l. AreLastSymbols pattern later l) (ap₂ (λ r b. counted r b (listed c.args.mark.symbols)) mark (ap (λ r. flag_after r after) base)) k);
     }
 
 pub returns-in_ok-with_all-in-VariableBase-PrimaryMark-clause-joins : goal.returns-in_ok-with_all-in-VariableBase-PrimaryMark-clause-joins
@@ -80,5 +80,5 @@ returns-in_ok-with_all-in-VariableBase-PrimaryMark-clause-joins c =
       mark_joins = ap is_mark mark;
       begins = refl;
       flag = λ after. sym (ap (λ r. flag_after r (flag_after c.args.base.role after)) mark);
-      symbols = λ pattern keys later after h k. c.in_ok-with_all-in-VariableBase-PrimaryMark.ensures pattern keys later h (subst (λ l. AreLastSymbols pattern later l) (ap (λ r. counted r (flag_after c.args.base.role after) (listed c.args.mark.symbols)) mark) k);
+      symbols = λ depth pattern keys later after h k. c.in_ok-with_all-in-VariableBase-PrimaryMark.ensures depth pattern keys later h (subst (λ l. AreLastSymbols pattern later l) (ap (λ r. counted r (flag_after c.args.base.role after) (listed c.args.mark.symbols)) mark) k);
     }

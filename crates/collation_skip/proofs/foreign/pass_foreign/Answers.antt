@@ -1,6 +1,6 @@
 use Rattle.std.specs.Char.{len_utf8}
 use Rattle.std.specs.Str.{chars}
-use Rattle.std.proofs.Common.{◌∙◌, ℕ, ◌+◌, ◌≤◌, ◌<◌, List, [], ◌∷◌, length, take, drop, refl, sym, ap, subst, arith}
+use Rattle.std.proofs.Common.{◌∙◌, ℕ, ◌+◌, ◌≤◌, ◌<◌, List, [], ◌∷◌, length, take, drop, None, sym, ap, subst, arith}
 use Rattle.std.proofs.lemmas.Bool.{eqb-false}
 use Rattle.std.proofs.lemmas.List.{length-drop, take_rest}
 use Rattle.utf8_cut.specs.Sequences.{SpellsCharacter}
@@ -9,6 +9,7 @@ use Rattle.collation_elements.specs.ItemParts.{item_keys}
 use Rattle.collation_skip.specs.Reached.{items_from}
 use Rattle.collation_skip.proofs.BorderSteps.{none-foreign}
 use Rattle.collation_skip.proofs.ForeignLemmas.{ForeignLaws, AreQuiet, quiet-so_far, passed-on, text-on}
+use Rattle.collation_letters.proofs.ClusterLemmas.{letter-of}
 use Rattle.collation_letters.specs.declared.store.Letters.{Letters}
 use Rattle.collation_letters.specs.Store.{AreLetters}
 use Rattle.collation_skip.proofs.foreign.pass_foreign.Goals.{then-loop-end-test+else-is_clean, else-loop-end-test, then-loop-end-test+then-is_clean+in_default, then-loop-end-test+then-is_clean+in-Some+then-not-is_next}
@@ -38,7 +39,7 @@ loop-end-preserved g c =
       foreign = c.laws_of_symbols.ensures.foreign;
     } in
     let clean = c.is_clean-in-loop-end.ensures c.if-is_clean.true in
-    let apart = c.is_next.ensures.apart c.if-not-is_next.false in
+    let apart = c.is_next.ensures.apart c.if-not-is_next.false None in
     let letter = c.letter-following_letter.ensures.letter in
     record {
       letters = c.letter-following_letter.ensures.right;
@@ -53,7 +54,7 @@ loop-end-preserved g c =
           let quiet : AreQuiet table pattern at (chars (take end piece)) here = quiet-so_far table pattern piece end (at + c.loop-end.start) here at c.loop-end.letter some i.letter clean (λ yes. i.passed yes at) in
           passed-on laws.points table pattern piece end len here next at c.loop-end.letter within i.len i.text i.next quiet i.letter clean.0 (let zero = clean.1 in omega (arith, zero))
           (λ keys symbols. none-foreign pattern.keys keys (item_keys (items_from table pattern at (chars (take end piece)))) c.loop-end.letter.symbols.third laws.one laws.foreign clean.1 symbols)
-          (apart table pattern (at + end) (here ∷ []) next c.loop-end.letter refl refl i.letter letter);
+          (apart table pattern (at + end) (here ∷ []) next (letter-of table pattern (here ∷ []) c.loop-end.letter i.letter) letter);
     }
 
 pub returns-clause-passes : goal.returns-clause-passes

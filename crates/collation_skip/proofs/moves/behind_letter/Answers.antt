@@ -1,10 +1,7 @@
 use Rattle.std.proofs.Common.{◌∙◌, ◌<◌, length, true, false, List, [], ◌∷◌, sym, ap, subst, arith}
 use Rattle.collation_elements.specs.declared.keys.Key.{Key}
 use Rattle.std.proofs.Math.Logic.{∥∥₁_map}
-use Rattle.collation_letters.specs.declared.letter.Letter.{Letter}
-use Rattle.collation_letters.specs.Letters.{IsLetter}
-use Rattle.collation_letters.proofs.LetterLemmas.{letter-without_apart}
-use Rattle.collation_skip.specs.Reached.{IsHeldAs}
+use Rattle.collation_skip.specs.Reached.{IsHeld}
 use Rattle.collation_skip.proofs.ReachedLemmas.{MayBeLeft, reached-next}
 use Rattle.collation_skip.proofs.moves.behind_letter.Goals as goal
 
@@ -25,14 +22,12 @@ returns g c =
       some = leaves.some yes;
       none = c.behind.ensures.depth ∙ leaves.none yes;
     } in
-    let l : Letter = record c.args.following { is_apart = false } in
-    let letter : IsLetter table pattern (c.args.c ∷ []) l = letter-without_apart table pattern (c.args.c ∷ []) c.args.following c.requires.letter in
     let depth = sym c.behind.ensures.depth in
-    let kept = subst (λ n. IsHeldAs pattern.keys n l t.letter t.is_spent) depth c.behind.ensures.letter in
+    let letter = subst (λ n. IsHeld table pattern n (c.args.c ∷ []) t.letter) depth (c.behind.ensures.letter table (c.args.c ∷ []) c.requires.letter) in
     let below : t.depth < length pattern.keys = omega (arith, c.behind.ensures.depth, c.if-depth-most.false, c.min-most.ensures, ap (λ (l : List Key). length l) c.keys.ensures) in
     record {
       moves = λ byte spelled at bytes h. ∥∥₁_map h (λ r.
           reached-next laws laws.shifted table pattern s t at bytes byte c.args.c spelled c.requires.known.0 c.requires.known.1 c.requires.next
-          (λ own is before keys symbols so_far. c.depth_behind-depth.ensures own is before keys symbols so_far ∙ depth) below l letter kept c.behind.ensures.len c.behind.ensures.marks
+          (λ before keys symbols so_far. c.depth_after-depth.ensures before keys symbols so_far ∙ depth) below letter c.behind.ensures.len c.behind.ensures.marks
           (λ known. sym (c.behind.ensures.character known)) c.behind.ensures.begun clean r);
     }

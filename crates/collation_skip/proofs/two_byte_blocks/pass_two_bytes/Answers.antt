@@ -22,7 +22,7 @@ returns-clause-passes g c =
     let within = is.within in
     let len = c.going_len-len.ensures in
     let fits = len.within in
-    let passed = ending-of laws borders (g.W.Weights.table c.args.table.now) c.args.pattern.now c.args.classes.now c.requires.classes c.args.piece.now c.going_len-len.result len.passes (λ j. (c.type_inv.piece j).fits) c.in-Some.ending is in
+    let passed = ending-of laws borders (g.W.Weights.table c.args.table.now) c.args.pattern.now c.args.classes.now c.requires.classes c.args.piece.now c.going_len-len.result len.passes (λ j. (c.type_inv.piece j).fits) c.in-Some.passed is in
     record {
       within = is.room;
       order = omega (arith, is.end);

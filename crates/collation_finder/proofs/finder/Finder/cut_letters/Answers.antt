@@ -1,21 +1,14 @@
-use Rattle.std.proofs.Common.{◌≡◌, ◌∙◌, ℕ, List, [], ◌++◌, length, drop, refl, sym, ap, subst, arith}
+use Rattle.std.proofs.Common.{◌≡◌, ◌∙◌, ℕ, List, [], length, drop, refl, sym, ap, subst, arith}
 use Rattle.std.proofs.lemmas.List.{append-nil, length-drop, nil_from_length}
-use Rattle.std.proofs.lemmas.List.Elements.{All-same, All-drop, All-weaker, All-contains, Contains-append_left}
+use Rattle.std.proofs.lemmas.List.Elements.{All-same, All-drop}
 use Rattle.unicode_normalization.specs.StreamSafe.{has_short_runs}
 use Rattle.nfd_points.specs.declared.points.Point.{Point}
-use Rattle.std.specs.List.{Contains}
 use Rattle.nfd_points.specs.Reordering.{IsSoundPoint, code_points, is_closed}
 use Rattle.collation_elements.proofs.Cutting.{is_closed-drop}
 use Rattle.collation_elements.proofs.LeftPoints.{short-drop}
-use Rattle.nfd_points.specs.Laws.{PointsAreDecomposed, WaitingAreOthers}
-use Rattle.collation_table.specs.Table.{TableMap}
-use Rattle.collation_pattern.specs.Compiled.{Compiled}
-use Rattle.collation_finder.specs.declared.finder.Finder.{Finder}
-use Rattle.collation_finder.specs.TakenAtOnce.{IsDecomposed, AreDecomposed}
-use Rattle.collation_finder.specs.Finding.{FinderStandsFor}
 use Rattle.collation_finder.specs.Matching.{HasMatched}
 use Rattle.collation_finder.proofs.AsciiLemmas.{closed-none, short-none}
-use Rattle.collation_finder.proofs.PointLetters.{left-of, matched-cut}
+use Rattle.collation_finder.proofs.PointLetters.{decomposed, left-of, matched-cut}
 use Rattle.collation_finder.proofs.finder.Finder.cut_letters.Goals as goal
 
 pub returns-then-len-gt-MOST_GIVEN-clause-cut : goal.returns-then-len-gt-MOST_GIVEN-clause-cut
@@ -48,13 +41,6 @@ invariant_of-self-2 g c =
       short_runs = ap (λ (ps : List Point). has_short_runs 0 (code_points ps)) is ∙ short-drop 0 n old.window.points old.short_runs;
       state = omega (arith, keeps.state, keeps.room, made.pattern_len);
     }
-
--- each point of the window is its own decomposition, as those of a text are
-decomposed : (others : WaitingAreOthers) (each : PointsAreDecomposed) (table : TableMap) (pattern : Compiled) (old : Finder) (taken : List ℕ) (handed : List (ℕ × ℕ)) →
-    FinderStandsFor table pattern old taken handed → AreDecomposed old.window.points
-decomposed others each table pattern old taken handed h =
-    let all = subst AreDecomposed (others old.reorder taken h.points h.reordered) (each taken) in
-    All-weaker (Contains h.points) IsDecomposed (λ p there. All-contains IsDecomposed (h.points ++ old.reorder.held) p all (Contains-append_left h.points old.reorder.held p there)) old.window.points h.matched.kept
 
 pub returns-clause-cut : goal.returns-clause-cut
 returns-clause-cut g c =

@@ -1,10 +1,6 @@
-use Rattle.std.proofs.Common.{◌∙◌, ◌+◌, ◌-◌, ◌≤◌, length, slice_get, ap, refl, arith}
-use Rattle.std.proofs.lemmas.Bool.{not-false}
+use Rattle.std.proofs.Common.{◌∙◌, ◌+◌, ◌-◌, ◌≤◌, length, ap, refl, arith}
 use Rattle.std.proofs.lemmas.List.{length-append}
-use Rattle.nfd_points.specs.Points.{begins_with_starter}
-use Rattle.collation_finder.proofs.TakenAtOnceLemmas.{begun}
-use Rattle.collation_finder.proofs.CharacterLemmas.{apart-at}
-use Rattle.collation_finder.proofs.Untaken.{ShortPassLaws, passes-short}
+use Rattle.collation_finder.proofs.HeldText.{passes-short}
 use Rattle.collation_finder.proofs.finder.Finder.pass_short.Goals as goal
 
 pub overflow_sub-start : goal.overflow_sub-start
@@ -15,12 +11,7 @@ overflow_sub-start g c =
     omega (arith, few, count)
 
 pub skip-requires-clause-begins : goal.skip-requires-clause-begins
-skip-requires-clause-begins g c =
-    let table = g.W.Weights.table c.args.query.now.table.now in
-    let start = c.args.front.offset - c.in_ok-held.held in
-    let laws = c.laws_of_characters.ensures in
-    let b = begun laws.short start c.in_ok-first.first in
-    ap begins_with_starter b.is ∙ (apart-at laws.shifted table c.args.query.now.pattern.now c.in_ok-first.first c.letter-letter.result start (not-false c.letter-letter.result.is_apart c.if-not-letter.false) c.letter-letter.ensures.letter b.first (ap (λ t. slice_get t 0) b.is)).0
+skip-requires-clause-begins g c = c.is_starter.ensures.starter c.if-not-is_starter.false (c.args.front.offset - c.in_ok-held.held)
 
 pub overflow_add-result : goal.overflow_add-result
 overflow_add-result g c =
@@ -36,16 +27,8 @@ overflow_add-result g c =
 
 pub returns-clause-passes : goal.returns-clause-passes
 returns-clause-passes g c =
-    let laws : ShortPassLaws = record {
-      letters = c.laws_of_characters.ensures;
-      cuts = c.laws_of_points.ensures.cuts;
-      others = c.laws_of_reordering.ensures.others;
-      in_prefix = c.laws_of_faults.ensures.in_prefix;
-      before = c.units_stay_apart.ensures.before;
-    } in
     let table = g.W.Weights.table c.args.query.now.table.now in
     let pattern = c.args.query.now.pattern.now in
-    let finder = c.args.self.now in
     let held = c.in_ok-held.ensures.joined in
     let skip = c.in-Some.ensures.skips in
     let limit = c.saturating_add-reach.result in
@@ -53,8 +36,9 @@ returns-clause-passes g c =
     let idle = c.is_idle.ensures in
     let yes = c.if-not-is_idle.false in
     record {
-      passes = passes-short laws table pattern finder c.args.front.piece.now c.as_slice-text.result.now held.0 c.args.front.offset c.args.front.reach limit c.in_ok-held.held (c.args.front.offset - c.in_ok-held.held) c.in_ok-first.first c.letter-letter.result c.in-Some.passed
-          held.1 held.2 (c.as_slice-text.ensures.value ∙ held.3) refl far c.if-passed-held.false (not-false c.letter-letter.result.is_apart c.if-not-letter.false) c.letter-letter.ensures.letter (idle.state yes) (idle.flag yes)
-          skip.begun.0 skip.begun.1 skip.passes skip.apart skip.walked;
+      passes = passes-short c.laws_of_characters.ensures c.laws_of_reordering.ensures.others c.laws_of_points.ensures.decomposed table pattern c.args.self.now c.args.front.piece.now c.as_slice-text.result.now held.0
+          c.args.front.offset c.args.front.reach limit c.in_ok-held.held (c.args.front.offset - c.in_ok-held.held) c.in-Some.passed
+          held.1 c.requires.open held.2 (c.as_slice-text.ensures.value ∙ held.3) refl far c.if-passed-held.false (idle.state yes) (idle.flag yes)
+          skip.passes skip.apart skip.walked;
       letter = skip.passes.letter;
     }

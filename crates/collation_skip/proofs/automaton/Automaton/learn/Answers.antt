@@ -22,7 +22,7 @@ set_cell-requires-clause-cell g c =
       | in-None w ↦
           let within = row-within (g.W.Weights.table c.args.table.now) c.args.pattern.now a c.args.row 0 c.in_ok-state.state c.row_behind-to.ensures.right
           (c.row_behind-to.ensures.grows c.args.row c.in_ok-state.state c.in_ok-state.ensures) (omega arith) in
-          let is = c.in_ok-state.ensures.2 in omega (arith, within, is, w.cell-is)
+          let is = c.in_ok-state.ensures.2 in let low = w.stop-cell.ensures in omega (arith, within, is, w.cell-is, low)
     ]
 
 pub returns-clause-right : goal.returns-clause-right
@@ -35,7 +35,7 @@ returns-clause-right g c =
     let move : STOP < c.match-to.cell → ∥ ((to : State) × IsRow a c.match-to.cell to × IsMove table pattern from c.args.byte to) ∥₁ =
     elim c.match-to.branch [
       | in-Some w ↦ λ below. let found = w.in-Some.ensures.moves in ∣ (found.0, subst (λ n. IsRow a n found.0) (sym w.cell-is) found.1, found.2) ∣₁
-      | in-None w ↦ λ below. absurd (omega (arith, below, w.cell-is))
+      | in-None w ↦ λ below. absurd (let low = w.stop-cell.ensures in omega (arith, below, w.cell-is, low))
     ] in
     right-set table pattern a (record a { cells = c.set_cell.new.self }) c.args.row c.args.byte c.match-to.cell from c.row_behind-to.ensures.right
     refl c.set_cell.ensures (ap (λ (l : List ℕ). length l) c.set_cell.ensures ∙ length-set a.cells (place c.args.row c.args.byte) c.match-to.cell) here c.ranges.byte.fits move

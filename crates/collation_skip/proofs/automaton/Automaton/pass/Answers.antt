@@ -1,9 +1,10 @@
-use Rattle.std.proofs.Common.{◌≤◌, length, take, sym, subst, arith, inl, inr}
+use Rattle.std.proofs.Common.{◌≤◌, length, take, refl, sym, subst, arith, inl, inr}
 use Rattle.std.proofs.lemmas.Bool.{cases_lt}
 use Rattle.std.proofs.lemmas.List.{length-take}
 use Rattle.collation_letters.proofs.SymbolLemmas.{some-map}
 use Rattle.collation_skip.specs.Passed.{PassesTo}
 use Rattle.collation_skip.specs.Rows.{AreRowsRight}
+use Rattle.collation_skip.proofs.RowLemmas.{right-same}
 use Rattle.collation_skip.proofs.RunLemmas.{stands-whole}
 use Rattle.collation_skip.proofs.automaton.Automaton.pass.Goals.{then-self, else-self}
 use Rattle.collation_skip.proofs.automaton.Automaton.pass.Goals as goal
@@ -43,3 +44,8 @@ returns-clause-passes g c =
       text = p.text;
       passed = p.passed;
     })
+
+pub returns-clause-right : goal.returns-clause-right
+returns-clause-right g c =
+    let a = c.go.new.self in
+    right-same (g.W.Weights.table c.args.table.now) c.args.pattern.now a (record a { keeping = c.pay.new.self }) refl refl c.go.ensures.right
