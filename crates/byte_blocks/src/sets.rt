@@ -1,6 +1,6 @@
 //! Sets of bytes in which sixteen bytes are looked up at once, by their halves.
 ghost use Rattle.std.specs.Prelude.{◌≡◌};
-ghost use Rattle.byte_blocks.specs.Sets.{in_set as in_set_of};
+ghost use Rattle.byte_blocks.specs.Sets.{in_set as in_set_of, is_in};
 
 /// The bit that each high half of a byte has in a set.
 pub const COLUMNS: [u8; 16] = [1, 2, 4, 8, 16, 32, 64, 128, 0, 0, 0, 0, 0, 0, 0, 0];
@@ -41,9 +41,6 @@ pub const NO_BYTES: ByteSet = ByteSet {
 };
 
 impl ByteSet {
-    ghost use Rattle.std.specs.Prelude.{◌≡◌};
-    ghost use Rattle.byte_blocks.specs.Sets.{is_in};
-
     /// Not 0 where a byte is in it.
     #[inline(always)]
     pub fn has(&self, byte: u8) -> u8

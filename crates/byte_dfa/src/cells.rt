@@ -1,6 +1,6 @@
 //! A table of cells: how rows are added and cells filled, and the runs over it.
-ghost use Rattle.std.specs.Prelude.{◌≡◌, ◌≤◌, ◌++◌, replicate, slice_set, OnOk, OnErr};
-ghost use Rattle.byte_dfa.specs.Moves.{Follows, HasRow, IsCursor, added, cell_of, place};
+ghost use Rattle.std.specs.Prelude.{◌≡◌, ◌≤◌, ◌++◌, replicate, slice_set, OnOk, OnErr, ℕ, List, []};
+ghost use Rattle.byte_dfa.specs.Moves.{Follows, HasRow, IsCursor, added, cell_of, place, IsTable, HasEnded};
 
 use crate::four_runs::run_by_four;
 use crate::moves::{Cursor, UNIT};
@@ -24,9 +24,6 @@ pub struct Cells {
 }
 
 impl Model for Cells {
-    ghost use Rattle.std.specs.Prelude.{ℕ, List};
-    ghost use Rattle.byte_dfa.specs.Moves.{IsTable};
-
     ghost Value = { List ℕ };
 
     ghost view = { λ it. it.cells.items };
@@ -35,9 +32,6 @@ impl Model for Cells {
 }
 
 impl Cells {
-    ghost use Rattle.std.specs.Prelude.{◌≡◌, ◌≤◌, ◌++◌, [], replicate, slice_set, OnOk, OnErr};
-    ghost use Rattle.byte_dfa.specs.Moves.{Follows, HasEnded, HasRow, IsCursor, added, cell_of, place};
-
     /// There is no row yet. Takes no memory.
     pub fn new(alloc: Global) -> Cells
         ensures { result ≡ [] }

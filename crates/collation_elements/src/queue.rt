@@ -1,9 +1,10 @@
 //! The points of a window, of which nothing moves while the first ones leave and others come.
-ghost use Rattle.std.specs.Prelude.{◌≡◌, ◌<◌, ◌≤◌, ◌==◌, [], ◌∷◌, ◌++◌, false, length, take, drop, remove, slice_get, Some, IfOk};
+ghost use Rattle.std.specs.Prelude.{◌≡◌, ◌<◌, ◌≤◌, ◌==◌, [], ◌∷◌, ◌++◌, false, length, take, drop, remove, slice_get, Some, IfOk, All};
 ghost use Rattle.std.specs.Option.{option_map_or};
 ghost use Rattle.nfd_points.specs.Points.{is_starter};
-ghost use Rattle.circular_buffer.specs.Buffer.{buffer};
+ghost use Rattle.circular_buffer.specs.Buffer.{buffer, Buffer};
 ghost use Rattle.collation_elements.specs.Units.{code_points};
+ghost use Rattle.nfd_points.specs.declared.points.Point.{Point};
 
 use arrayvec::ArrayVec;
 use circular_buffer::HeapCircularBuffer;
@@ -19,10 +20,6 @@ pub(crate) struct Queue {
 }
 
 impl Model for Queue {
-    ghost use Rattle.std.specs.Prelude.{◌<◌, All};
-    ghost use Rattle.nfd_points.specs.declared.points.Point.{Point};
-    ghost use Rattle.circular_buffer.specs.Buffer.{Buffer};
-
     ghost Value = { Buffer Point };
 
     ghost view = { λ q. q.points };

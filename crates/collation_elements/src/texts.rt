@@ -5,12 +5,12 @@ ghost use Rattle.nfd_points.specs.declared.points.Point.{Point};
 ghost use Rattle.nfd_points.specs.Points.{points, byte_len};
 ghost use Rattle.nfd_points.specs.PointFaults.{point_fault};
 ghost use Rattle.nfd_points.specs.Reordering.{IsSoundPoint, is_closed};
-ghost use Rattle.collation_table.specs.Table.{longest_mapped};
+ghost use Rattle.collation_table.specs.Table.{longest_mapped, TableMap};
 ghost use Rattle.collation_elements.specs.Units.{units};
 ghost use Rattle.collation_elements.specs.Items.{items};
 ghost use Rattle.collation_elements.specs.Windows.{WindowStandsFor};
-ghost use Rattle.collation_table.specs.Table.{TableMap};
 ghost use Rattle.collation_elements.specs.Texts.{Gives, HasSettings, IsUnread};
+ghost use Rattle.collation_elements.specs.declared.texts.ItemsFault.TheVariants.{Memory};
 
 use crate::keys::Item;
 use crate::settings::{Strength, Variable};
@@ -32,9 +32,6 @@ pub enum ItemsFault {
 }
 
 impl From<AllocError> for ItemsFault {
-    ghost use Rattle.std.specs.Prelude.{◌≡◌};
-    ghost use Rattle.collation_elements.specs.declared.texts.ItemsFault.TheVariants.{Memory};
-
     ghost from_gives = { λ _ fault. fault ≡ Memory };
 
     fn from(_error: AllocError) -> Self {

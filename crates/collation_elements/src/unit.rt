@@ -1,6 +1,8 @@
 //! A unit of a text, with its collation elements.
 ghost use Rattle.std.specs.Prelude.{◌≡◌, ◌≢◌, ◌<◌, ◌≤◌, [], ◌∷◌, length, option_copied, unwrap_or, None, IfSome, IfNone};
 ghost use Rattle.collation_table.specs.Table.{row_of, implicit_pair};
+ghost use Rattle.collation_table.specs.declared.limits.TheConstants.{MOST_ROW_ELEMENTS};
+ghost use Rattle.collation_elements.specs.UnitValues.{UnitValue};
 
 use collation_table::{Element, MOST_ROW_ELEMENTS, Weights};
 use nfd_points::Point;
@@ -28,10 +30,6 @@ pub struct Unit<'t> {
 }
 
 impl<'t> Model for Unit<'t> {
-    ghost use Rattle.std.specs.Prelude.{◌≤◌, length, option_copied, unwrap_or};
-    ghost use Rattle.collation_table.specs.declared.limits.TheConstants.{MOST_ROW_ELEMENTS};
-    ghost use Rattle.collation_elements.specs.UnitValues.{UnitValue};
-
     ghost Value = { UnitValue };
 
     ghost view = { λ u. record {

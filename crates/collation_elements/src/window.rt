@@ -31,8 +31,6 @@ pub struct Window {
 }
 
 impl Model for Window {
-    ghost use Rattle.collation_elements.specs.Windows.{Held};
-
     ghost Value = { Held };
 
     ghost view = { λ w. record {

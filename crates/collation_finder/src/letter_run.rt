@@ -2,10 +2,19 @@
 //! start of its cluster are then its own, whatever stands around it. What the window holds is cut before, as if the text ended
 //! there, and none of the characters comes into the window but the last one, and the ASCII behind it at
 //! the end of a piece. With these the steps go on.
-ghost use Rattle.std.specs.Prelude.{◌≡◌, ℕ, [], ◌∷◌, true, All};
+ghost use Rattle.std.specs.Prelude.{◌≡◌, ℕ, [], ◌∷◌, true, All, ◌+◌, ◌≤◌, length, false};
 ghost use Rattle.nfd_points.specs.Points.{begins_with_starter, points_of};
 ghost use Rattle.collation_table.specs.Table.{BeginsNoLongerString};
 ghost use Rattle.collation_letters.specs.Store.{AreLetters};
+ghost use Rattle.collation_pattern.specs.Compiled.{Compiled};
+ghost use Rattle.collation_letters.specs.Letters.{IsLetter};
+ghost use Rattle.collation_walk.specs.HandingOut.{HandsOut};
+ghost use Rattle.collation_finder.specs.LetterRun.{IsFirstLetter};
+ghost use Rattle.collation_finder.specs.Pausing.{BeginsUnit};
+ghost use Rattle.collation_finder.specs.Caches.{IsCacheRight};
+ghost use Rattle.collation_matches.specs.GoodPrefix.{most_bytes};
+ghost use Rattle.collation_finder.specs.Finding.{IsReady};
+ghost use Rattle.collation_finder.specs.Taking.{TakesPaused, TakesText};
 
 use crate::cache::Cache;
 use crate::finder::Finder;
@@ -187,10 +196,7 @@ fn joins_next<W: Weights>(
     if letter.is_closed {
         return false;
     }
-    let Some(rest) = piece.get(first.len_utf8()..) else {
-        return false;
-    };
-    let Some(next) = first_character(rest) else {
+    let Some(next) = first_character(piece.get(first.len_utf8()..).unwrap_or(&[])) else {
         return false;
     };
     let following = letters.letter(query.table, query.pattern, next);
@@ -205,17 +211,6 @@ fn joins_next<W: Weights>(
 const MOST_IN_A_RUN: usize = 65_536;
 
 impl Finder {
-    ghost use Rattle.std.specs.Prelude.{◌≡◌, ℕ, ◌+◌, ◌≤◌, [], ◌∷◌, length, true, false};
-    ghost use Rattle.collation_pattern.specs.Compiled.{Compiled};
-    ghost use Rattle.collation_letters.specs.Letters.{IsLetter};
-    ghost use Rattle.collation_walk.specs.HandingOut.{HandsOut};
-    ghost use Rattle.collation_finder.specs.LetterRun.{IsFirstLetter};
-    ghost use Rattle.collation_finder.specs.Pausing.{BeginsUnit};
-    ghost use Rattle.collation_finder.specs.Caches.{IsCacheRight};
-    ghost use Rattle.collation_matches.specs.GoodPrefix.{most_bytes};
-    ghost use Rattle.collation_finder.specs.Finding.{IsReady};
-    ghost use Rattle.collation_finder.specs.Taking.{TakesPaused, TakesText};
-
     /// Takes characters at the front of a piece, which stands at a byte offset, and calls the sink once for each range that became
     /// known, in order. It answers how many bytes it took: those up to the first character that it can't take so, or that begins
     /// after `reach`, or after `MOST_IN_A_RUN` bytes; none where that is the first one. Behind a character that ends after `reach` it also

@@ -1,14 +1,15 @@
 //! The pause before letters: what the window holds is cut, as if the text ended there. Its points are
 //! walked over as letters up to the first one that is no plain letter, and the rest as units.
-ghost use Rattle.std.specs.Prelude.{◌≡◌, ◌≤◌, All, [], length, take, false, IfSome};
+ghost use Rattle.std.specs.Prelude.{◌≡◌, ◌≤◌, All, [], length, take, false, IfSome, true};
 ghost use Rattle.nfd_points.specs.Reordering.{IsSoundPoint};
 ghost use Rattle.collation_finder.specs.TakenAtOnce.{AreClosedHere, AreDecomposed};
-ghost use Rattle.collation_finder.specs.Pausing.{IsPlainPoint};
+ghost use Rattle.collation_finder.specs.Pausing.{IsPlainPoint, CutsSome, Pauses};
 ghost use Rattle.collation_elements.specs.Units.{units};
 ghost use Rattle.collation_letters.specs.Store.{AreLetters};
 ghost use Rattle.collation_walk.specs.HandingOut.{HandsOut};
 ghost use Rattle.collation_walk.specs.Walked.{HasWalkedOn};
 ghost use Rattle.collation_walk.specs.Walks.{KeepsWalk};
+ghost use Rattle.collation_finder.specs.Finding.{IsReady, StaysOpen};
 
 use crate::cutting::push_points;
 use crate::finder::Finder;
@@ -95,12 +96,6 @@ fn walk_points<W: Weights, F: FnMut(u64, u64)>(
 }
 
 impl Finder {
-    ghost use Rattle.std.specs.Prelude.{◌≡◌, [], true};
-    ghost use Rattle.collation_letters.specs.Store.{AreLetters};
-    ghost use Rattle.collation_walk.specs.HandingOut.{HandsOut};
-    ghost use Rattle.collation_finder.specs.Finding.{IsReady, StaysOpen};
-    ghost use Rattle.collation_finder.specs.Pausing.{CutsSome, Pauses};
-
     /// Cuts all that it holds, as if the text ended here, and calls the sink once for each range
     /// that became known, in order. `found` is room that it uses.
     pub(crate) fn pause<W: Weights, F: FnMut(u64, u64)>(

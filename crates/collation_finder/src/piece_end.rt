@@ -1,11 +1,13 @@
 //! The end of a piece: characters of ASCII behind its letters, whose points come into the window at
 //! once.
-ghost use Rattle.std.specs.Prelude.{◌≡◌, ◌+◌, ◌<◌, ◌≤◌, All, length, take, true, slice_index};
-ghost use Rattle.std.specs.Str.{IsAscii};
+ghost use Rattle.std.specs.Prelude.{◌≡◌, ◌+◌, ◌<◌, ◌≤◌, All, length, take, true, slice_index, [], slice_get};
+ghost use Rattle.std.specs.Str.{IsAscii, chars, IsUtf8};
 ghost use Rattle.unicode_normalization.specs.StreamSafe.{has_short_runs};
 ghost use Rattle.nfd_points.specs.Points.{points_from};
 ghost use Rattle.nfd_points.specs.Reordering.{IsSoundPoint, code_points, is_closed};
 ghost use Rattle.collation_matches.specs.GoodPrefix.{most_bytes};
+ghost use Rattle.collation_finder.specs.Finding.{IsReady, StaysOpen};
+ghost use Rattle.collation_finder.specs.Taking.{TakesBehind};
 
 use crate::cutting::{cut_units, push_points};
 use crate::finder::Finder;
@@ -51,12 +53,6 @@ fn ascii_points(piece: &[u8], offset: u64, points: &mut ArrayVec<Point, MOST_GIV
 }
 
 impl Finder {
-    ghost use Rattle.std.specs.Prelude.{◌≡◌, ◌+◌, ◌<◌, ◌≤◌, [], length, take, slice_get, slice_index};
-    ghost use Rattle.std.specs.Str.{chars, IsUtf8};
-    ghost use Rattle.collation_matches.specs.GoodPrefix.{most_bytes};
-    ghost use Rattle.collation_finder.specs.Finding.{IsReady, StaysOpen};
-    ghost use Rattle.collation_finder.specs.Taking.{TakesBehind};
-
     /// Takes characters of ASCII at the front of a piece, which stands at a byte offset: as many as
     /// there is room for, and none where a point waits. It puts the ranges that became known into
     /// `found`, which is emptied before, and answers how many characters it took. It may also go on

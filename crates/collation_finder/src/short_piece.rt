@@ -1,9 +1,16 @@
 //! A short piece behind characters that the window holds, as those that ended the piece before.
 //! Where both may be passed by as one text, the search goes on as if it stood paused before these
 //! characters, so that nothing is walked over first.
-ghost use Rattle.std.specs.Prelude.{◌≡◌, ◌++◌, true, false};
+ghost use Rattle.std.specs.Prelude.{◌≡◌, ◌++◌, true, false, ℕ, ◌+◌, ◌≤◌, List, [], length, IfSome};
 ghost use Rattle.std.specs.Char.{encode_utf8};
 ghost use Rattle.nfd_points.specs.Points.{is_starter};
+ghost use Rattle.collation_elements.specs.Weighing.{is_after_variable};
+ghost use Rattle.collation_walk.specs.HandingOut.{HandsOut};
+ghost use Rattle.collation_matches.specs.GoodPrefix.{most_bytes};
+ghost use Rattle.collation_finder.specs.Caches.{IsCacheRight};
+ghost use Rattle.collation_finder.specs.Finding.{IsReady};
+ghost use Rattle.collation_finder.specs.ShortPiece.{HoldsText, MayPassShort};
+ghost use Rattle.collation_finder.specs.Taking.{TakesText};
 
 use crate::cache::Cache;
 use crate::finder::Finder;
@@ -61,15 +68,6 @@ fn push_code_point(text: &mut ArrayVec<u8, ROOM>, cp: u32) -> bool
 }
 
 impl Finder {
-    ghost use Rattle.std.specs.Prelude.{◌≡◌, ℕ, ◌+◌, ◌≤◌, List, [], ◌++◌, length, true, false, IfSome};
-    ghost use Rattle.collation_elements.specs.Weighing.{is_after_variable};
-    ghost use Rattle.collation_walk.specs.HandingOut.{HandsOut};
-    ghost use Rattle.collation_matches.specs.GoodPrefix.{most_bytes};
-    ghost use Rattle.collation_finder.specs.Caches.{IsCacheRight};
-    ghost use Rattle.collation_finder.specs.Finding.{IsReady};
-    ghost use Rattle.collation_finder.specs.ShortPiece.{HoldsText, MayPassShort};
-    ghost use Rattle.collation_finder.specs.Taking.{TakesText};
-
     /// Whether no key waits, and the last element that was variable or primary was not variable.
     fn is_idle(&self) -> bool
         ensures state { result ≡ true → self.now.matcher.walk.state ≡ 0 }

@@ -4,6 +4,7 @@ ghost use Rattle.std.specs.Prelude.{◌≡◌, ◌↔◌, [], ◌∷◌, IsTrue}
 ghost use Rattle.collation_pattern.specs.SortKey.{level};
 ghost use Rattle.collation_pattern.specs.Levels.{levels};
 ghost use Rattle.collation_pattern.specs.LevelWeights.{weights_of_key, level_weights};
+ghost use Rattle.collation_pattern.specs.Readers.{weights_left, TakesWeight};
 
 use collation_elements::{Key, Strength};
 
@@ -41,8 +42,6 @@ struct Reader<'a> {
 }
 
 impl<'a> Reader<'a> {
-    ghost use Rattle.collation_pattern.specs.Readers.{weights_left, TakesWeight};
-
     /// The next weight that is not zero, or 0 at the end.
     fn next(&mut self, at: Level) -> u16
         ensures { TakesWeight at self.old self.new result }

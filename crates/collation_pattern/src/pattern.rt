@@ -1,7 +1,13 @@
 //! A text to search for, as its keys.
 
-ghost use Rattle.std.specs.Prelude.{◌≡◌, ◌↔◌, ◌≤◌, length, IsTrue};
-ghost use Rattle.collation_pattern.specs.Levels.{levels};
+ghost use Rattle.std.specs.Prelude.{◌≡◌, ◌↔◌, ◌≤◌, length, IsTrue, ◌≢◌, ◌<◌, ℕ, List, [], ◌∷◌, ◌++◌, slice_get, false, None, Some, IfOk, OnOk, IfErr};
+ghost use Rattle.collation_pattern.specs.Levels.{levels, text_keys};
+ghost use Rattle.collation_pattern.specs.Compiled.{Compiled, IsCompiledWith};
+ghost use Rattle.collation_pattern.specs.Borders.{AreBorders};
+ghost use Rattle.collation_pattern.specs.KeySets.{HasPlaces};
+ghost use Rattle.collation_elements.specs.declared.keys.Key.{Key};
+ghost use Rattle.collation_pattern.specs.Border.{border};
+ghost use Rattle.collation_pattern.specs.PatternFaults.{pattern_fault};
 
 use crate::borders::{borders_of, state_after};
 use crate::compile::keys_of_pattern;
@@ -26,11 +32,6 @@ pub struct Pattern {
 }
 
 impl Model for Pattern {
-    ghost use Rattle.std.specs.Prelude.{◌≡◌, ◌≤◌, length};
-    ghost use Rattle.collation_pattern.specs.Compiled.{Compiled};
-    ghost use Rattle.collation_pattern.specs.Borders.{AreBorders};
-    ghost use Rattle.collation_pattern.specs.KeySets.{HasPlaces};
-
     ghost Value = { Compiled };
 
     ghost view = { λ p. record {
@@ -46,13 +47,6 @@ impl Model for Pattern {
 }
 
 impl Pattern {
-    ghost use Rattle.std.specs.Prelude.{◌≡◌, ◌≢◌, ◌↔◌, ◌<◌, ◌≤◌, ℕ, List, [], ◌∷◌, ◌++◌, length, slice_get, IsTrue, false, None, Some, IfOk, OnOk, IfErr};
-    ghost use Rattle.collation_elements.specs.declared.keys.Key.{Key};
-    ghost use Rattle.collation_pattern.specs.Border.{border};
-    ghost use Rattle.collation_pattern.specs.Levels.{levels, text_keys};
-    ghost use Rattle.collation_pattern.specs.PatternFaults.{pattern_fault};
-    ghost use Rattle.collation_pattern.specs.Compiled.{IsCompiledWith};
-
     /// Compiles a text.
     ///
     /// # Errors

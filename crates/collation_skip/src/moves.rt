@@ -1,5 +1,5 @@
 //! The moves of the automaton: the state behind one byte more.
-ghost use Rattle.std.specs.Prelude.{◌≡◌, ◌≢◌, ◌<◌, ◌∷◌, ◌++◌, ℕ, List, [], length, false, true, IfSome};
+ghost use Rattle.std.specs.Prelude.{◌≡◌, ◌≢◌, ◌<◌, ◌∷◌, ◌++◌, ℕ, List, [], length, false, true, IfSome, ◌≤◌};
 ghost use Rattle.utf8_cut.specs.Sequences.{SpellsCharacter};
 ghost use Rattle.collation_letters.specs.Apart.{IsNext};
 ghost use Rattle.collation_letters.specs.Letters.{IsLetter, begins_cluster, flag_after, is_mark};
@@ -7,6 +7,7 @@ ghost use Rattle.collation_letters.specs.Store.{AreLetters};
 ghost use Rattle.collation_letters.specs.declared.letter.Role.TheVariants.{Steps};
 ghost use Rattle.collation_skip.specs.BegunBytes.{begun_bytes};
 ghost use Rattle.collation_skip.specs.Reached.{IsHeld, IsMove};
+ghost use Rattle.byte_dfa.specs.declared.moves.TheConstants.{STOP};
 
 use crate::begun::Decoded;
 use crate::depth::depth_after;
@@ -104,9 +105,6 @@ fn behind_character<W: Weights>(
 }
 
 impl Keeping {
-    ghost use Rattle.std.specs.Prelude.{◌≤◌};
-    ghost use Rattle.byte_dfa.specs.declared.moves.TheConstants.{STOP};
-
     /// Whether a move behind a character may be made, which costs one if it is of Han or Hangul.
     fn may_move(&mut self, c: char) -> bool {
         if !is_of_many(c) {

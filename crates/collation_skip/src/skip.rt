@@ -187,8 +187,5 @@ impl Skip {
 
 /// How many bytes were passed by.
 fn len_of(passed: &Option<Passed>) -> usize {
-    match passed {
-        Some(passed) => passed.end,
-        None => 0,
-    }
+    passed.map_or(0, |passed| passed.end)
 }

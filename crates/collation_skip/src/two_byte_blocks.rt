@@ -43,11 +43,8 @@ pub(crate) fn pass_two_bytes<W: Weights>(
     laws_of_borders();
     units_stay_apart();
     weighers_go_on();
-    let len = going_len(
-        &classes.sets,
-        piece,
-        piece.len().min(reach).min(MOST_AT_ONCE),
-    );
+    let most = piece.len().min(reach).min(MOST_AT_ONCE);
+    let len = going_len(&classes.sets, piece, most);
     let Some(passed) = last_ending(table, pattern, letters, classes.place, piece, len) else {
         *looked = len.max(*looked);
         return None;

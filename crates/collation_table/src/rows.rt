@@ -2,8 +2,8 @@
 ghost use Rattle.std.specs.Prelude.{◌≡◌, ℕ, List, [], ◌∷◌, ◌++◌, false, length, take, slice_get, is_some, None, Some, IfSome, OnOk, OnSome, option_copied, ◌<◌, ◌≤◌};
 ghost use Rattle.collation_table.specs.Table.{TableMap, BeginsNoLongerString, ContinuesNoString, row_of, row_with, is_mapped, is_in_longer as is_in_longer_string, longest_mapped, most_elements, stands_alone};
 ghost use Rattle.std.specs.List.{list_any};
-ghost use Rattle.collation_table.specs.Entries.{part, after};
-ghost use Rattle.collation_table.specs.WellFormed.{IsRowSound, breaks_ranges};
+ghost use Rattle.collation_table.specs.Entries.{part, after, rows_at, IsIndexed};
+ghost use Rattle.collation_table.specs.WellFormed.{IsRowSound, breaks_ranges, AreLinesSound};
 
 use crate::elements::Element;
 use crate::pages::Place;
@@ -38,10 +38,6 @@ pub(crate) struct Rows<I: RowIndex> {
 }
 
 impl<I: RowIndex> Model for Rows<I> {
-    ghost use Rattle.collation_table.specs.Table.{TableMap};
-    ghost use Rattle.collation_table.specs.WellFormed.{AreLinesSound};
-    ghost use Rattle.collation_table.specs.Entries.{rows_at, IsIndexed};
-
     ghost Value = { TableMap };
 
     ghost view = { λ a. record {

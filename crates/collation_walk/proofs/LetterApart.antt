@@ -1,5 +1,5 @@
 -- How a weigher and a walk go over the units of a letter's characters.
-use Rattle.std.proofs.Common.{◌≡◌, ◌≢◌, ◌∙◌, ℕ, Bool, false, List, ◌++◌, map, sym, ap, ap₂, subst}
+use Rattle.std.proofs.Common.{◌≡◌, ◌≢◌, ◌∙◌, ℕ, false, List, ◌++◌, map, sym, ap, ap₂, subst}
 use Rattle.nfd_points.specs.declared.points.Point.{Point}
 use Rattle.nfd_points.specs.Points.{shifted}
 use Rattle.nfd_points.specs.Laws.{PointsAreShifted}

@@ -8,10 +8,6 @@ use crate::walk::{KeyPlace, Walk};
 use circular_buffer::HeapCircularBuffer;
 
 impl Walk {
-    ghost use Rattle.std.specs.Prelude.{◌≡◌, ◌*◌, ◌≤◌, length};
-    ghost use Rattle.collation_states.specs.Reading.{places_in};
-    ghost use Rattle.collation_walk.specs.Kept.{saved_places};
-
     /// Goes on in a cluster that starts at the byte offset `start`; of a chain the last range that was handed out ends at the byte
     /// offset `last_end`. `places` are the records of the places of the last keys, four words each, of as many keys as have matched.
     pub fn go_on_from(&mut self, start: u64, has_keys: bool, last_end: u64, places: &[u64])

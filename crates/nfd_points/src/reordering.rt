@@ -25,8 +25,6 @@ pub struct Reorder {
 }
 
 impl Model for Reorder {
-    ghost use Rattle.nfd_points.specs.Reordering.{Waiting, IsHeld};
-
     ghost Value = { Waiting };
 
     ghost view = { λ r. record { held = r.waiting.items } };

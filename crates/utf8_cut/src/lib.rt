@@ -15,8 +15,14 @@
 //! carries `StandsFor` of `specs/State.antt` along, which `new` and `push` give.
 #![tactic(auto)]
 
-ghost use Rattle.std.specs.Prelude.{◌≡◌, ℕ, ◌+◌, ◌^◌, ◌<◌, ◌≤◌, List, [], ◌∷◌, ◌++◌, length, Option, IsTrue, ◌==◌, if◌then◌else◌, true, false};
-ghost use Rattle.utf8_cut.specs.Characters.{characters_end, ill_formed_at, first_fault};
+ghost use Rattle.std.specs.Prelude.{◌≡◌, ℕ, ◌+◌, ◌^◌, ◌<◌, ◌≤◌, List, [], ◌∷◌, ◌++◌, length, Option, IsTrue, ◌==◌, if◌then◌else◌, true, false, None, Some};
+ghost use Rattle.utf8_cut.specs.Characters.{characters_end, ill_formed_at, first_fault, with_offsets};
+ghost use Rattle.utf8_cut.specs.Value.{CutState, between_characters};
+ghost use Rattle.utf8_cut.specs.Inside.{state, IsSoundInside};
+ghost use Rattle.std.specs.Char.{len_utf8};
+ghost use Rattle.std.specs.Str.{IsUtf8, chars};
+ghost use Rattle.utf8_cut.specs.Sequences.{SpellsCharacter, IsIllFormed};
+ghost use Rattle.utf8_cut.specs.State.{StandsFor, IsPushed, IfChar, IfBad, OnMore, state_after, character_given, bad_given};
 
 use arrayvec::ArrayVec;
 use sequence::Form;
@@ -60,11 +66,7 @@ pub struct Cut {
 }
 
 impl Model for Cut {
-    ghost use Rattle.utf8_cut.specs.Value.{CutState};
-
     ghost Value = { CutState };
-
-    ghost use Rattle.utf8_cut.specs.Inside.{state, IsSoundInside};
 
     ghost view = { state };
 
@@ -72,14 +74,6 @@ impl Model for Cut {
 }
 
 impl Cut {
-    ghost use Rattle.std.specs.Prelude.{◌≡◌, ℕ, ◌+◌, ◌^◌, ◌<◌, ◌≤◌, List, [], ◌∷◌, ◌++◌, length, Option, None, Some, IsTrue, ◌==◌, if◌then◌else◌, true, false};
-    ghost use Rattle.std.specs.Char.{len_utf8};
-    ghost use Rattle.std.specs.Str.{IsUtf8, chars};
-    ghost use Rattle.utf8_cut.specs.Characters.{ill_formed_at, with_offsets};
-    ghost use Rattle.utf8_cut.specs.Sequences.{SpellsCharacter, IsIllFormed};
-    ghost use Rattle.utf8_cut.specs.Value.{between_characters};
-    ghost use Rattle.utf8_cut.specs.State.{StandsFor, IsPushed, IfChar, IfBad, OnMore, state_after, character_given, bad_given};
-
     /// Holds nothing, before the first byte.
     pub fn new() -> Cut
         ensures empty { result ≡ between_characters 0 }

@@ -26,7 +26,7 @@ returns-clause-passes g c =
     record {
       within = is.room;
       order = omega (arith, is.end);
-      reach = omega (arith, within, fits, c.min.ensures, c.min-2.ensures);
+      reach = omega (arith, within, fits, c.min.ensures, c.min-most.ensures);
       next = is.next;
       letter = is.following;
       text = passed.0;
