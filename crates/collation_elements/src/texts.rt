@@ -1,14 +1,13 @@
 //! The items of a whole text: its points, cut into units, and these weighed.
 
-ghost use Rattle.std.specs.Prelude.{◌≡◌, ◌+◌, ◌≤◌, ◌<◌, ℕ, List, [], ◌++◌, chars, true, false, length, All, None, OnOk, IfOk, IfErr};
+ghost use Rattle.std.specs.Prelude.{◌≡◌, ◌≤◌, List, [], chars, true, false, length, None, OnOk, IfOk, IfErr};
 ghost use Rattle.nfd_points.specs.declared.points.Point.{Point};
 ghost use Rattle.nfd_points.specs.Points.{points, byte_len};
 ghost use Rattle.nfd_points.specs.PointFaults.{point_fault};
-ghost use Rattle.nfd_points.specs.Reordering.{IsSoundPoint, is_closed};
-ghost use Rattle.collation_table.specs.Table.{longest_mapped, TableMap};
+ghost use Rattle.nfd_points.specs.Reordering.{is_closed};
+ghost use Rattle.collation_table.specs.Table.{longest_mapped};
 ghost use Rattle.collation_elements.specs.Units.{units};
 ghost use Rattle.collation_elements.specs.Items.{items};
-ghost use Rattle.collation_elements.specs.Windows.{WindowStandsFor};
 ghost use Rattle.collation_elements.specs.Texts.{Gives, HasSettings, IsUnread};
 ghost use Rattle.collation_elements.specs.declared.texts.ItemsFault.TheVariants.{Memory};
 

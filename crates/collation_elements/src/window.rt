@@ -1,6 +1,6 @@
 //! A window of points, from whose front units are cut once they are decided, so that what follows cannot change them (UTS #10,
 //! S2.1).
-ghost use Rattle.std.specs.Prelude.{◌≡◌, ◌+◌, ◌<◌, ◌≤◌, ◌↔◌, ◌==◌, ℕ, List, [], ◌∷◌, ◌++◌, Bool, true, false, length, take, drop, slice_get, is_some, Some, if◌then◌else◌, IsTrue, IsSome, IfSome, OnSome, IfNone, IfOk, option_copied};
+ghost use Rattle.std.specs.Prelude.{◌≡◌, ◌+◌, ◌<◌, ◌≤◌, ◌↔◌, List, [], ◌∷◌, ◌++◌, true, false, length, drop, slice_get, is_some, Some, if◌then◌else◌, IsTrue, IsSome, IfSome, OnSome, IfNone, IfOk, option_copied};
 ghost use Rattle.std.specs.List.{list_any, All, Contains};
 ghost use Rattle.unicode_normalization.specs.StreamSafe.{has_short_runs};
 ghost use Rattle.nfd_points.specs.declared.points.Point.{Point};

@@ -4,7 +4,7 @@ ghost use Rattle.std.specs.Prelude.{◌≡◌, ◌↔◌, [], ◌∷◌, IsTrue}
 ghost use Rattle.collation_pattern.specs.SortKey.{level};
 ghost use Rattle.collation_pattern.specs.Levels.{levels};
 ghost use Rattle.collation_pattern.specs.LevelWeights.{weights_of_key, level_weights};
-ghost use Rattle.collation_pattern.specs.Readers.{weights_left, TakesWeight};
+ghost use Rattle.collation_pattern.specs.Readers.{TakesWeight};
 
 use collation_elements::{Key, Strength};
 

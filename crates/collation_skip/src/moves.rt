@@ -7,7 +7,6 @@ ghost use Rattle.collation_letters.specs.Store.{AreLetters};
 ghost use Rattle.collation_letters.specs.declared.letter.Role.TheVariants.{Steps};
 ghost use Rattle.collation_skip.specs.BegunBytes.{begun_bytes};
 ghost use Rattle.collation_skip.specs.Reached.{IsHeld, IsMove};
-ghost use Rattle.byte_dfa.specs.declared.moves.TheConstants.{STOP};
 
 use crate::begun::Decoded;
 use crate::depth::depth_after;

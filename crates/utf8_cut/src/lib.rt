@@ -15,14 +15,14 @@
 //! carries `StandsFor` of `specs/State.antt` along, which `new` and `push` give.
 #![tactic(auto)]
 
-ghost use Rattle.std.specs.Prelude.{◌≡◌, ℕ, ◌+◌, ◌^◌, ◌<◌, ◌≤◌, List, [], ◌∷◌, ◌++◌, length, Option, IsTrue, ◌==◌, if◌then◌else◌, true, false, None, Some};
-ghost use Rattle.utf8_cut.specs.Characters.{characters_end, ill_formed_at, first_fault, with_offsets};
+ghost use Rattle.std.specs.Prelude.{◌≡◌, ℕ, ◌+◌, ◌^◌, ◌<◌, ◌≤◌, List, [], ◌∷◌, ◌++◌, length, IsTrue, false};
+ghost use Rattle.utf8_cut.specs.Characters.{ill_formed_at, with_offsets};
 ghost use Rattle.utf8_cut.specs.Value.{CutState, between_characters};
 ghost use Rattle.utf8_cut.specs.Inside.{state, IsSoundInside};
 ghost use Rattle.std.specs.Char.{len_utf8};
 ghost use Rattle.std.specs.Str.{IsUtf8, chars};
 ghost use Rattle.utf8_cut.specs.Sequences.{SpellsCharacter, IsIllFormed};
-ghost use Rattle.utf8_cut.specs.State.{StandsFor, IsPushed, IfChar, IfBad, OnMore, state_after, character_given, bad_given};
+ghost use Rattle.utf8_cut.specs.State.{StandsFor, IsPushed, IfChar, IfBad, state_after, character_given, bad_given};
 
 use arrayvec::ArrayVec;
 use sequence::Form;
