@@ -7,7 +7,7 @@ use crate::calls::{holds, put, same, same_at, text_is};
 use std::alloc::Global;
 use std::process::Abort;
 use utf8_cut::{
-    Cut, Cutting, any_bytes_may_follow, first_character, front,
+    Cut, Cutting, any_bytes_may_follow, ascii_len, first_character, front,
     incomplete_sequences_begin_characters, text_may_stand_before,
     whole_characters_are_the_longest_text,
 };
@@ -62,6 +62,15 @@ fn take_characters(cut: &mut Cut, count: u64) -> bool {
         return false;
     }
     cut.take_characters(count);
+    true
+}
+
+/// Takes so many bytes of ASCII at once, under the same conditions.
+fn take_ascii(cut: &mut Cut, count: u64) -> bool {
+    if cut.held_start() != cut.count() || cut.count() > 1u64 << 61 || count > 1u64 << 61 {
+        return false;
+    }
+    cut.take_ascii(count);
     true
 }
 
@@ -310,6 +319,68 @@ fn characters_are_taken_at_once(rt: HostRuntime) {
     same(&rt, &take_characters(&mut cut, 5), &true);
     ends_are(&rt, &cut, (6, 6, None));
     push_is(&rt, &mut cut, b'b', Cutting::Char('b', 6));
+}
+
+#[test]
+fn ascii_is_taken_at_once(rt: HostRuntime) {
+    let (_text, mut cut) = cut_of(&rt, rt.alloc(), b"\xc3\xa9");
+    same(&rt, &take_ascii(&mut cut, 3), &true);
+    ends_are(&rt, &cut, (5, 5, None));
+    push_is(&rt, &mut cut, b'a', Cutting::Char('a', 5));
+}
+
+/// Bytes, and how many of ASCII come first.
+const ASCII: [(&[u8], usize); 5] = [
+    (b"", 0),
+    (b"\xff", 0),
+    (b"abcdefghijklmnopqrstuvwxyzabcde\x80", 31),
+    (
+        b"abcdefghijklmnopqrstuvwxyzabcdefghijklmnopqrstuvwxyzabcdefghijkl\xc3",
+        64,
+    ),
+    (&[b'a'; 4096], 4096),
+];
+
+/// So many bytes of ASCII come first.
+fn ascii_len_is(rt: &impl Abort, bytes: &[u8], want: usize) {
+    same_at(rt, &ascii_len(bytes), &want, &bytes);
+}
+
+#[test]
+fn lengths_of_ascii(rt: HostRuntime) {
+    for (bytes, want) in &ASCII {
+        ascii_len_is(&rt, *bytes, *want);
+    }
+}
+
+/// So many bytes of ASCII, the least and the greatest in turn.
+fn ascii_of(rt: &impl Abort, alloc: Global, len: usize) -> Vec<u8> {
+    let mut bytes = Vec::new(alloc);
+    for at in 0..len {
+        let byte = if at % 2 == 0 { 0x7F } else { 0x00 };
+        bytes.push(byte).expect(rt, "memory");
+    }
+    bytes
+}
+
+/// So many bytes of ASCII are counted, also where another byte stands behind them, and ASCII behind that.
+fn ascii_ends(rt: &impl Abort, alloc: Global, len: usize, end: u8) {
+    let mut bytes = ascii_of(rt, alloc, len);
+    ascii_len_is(rt, &bytes, len);
+    bytes.push(end).expect(rt, "memory");
+    ascii_len_is(rt, &bytes, len);
+    let behind = ascii_of(rt, alloc, 70);
+    bytes.extend_from_slice(&behind).expect(rt, "memory");
+    ascii_len_is(rt, &bytes, len);
+}
+
+#[test]
+fn ascii_of_each_length(rt: HostRuntime) {
+    for len in 0..=300usize {
+        ascii_ends(&rt, rt.alloc(), len, 0x80);
+        ascii_ends(&rt, rt.alloc(), len, 0xC3);
+        ascii_ends(&rt, rt.alloc(), len, 0xFF);
+    }
 }
 
 const FIRSTS: [(&[u8], Option<char>); 10] = [

@@ -1,3 +1,4 @@
+pub mod AsciiLemmas
 pub mod CharacterLemmas
 pub mod CharactersLemmas
 pub mod PushLemmas

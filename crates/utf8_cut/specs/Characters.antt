@@ -2,7 +2,8 @@
 -- A list may hold any numbers: one above 255 is in no well-formed sequence, and so is ill-formed where it stands.
 use Rattle.std.specs.Prelude.{ℕ, ◌+◌, Bool, true, false, ◌&&◌, List, [], ◌∷◌, length, take, drop, ◌==◌, if◌then◌else◌, Option, None, Some}
 use Rattle.std.specs.Int.{is_in_range}
-use Rattle.std.specs.Char.{len_utf8, encode_utf8}
+use Rattle.std.specs.List.{prefix_len}
+use Rattle.std.specs.Char.{is_ascii, len_utf8, encode_utf8}
 use Rattle.std.specs.Str.{chars, is_utf8}
 use Rattle.std.specs.Str.Lossy.{utf8_valid_len, second_byte_min, second_byte_max}
 
@@ -51,6 +52,10 @@ ill_formed_at bytes = if is_utf8_prefix bytes then None else Some (characters_en
 -- the offset of the first sequence that is ill-formed, or incomplete at the end of the bytes
 abbrev pub first_fault : List ℕ → Option ℕ
 first_fault bytes = if characters_end bytes == length bytes then None else Some (characters_end bytes)
+
+-- how many bytes come before the first one that is no ASCII, 80 hex or more, or all of them
+abbrev pub ascii_prefix_len : List ℕ → ℕ
+ascii_prefix_len bytes = prefix_len is_ascii bytes
 
 -- `unfolding computing` under a statement on bytes that are written out lets it compute.
 unfoldable pub computing : Unit {0}

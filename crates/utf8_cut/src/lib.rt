@@ -3,9 +3,9 @@
 //!
 //! A [`Cut`] takes bytes in pieces of any size and gives each character as its last byte comes,
 //! with the offset of its first one. It holds at most three bytes. [`front`] gives the same text
-//! and the same fault for a whole slice, [`first_character`] the character at the front of one. No
-//! call takes memory. Offsets and counts are in bytes, from 0 at the first byte that was pushed, or
-//! at the slice's start.
+//! and the same fault for a whole slice, [`first_character`] the character at the front of one,
+//! [`ascii_len`] how many bytes of ASCII come first. No call takes memory. Offsets and counts are in
+//! bytes, from 0 at the first byte that was pushed, or at the slice's start.
 //!
 //! It stands on `simdutf8`, which tests a slice, and on `arrayvec`, which holds the bytes.
 //!
@@ -20,7 +20,7 @@ ghost use Rattle.utf8_cut.specs.Characters.{ill_formed_at, with_offsets};
 ghost use Rattle.utf8_cut.specs.Value.{CutState, between_characters};
 ghost use Rattle.utf8_cut.specs.Inside.{state, IsSoundInside};
 ghost use Rattle.std.specs.Char.{len_utf8};
-ghost use Rattle.std.specs.Str.{IsUtf8, chars};
+ghost use Rattle.std.specs.Str.{IsAscii, IsUtf8, chars};
 ghost use Rattle.utf8_cut.specs.Sequences.{SpellsCharacter, IsIllFormed};
 ghost use Rattle.utf8_cut.specs.State.{StandsFor, IsPushed, IfChar, IfBad, state_after, character_given, bad_given};
 
@@ -28,12 +28,14 @@ use arrayvec::ArrayVec;
 use sequence::Form;
 use std::marker::Model;
 
+mod ascii;
 mod character;
 mod laws;
 mod reading;
 mod sequence;
 mod slice;
 
+pub use ascii::ascii_len;
 pub use character::{first_character, sized_character};
 pub use laws::{
     any_bytes_may_follow, incomplete_sequences_begin_characters, text_may_stand_before,
@@ -132,6 +134,20 @@ impl Cut {
         let end = self.count + n;
         self.start = end;
         self.count = end;
+    }
+
+    /// Takes `n` bytes below 80 hex at once, as [`take_characters`](Cut::take_characters) does.
+    #[inline]
+    pub fn take_ascii(&mut self, n: u64)
+        requires between { self.old.start ≡ self.old.count }
+        requires fits { self.old.count + n ≤ 2 ^ 62 }
+        ensures state { self.new ≡ between_characters (self.old.count + n) }
+        ensures stands_for { (taken bytes : List ℕ) (given : List (ℕ × ℕ))
+            → StandsFor self.old taken given → length bytes ≡ n → IsAscii bytes
+            → StandsFor self.new (taken ++ bytes)
+            (given ++ with_offsets self.old.count bytes) }
+    {
+        self.take_characters(n);
     }
 
     // Takes any byte. `push` has a shorter way for ASCII between characters.
