@@ -80,5 +80,5 @@ def readme_examples(path):
 
 def main(parts, about):
     signal.signal(signal.SIGTERM, lambda *_: sys.exit(143))  # so that what was started is ended
-    checks.PARTS, checks.__doc__ = parts, about
+    checks.PARTS, checks.__doc__, checks.MOST_SECONDS = parts, about, 240
     checks.main()

@@ -18,6 +18,7 @@ LETTERS = os.path.join(TOP, "docs", "example", "letters.txt")
 CLDR = "/usr/share/unicode/cldr/common/uca/allkeys_CLDR.txt"
 NO_CLDR = f"there is no {CLDR}: apt-get install unicode-cldr-core"
 sys.path.insert(0, os.path.join(TOP, "tools"))
+import limited
 
 
 def installed(name):
@@ -83,7 +84,7 @@ class ReadmeTests:
 def main():
     """Runs the tests of the script that was called, and counts them in the last line."""
     tests = unittest.defaultTestLoader.loadTestsFromModule(sys.modules["__main__"])
-    result = unittest.TextTestRunner(stream=sys.stdout, buffer=True).run(tests)
+    result = limited.Runner(stream=sys.stdout, buffer=True).run(tests)
     for reason in sorted({reason for _, reason in result.skipped}):
         print(f"    skipped: {reason}")
     failed = len({test.id().split(" ")[0] for test, _ in result.failures + result.errors})

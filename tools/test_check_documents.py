@@ -6,6 +6,8 @@ import subprocess
 import tempfile
 import unittest
 
+import limited
+
 TOOLS = os.path.dirname(os.path.abspath(__file__))
 COLFIND = "#!/bin/sh\necho 0:3\necho colfind: fault 31 at 4 >&2\nexit 2\n"
 FILES = {
@@ -92,4 +94,4 @@ class CheckDocumentsTest(unittest.TestCase):
 
 
 if __name__ == "__main__":
-    unittest.main()
+    limited.main()

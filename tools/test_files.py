@@ -17,6 +17,7 @@ import unittest
 from concurrent.futures import ThreadPoolExecutor
 from unittest import mock
 
+import limited
 from stream_tests import CLOSED, LARGE, SIGNALS, StreamTests, default_signals
 
 TOOLS = os.path.dirname(os.path.abspath(__file__))
@@ -253,7 +254,7 @@ class FilesTest(StreamTests, unittest.TestCase):
         self.assertEqual(self.answer(*TABLE, "--show", "a", "long"), (0, wanted, b""))
 
     def test_temporary_file_that_fails(self):
-        with self.fifo(), ThreadPoolExecutor() as pool:
+        with ThreadPoolExecutor() as pool, self.fifo():
             pool.submit(self.write, "fifo", "my resume\n" * 10_000)
             limit = {"preexec_fn": lambda: resource.setrlimit(resource.RLIMIT_FSIZE, (1_000, 1_000))}
             answer = self.answer(*TABLE, "--show", "resume", "fifo", timeout=60, **limit)
@@ -298,12 +299,13 @@ class FilesTest(StreamTests, unittest.TestCase):
         try:
             yield path
         finally:
+            os.close(os.open(path, os.O_RDWR | os.O_NONBLOCK))  # whoever waits for its other end goes on
             os.unlink(path)
 
     def test_fifo(self):
         for options, printed in ([], b"fifo:3:9\nfifo:10:16\n"), (["--show", "-n"], b"fifo:1:my [resume]\nfifo:2:[resume]\n"):
             for jobs in "1", "2":
-                with self.fifo(), ThreadPoolExecutor() as pool:
+                with ThreadPoolExecutor() as pool, self.fifo():
                     writer = pool.submit(self.write, "fifo", "my resume\nresume\n" + "x\n" * 100_000)
                     answer = self.answer(*TABLE, *options, "-j", jobs, "resume", "fifo", timeout=60)
                     writer.result()
@@ -317,7 +319,7 @@ class FilesTest(StreamTests, unittest.TestCase):
                 self.assertEqual(self.answer(*TABLE, *options, "resume", "fifo", "one", timeout=60), (2, printed, complaint))
 
     def test_fifo_without_a_byte(self):
-        with self.fifo(), ThreadPoolExecutor() as pool:
+        with ThreadPoolExecutor() as pool, self.fifo():
             pool.submit(self.write, "fifo", "")
             self.assertEqual(self.answer(*TABLE, "--show", "resume", "fifo", timeout=60), (1, b"", b""))
 
@@ -417,4 +419,4 @@ if __name__ == "__main__":
     if not os.path.exists(COLFIND):
         sys.exit(f"there is no {COLFIND}: run `rt run` in crates/colfind")
     subprocess.run([os.path.join(TOP, "examples", "python", "build")], check=True)
-    unittest.main()
+    limited.main()

@@ -7,6 +7,8 @@ import re
 import subprocess
 import unittest
 
+import limited
+
 TOP = os.path.dirname(os.path.dirname(os.path.abspath(__file__)))
 ICU = "/usr/include/unicode/usearch.h"
 READ_BY = {"sh": ["sh", "-n"], "bash": ["bash", "-n"], "perl": ["perl", "-c"]}
@@ -57,4 +59,4 @@ class ScriptsTest(unittest.TestCase):
 
 
 if __name__ == "__main__":
-    unittest.main()
+    limited.main()

@@ -11,6 +11,7 @@ import tempfile
 import unittest
 from unittest import mock
 
+import limited
 from stream_tests import CLOSED, StreamTests, default_signals
 
 TOOLS = os.path.dirname(os.path.abspath(__file__))
@@ -295,4 +296,4 @@ class ShowTest(StreamTests, unittest.TestCase):
 
 
 if __name__ == "__main__":
-    unittest.main()
+    limited.main()

@@ -6,6 +6,7 @@ import sys
 import tempfile
 import unittest
 
+import limited
 from stream_tests import StreamTests, default_signals
 
 TOOLS = os.path.dirname(os.path.abspath(__file__))
@@ -137,4 +138,4 @@ class TailorTest(StreamTests, unittest.TestCase):
 if __name__ == "__main__":
     if not os.path.exists(COLFIND):
         sys.exit(f"there is no {COLFIND}: run `rt run` in crates/colfind")
-    unittest.main()
+    limited.main()

@@ -83,4 +83,4 @@ class TestTest(unittest.TestCase):
 
 
 if __name__ == "__main__":
-    unittest.main()
+    limited.main()

@@ -5,6 +5,8 @@ import tempfile
 import unittest
 from pathlib import Path
 
+import limited
+
 SOURCE = """//! A run.
 pub trait Source {
     fn read(&mut self) -> usize
@@ -124,4 +126,4 @@ class Turned(unittest.TestCase):
 
 
 if __name__ == "__main__":
-    unittest.main()
+    limited.main()

@@ -230,6 +230,8 @@ class ParallelTest(unittest.TestCase):
     def test_an_interrupt(self) -> None:
         """Ctrl-C ends it, between parts, and so the program."""
         code = f"""
+            import signal
+            signal.signal(signal.SIGINT, signal.default_int_handler)  # as a terminal has it, also where a shell has it ignored
             import colfind
             with open({str(LETTERS)!r}, "rb") as file:
                 pattern = colfind.Pattern(colfind.Table(file.read()), "aa", 1)

@@ -56,7 +56,8 @@ class Server:
         self.make()
         with open(f"{self.folder}.log", "wb") as log:
             self.process = subprocess.Popen([f"{BIN}/postgres", "-D", f"{self.folder}/data", *self.words], cwd=self.folder, stdout=log,
-                                            stderr=log, stdin=subprocess.DEVNULL, env=self.environment, **AS_NOBODY)
+                                            stderr=log, stdin=subprocess.DEVNULL, env=self.environment,
+                                            preexec_fn=lambda: signal.signal(signal.SIGINT, signal.SIG_DFL), **AS_NOBODY)
         try:
             self.wait()
         except BaseException:
