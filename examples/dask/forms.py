@@ -25,6 +25,7 @@ TABLE = Path("/usr/share/unicode/cldr/common/uca/allkeys_CLDR.txt")
 PART = 1 << 25  # the bytes of the corpus that a task makes and searches
 LINES, COMMON = 4_096, 20_000  # how many different lines the corpus has, and how many words stand beside the hundred
 CONTEXT = 24
+ALONE = {"dashboard_address": "127.0.0.1:0", "worker_dashboard_address": "127.0.0.1:0"}  # no port is open to other machines
 STARTS, VOWELS = "b br c ch d f g gr h l m n p pr qu r s st t tr v".split(), "a e i o u \u00e9 \u00e8 \u00ea \u00f4 \u00e7a".split()
 ENDS, ENDINGS = ["", "l", "n", "r", "s", "t", "nt"], ["", "", "", "s", "es", "er", "\u00e9"]
 
@@ -83,7 +84,7 @@ def main() -> None:
     if given.scheduler or given.scheduler_file:
         client = Client(given.scheduler, scheduler_file=given.scheduler_file)
     else:
-        client = Client(n_workers=given.workers, threads_per_worker=1, dashboard_address=None)
+        client = Client(n_workers=given.workers, threads_per_worker=1, **ALONE)
     with client:
         run(client, patterns, given.megabytes * 1_000_000)
 

@@ -2,12 +2,14 @@
 import os
 import pickle
 import random
+import re
+import shlex
 import subprocess
 import sys
 import time
 import unittest
 from collections import Counter
-from contextlib import ExitStack
+from contextlib import ExitStack, suppress
 from pathlib import Path
 from tempfile import TemporaryDirectory
 from unittest.mock import patch
@@ -17,6 +19,7 @@ from colfind import Fault, Kind, Pattern, Table
 
 try:
     import dask
+    import psutil
     from distributed import Client, as_completed
 
     import colfind_dask
@@ -179,9 +182,9 @@ class ClusterTest(Files):
         self.running = ExitStack()
         self.addCleanup(self.running.close)
         self.file = Path(self.folder.name) / "scheduler.json"
-        self.start("scheduler", "--host", "127.0.0.1", "--port", "0", "--scheduler-file", self.file)
-        self.workers = [self.start("worker", "--scheduler-file", self.file, "--host", "127.0.0.1", "--no-nanny", "--nthreads", "1",
-                                   "--memory-limit", "0") for _ in range(3)]
+        self.start("scheduler", "--host", "127.0.0.1", "--port", "0", "--dashboard-address", "127.0.0.1:0", "--scheduler-file", self.file)
+        self.workers = [self.start("worker", "--scheduler-file", self.file, "--host", "127.0.0.1", "--dashboard-address", "127.0.0.1:0",
+                                   "--no-nanny", "--nthreads", "1", "--memory-limit", "0") for _ in range(3)]
         until = time.monotonic() + 60
         while not self.file.exists() and time.monotonic() < until:
             time.sleep(0.05)
@@ -191,7 +194,7 @@ class ClusterTest(Files):
     def start(self, name: str, *words: object) -> subprocess.Popen:
         """One of Dask's programs, which is ended by its process id at the end of the test."""
         places = [str(Path(__file__).parent), str(Path(colfind_dask.__file__).parent), os.environ.get("PYTHONPATH", "")]
-        words = [sys.executable, "-m", f"distributed.cli.dask_{name}", "--no-dashboard", *map(str, words)]
+        words = [sys.executable, "-m", f"distributed.cli.dask_{name}", *map(str, words)]
         process = subprocess.Popen(words, cwd=self.folder.name, env={**os.environ, "PYTHONPATH": ":".join(places)},
                                    stdout=subprocess.DEVNULL, stderr=subprocess.DEVNULL)
         self.running.callback(self.end, process)
@@ -236,6 +239,72 @@ class ClusterTest(Files):
             said.append(done.stdout)
         self.assertEqual(said[0], said[1])
         self.assertGreater(len(said[0].splitlines()), 5)
+
+
+@unittest.skipUnless(FORMS.exists(), "no examples/dask")
+class PortsTest(unittest.TestCase):
+    """What is shown listens on the address that it names, or on this machine alone."""
+
+    def setUp(self) -> None:
+        self.folder = TemporaryDirectory()
+        self.addCleanup(self.folder.cleanup)
+        self.environment = {**os.environ, "PYTHONPATH": str(Path(colfind_dask.__file__).parent)}
+        self.processes: list[subprocess.Popen] = []
+        self.addCleanup(self.end)
+
+    def start(self, *words: object) -> subprocess.Popen:
+        streams = {"stdin": subprocess.PIPE, "stdout": subprocess.DEVNULL, "stderr": subprocess.DEVNULL}
+        self.processes.append(subprocess.Popen([sys.executable, *map(str, words)], cwd=self.folder.name, env=self.environment, **streams))
+        return self.processes[-1]
+
+    def end(self) -> None:
+        for process in self.processes:
+            with suppress(psutil.NoSuchProcess):
+                for one in psutil.Process(process.pid).children(recursive=True):
+                    one.kill()
+            process.kill()
+            process.communicate()
+
+    def listening(self) -> set[tuple[str, int]]:
+        """Where the processes listen that run, and those that they have started."""
+        found = set()
+        for process in self.processes:
+            with suppress(psutil.NoSuchProcess):
+                for one in [psutil.Process(process.pid), *psutil.Process(process.pid).children(recursive=True)]:
+                    found |= {tuple(there.laddr) for there in one.connections("inet") if there.status == psutil.CONN_LISTEN}
+        return found
+
+    def listens_alone(self, ports: int) -> None:
+        """So many ports are opened, and none of them to other machines."""
+        found, until = set(), time.monotonic() + 60
+        while len(found) < ports and time.monotonic() < until:
+            found |= self.listening()
+            time.sleep(0.02)
+        self.assertEqual(({address for address, _ in found}, len(found) >= ports), ({"127.0.0.1"}, True), found)
+
+    def test_the_example(self) -> None:
+        self.start(FORMS, "--megabytes", "1000", "--table", LETTERS, "--words", "5", "--workers", "2")
+        self.listens_alone(6)
+
+    def test_the_client_of_the_document(self) -> None:
+        call = re.search(r"this machine: Client\((.*)\)", (ROOT / "docs" / "LARGE.md").read_text("utf-8"))[1]
+        lines = "import sys", "from distributed import Client", "if __name__ == '__main__':", f"    with Client({call}):", "        sys.stdin.read()"
+        (Path(self.folder.name) / "alone.py").write_text("\n".join(lines))
+        self.start("alone.py")
+        self.listens_alone(6)
+
+    def test_the_commands_of_the_readme(self) -> None:
+        """With 127.0.0.1 for each address, and any port."""
+        text = re.sub(r"10\.0\.0\.\d", "127.0.0.1", FORMS.with_name("README.md").read_text("utf-8"))
+        text = text.replace(":8787", ":0").replace("--port 8786", "--port 0")
+        commands = dict(re.findall(r"^dask-(scheduler|worker) (.*)$", text, re.M))
+        self.assertEqual(sorted(commands), ["scheduler", "worker"])
+        file = Path(self.folder.name) / "scheduler.json"
+        self.start("-m", "distributed.cli.dask_scheduler", *shlex.split(commands["scheduler"]), "--scheduler-file", file)
+        self.listens_alone(2)
+        words = commands["worker"].replace("tcp://127.0.0.1:8786", f"--scheduler-file {file}").replace("auto", "2")
+        self.start("-m", "distributed.cli.dask_worker", *shlex.split(words))
+        self.listens_alone(6)
 
 
 if __name__ == "__main__":
