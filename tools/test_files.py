@@ -136,33 +136,61 @@ class FilesTest(StreamTests, unittest.TestCase):
             self.assertEqual(self.answer(*TABLE, *options, "resume", "secret", "good", **extra), (2, printed, complaint))
 
     def test_faults_of_every_file(self):
-        self.write("one", "resume")
-        self.write("two", "resume")
+        for name in "one", "two", "empty", "none":
+            self.write(name, "resume" if name in ("one", "two") else "")
         for words, line in [
-            (["--table", "missing", "resume"], b"colfind: fault 43 at 0 (No such file or directory)\n"),
-            (["--table", ".", "resume"], b"colfind: fault 43 at 0 (Is a directory)\n"),
-            (["--table", LETTERS, "--tailor", "missing", "resume"], b"colfind: fault 44 at 0 (No such file or directory)\n"),
-            (["--table", "one", "resume"], b"colfind: fault 1 at 1: a line of the table file is malformed\n"),
+            (["--table", "missing", "resume"], b"missing: colfind: fault 43 at 0 (No such file or directory)\n"),
+            (["--table", ".", "resume"], b".: colfind: fault 43 at 0 (Is a directory)\n"),
+            (["--table", LETTERS, "--tailor", "missing", "resume"], b"missing: colfind: fault 44 at 0 (No such file or directory)\n"),
+            (["--table", "one", "resume"], b"one: colfind: fault 1 at 1: a line of the table file is malformed\n"),
             (["--table", LETTERS, "--tailor=one", "resume"],
-             b"colfind: fault 61 at 1: in the tailor, a line of the table file is malformed\n"),
+             b"one: colfind: fault 61 at 1: in the tailor, a line of the table file is malformed\n"),
+            (["--table", "empty", "resume"], b"empty: colfind: fault 12 at 0: the table has no row\n"),
+            (["--table", "empty", "--tailor", "none", "resume"], b"empty and none: colfind: fault 12 at 0: the table has no row\n"),
             ([*TABLE, ""], b"colfind: fault 22 at 0: the pattern has nothing that counts at this strength\n"),
-            *((words, b"colfind: usage\n") for words in [
-                ["resume"], [*TABLE, "--strength", "1", "resume"], ["--table", LETTERS, "--strength=4", "resume"],
-                [*TABLE, "--variable=none", "resume"], [*TABLE, "--select=", "resume"], [*TABLE, b"r\xe9sum\xe9"],
-                ["--table", b"\xff", "resume"], [*TABLE, b"--tailor=\xff", "resume"],
-            ]),
         ]:
             for options in [], ["-j", "2"], ["--show"], ["--show", "-j9"]:
                 self.assertEqual(self.answer(*options, *words, "one", "two"), (2, b"", line))
 
     def test_words_that_are_wrong(self):
-        self.write("one", "resume")
-        for words in [
-            [], ["resume"], ["--from0", "resume", "one"], ["--none", "resume", "one"], ["-j", "0", "resume", "one"],
-            ["-n", "resume", "one"], ["--show", "--output", "count", "resume", "one"], ["--show", "--mark", "x", "resume", "one"],
+        """The line says which, and does so before any file is read."""
+        for words, said in [
+            ([], "there is no PATTERN"), (["resume"], "there is no FILE behind the PATTERN resume"),
+            (["--from0", "resume", "one"], "there is a FILE beside --from0"), (["--none", "resume", "one"], "option --none not recognized"),
+            (["-j", "0", "resume", "one"], "no number of jobs: 0"), (["-n", "resume", "one"], "-n and --mark go with --show"),
+            (["--show", "--output", "count", "resume", "one"], "--output does not go with --show"),
+            (["--show", "--mark", "x", "resume", "one"], "no kind of mark: x"), (["--tailor"], "option --tailor requires argument"),
+            (["--strength", "1", "resume", "one"], "--strength is given more than once"),
+            (["--variable=none", "resume", "one"], "--variable takes non-ignorable or shifted, and not 'none'"),
+            (["--select=", "resume", "one"], "--select takes all or chain, and not ''"),
+            ([b"r\xe9sum\xe9", "one"], "the PATTERN is not UTF-8: r\\xe9sum\\xe9"),
+            ([b"--tailor=\xff", "resume", "one"], "--tailor is not UTF-8: \\xff"),
         ]:
-            status, printed, complained = self.answer(*TABLE, *words)
-            self.assertEqual((status, printed, complained[:7]), (2, b"", b"files: "), words)
+            complaint = self.complaint(f"{said} (--help says more)")
+            self.assertEqual(self.answer(*TABLE, *words), (2, b"", complaint), words)
+        for words, said in [
+            (["resume", "one"], "there is no --table TABLE"), (["--from0", "resume"], "there is no --table TABLE"),
+            (["--table=none", "--strength=4", "resume", "one"], "--strength takes 3, 2 or 1, and not '4'"),
+        ]:
+            self.assertEqual(self.answer(*words), (2, b"", self.complaint(f"{said} (--help says more)")), words)
+
+    def test_names_in_complaints(self):
+        """Nothing of them acts on a terminal, and each complaint is a line."""
+        for name, shown in [
+            (b"a\nb", b"a\\nb"), (b"\x1b]0;x\x07\x1bc", b"\\x1b]0;x\\x07\\x1bc"), (b"\xc2\x9b2J\x7f", b"\\x9b2J\\x7f"),
+            (b"\xff\x9b", b"\\xff\\x9b"),
+            ("\u202egpj.\u2028".encode(), b"\\u202egpj.\\u2028"), ("caf\u00e9 \u6f22".encode(), "caf\u00e9 \u6f22".encode()),
+        ]:
+            self.write(name, b"\xff")
+            self.assertEqual(self.answer(*TABLE, "resume", name), (2, b"", shown + b": colfind: fault 31 at 0" + NOT_UTF_8 + b"\n"))
+            lacks = b": colfind: fault 41 at 0 (No such file or directory)\n"
+            for options in [], ["--show", "-j2"]:
+                self.assertEqual(self.answer(*TABLE, *options, "resume", name + b"-"), (2, b"", shown + b"-" + lacks))
+            complaint = b"files: no number of jobs: " + shown + b" (--help says more)\n"
+            self.assertEqual(self.answer(*TABLE, "--jobs", name, "resume", "x"), (2, b"", complaint))
+            if b"\xff" not in name:  # for colfind takes no such words
+                malformed = b": colfind: fault 1 at 1: a line of the table file is malformed\n"
+                self.assertEqual(self.answer("--table", name, "resume", name), (2, b"", shown + malformed))
 
     def test_lines_that_are_gone(self):
         """A file that gets shorter while it is searched, here at once, has no lines to show."""
