@@ -253,6 +253,12 @@ class FilesTest(StreamTests, unittest.TestCase):
             answer = self.ran_on_failing_input([FILES, *TABLE, *options, "--from0", "resume"], path + b"\0" + path + b"\0" + path)
             self.assertEqual(answer, (2, (path + b":0:6\n") * 2, self.complaint("standard input: Input/output error")))
 
+    def test_name_without_end(self):
+        path = self.write("one", "resume")
+        for options in [], ["-j9"]:
+            answer = self.ran([FILES, *TABLE, *options, "--from0", "resume"], path + b"\0" + b"x" * 50_000_000)
+            self.assertEqual(answer, (2, path + b":0:6\n", self.complaint("standard input: a name of more than 65536 bytes")))
+
     def test_closed_streams_that_are_not_used(self):
         path = self.write("one", "my resume")
         for options, printed in ([], b":3:9\n"), (["--show", "-j2"], b":my [resume]\n"):
