@@ -51,15 +51,34 @@ DIFFERENCES = [
     ("ค", "คุณ", (1, 2, 3), False, [], ["0:3"]),
     ("ຄ", "ຄຸນ", (1, 2, 3), False, [], ["0:3"]),
     ("བ", "བོད", (1, 2, 3), False, [], ["0:3"]),
+    ("ꦏ", "ꦏ\ua9c0", (1, 2, 3), False, [], ["0:3"]),
+    ("гд", "гд\u2ded\u0487ь", (1, 2, 3), False, [], ["0:4"]),
+    ("ko", "ko\u0364nig", (1, 2, 3), False, [], ["0:2"]),
     # ICU takes no match that begins inside a grapheme cluster
     ("या", "विद्यालय", (1, 2, 3), False, ["12:18"], []),
     ("\U0001f1ea\U0001f1eb", "\U0001f1e9\U0001f1ea\U0001f1eb\U0001f1f7", (1, 2, 3), False, ["4:12"], []),
     ("\U0001f4bb", "\U0001f469\u200d\U0001f4bb", (1, 2, 3), False, ["7:11"], []),
+    ("\n", "a\r\n", (1, 2, 3), False, ["2:3"], []),
+    ("1", "\u06dd1", (1, 2, 3), False, ["2:3"], []),
+    ("\u0e33", "\u0e19\u0e49\u0e33", (1, 2, 3), False, ["6:9"], []),
     # a match takes in the marks behind it
     ("မျာ", "များ", (1,), False, ["0:12"], ["0:9"]),
     ("မျာ", "များ", (2, 3), False, [], ["0:9"]),
+    ("b\n", "b\n\u0301", (1,), False, ["0:4"], ["0:2"]),
+    ("b\n", "b\n\u0301", (2, 3), False, [], ["0:2"]),
+    # letters without a first weight
+    ("\u0628", "\u0628\ufc5e", (1,), False, ["0:5"], ["0:2"]),
+    ("\u0628", "\u0628\ufc5e", (2, 3), False, [], ["0:2"]),
+    ("\ufe76", "\u0628\ufe76", (2, 3), False, [], ["2:5"]),
     # and in ignored characters
+    ("auto", "auto\u00admobil", (1, 2, 3), False, ["0:6"], ["0:4"]),
+    ("word", "word\u200b", (1, 2, 3), False, ["0:7"], ["0:4"]),
+    ("\u0643\u062a\u0627\u0628", "\u0643\u062a\u0627\u0628\u0640", (1, 2, 3), False, ["0:10"], ["0:8"]),
     ("មិន", "មិន\u200bឆ", (1, 2, 3), False, ["0:12"], ["0:9"]),
+    # the table has l with a middle dot as one string
+    ("col", "col\u00b7legi", (1,), False, ["0:5"], ["0:3"]),
+    ("col", "col\u00b7legi", (2, 3), False, [], ["0:3"]),
+    ("intel", "intel\u00b7ligent", (2, 3), False, [], ["0:5"]),
     # ICU takes some ideographs for others
     ("一", "丁", (1, 2, 3), True, [], ["0:3"]),
     # the same text, as one code point and as three: no match ends inside a code point
