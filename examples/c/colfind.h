@@ -178,8 +178,8 @@ colfind_place colfind_previous_safe(colfind_handle *handle, const uint8_t *bytes
 
 /* All ranges of a text in memory, by a search that was made before, for many texts; of one for a chain, the chain. With a fault of the text
  * they are those before it. Where there are more than have room, the first of them are written, and 84 and `count` say how many there are.
- * Memory is asked for as by colfind_feed, for all ranges of the text, and kept for the next one; where it is refused, 81, nothing is written.
- * What the search was fed is given up, with the ranges that wait; then it is at the beginning of a text. */
+ * Memory is asked for as by colfind_feed, for all ranges of the text, and kept for the next one; where it is refused, 81, it is not said
+ * what `out` then has. What the search was fed is given up, with the ranges that wait; then it is at the beginning of a text. */
 typedef struct { colfind_status status; size_t count; } colfind_all;
 colfind_all colfind_all_in(colfind_handle *search, const uint8_t *text, size_t n, colfind_range *out, size_t room);
 
