@@ -284,14 +284,14 @@ class PortsTest(unittest.TestCase):
 
     def test_the_example(self) -> None:
         self.start(FORMS, "--megabytes", "1000", "--table", LETTERS, "--words", "5", "--workers", "2")
-        self.listens_alone(6)
+        self.listens_alone(8)
 
     def test_the_client_of_the_document(self) -> None:
         call = re.search(r"this machine: Client\((.*)\)", (ROOT / "docs" / "LARGE.md").read_text("utf-8"))[1]
         lines = "import sys", "from distributed import Client", "if __name__ == '__main__':", f"    with Client({call}):", "        sys.stdin.read()"
         (Path(self.folder.name) / "alone.py").write_text("\n".join(lines))
         self.start("alone.py")
-        self.listens_alone(6)
+        self.listens_alone(8)
 
     def test_the_commands_of_the_readme(self) -> None:
         """With 127.0.0.1 for each address, and any port."""
@@ -304,7 +304,7 @@ class PortsTest(unittest.TestCase):
         self.listens_alone(2)
         words = commands["worker"].replace("tcp://127.0.0.1:8786", f"--scheduler-file {file}").replace("auto", "2")
         self.start("-m", "distributed.cli.dask_worker", *shlex.split(words))
-        self.listens_alone(6)
+        self.listens_alone(8)
 
 
 if __name__ == "__main__":
