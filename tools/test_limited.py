@@ -62,6 +62,27 @@ class LimitedTest(unittest.TestCase):
         self.assertIn("Ran 3 tests", printed)
         self.assertEqual((status, len(started), [pid for pid in started if is_running(pid)]), (1, 2, []))
 
+    def test_part_without_end(self):
+        """Of package/check and of the checks of integrations, which have their parts tried by it."""
+        code = """
+import subprocess, sys
+sys.path.insert(0, "integrations")
+import parts
+
+def hangs():
+    "It has no end."
+    subprocess.run(["sh", "-c", "trap '' INT TERM; while :; do sleep 1; done"])
+
+def passes():
+    "It has one."
+
+parts.checks.PARTS, parts.checks.MOST_SECONDS = [hangs, passes], 1
+parts.checks.main()
+"""
+        ran = subprocess.run([sys.executable, "-c", code], cwd=TOP, stdout=subprocess.PIPE, text=True, check=False)
+        wanted = ["hangs: It has no end.", "    FAILED: no end in 1 seconds", "passes: It has one.", "1 passed, 1 failed, 0 skipped"]
+        self.assertEqual((ran.returncode, ran.stdout.splitlines()), (1, wanted))
+
     def test_signals_that_are_ignored(self):
         """As a shell has SIGINT ignored in a job that a script starts with `&`, and nohup SIGHUP."""
         ignore = {"preexec_fn": lambda: [signal.signal(number, signal.SIG_IGN) for number in (signal.SIGINT, signal.SIGTERM, signal.SIGHUP)]}
