@@ -20,8 +20,9 @@ class Test(unittest.TestCase):
     most_seconds = 2
 
     def test_a_child_that_ends_by_no_signal(self):
-        words = ["sh", "-c", "trap '' INT TERM; sleep 1000 & echo $$ $! > started; while :; do wait; done"]
+        words = ["sh", "-c", "trap '' INT TERM; sleep 1000 & echo $$ $! | tee started; while :; do wait; done"]
         with subprocess.Popen(words, stdout=subprocess.PIPE) as child:
+            child.stdout.readline()
             child.send_signal(signal.SIGINT)
             child.communicate(timeout=1)
 
