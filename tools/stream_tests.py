@@ -28,7 +28,7 @@ class StreamTests:
     environment = dict(os.environ)
 
     def complaint(self, words):
-        return f"{os.path.basename(self.script)}: {words}\n".encode()
+        return f"{os.path.basename(self.script)}: {words}\n".encode(errors="surrogateescape")
 
     def ran(self, words, given=b"", **extra):
         """The status, what is printed and what is complained of."""

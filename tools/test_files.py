@@ -163,8 +163,8 @@ class FilesTest(StreamTests, unittest.TestCase):
             (["--strength", "1", "resume", "one"], "--strength is given more than once"),
             (["--variable=none", "resume", "one"], "--variable takes non-ignorable or shifted, and not 'none'"),
             (["--select=", "resume", "one"], "--select takes all or chain, and not ''"),
-            ([b"r\xe9sum\xe9", "one"], "the PATTERN is not UTF-8: r\\xe9sum\\xe9"),
-            ([b"--tailor=\xff", "resume", "one"], "--tailor is not UTF-8: \\xff"),
+            ([b"r\xe9sum\xe9", "one"], "the PATTERN is not UTF-8: r\udce9sum\udce9"),
+            ([b"--tailor=\xff", "resume", "one"], "--tailor is not UTF-8: \udcff"),
         ]:
             complaint = self.complaint(f"{said} (--help says more)")
             self.assertEqual(self.answer(*TABLE, *words), (2, b"", complaint), words)
@@ -177,11 +177,11 @@ class FilesTest(StreamTests, unittest.TestCase):
     def test_names_in_complaints(self):
         """Nothing of them acts on a terminal, and each complaint is a line."""
         for name, shown in [
-            (b"a\nb", b"a\\nb"), (b"\x1b]0;x\x07\x1bc", b"\\x1b]0;x\\x07\\x1bc"), (b"\xc2\x9b2J\x7f", b"\\x9b2J\\x7f"),
-            (b"\xff\x9b", b"\\xff\\x9b"),
-            ("\u202egpj.\u2028".encode(), b"\\u202egpj.\\u2028"), ("caf\u00e9 \u6f22".encode(), "caf\u00e9 \u6f22".encode()),
+            (b"a\nb", "a\ufffdb"), (b"\x1b]0;x\x07\x1bc", "\ufffd]0;x\ufffdc"), (b"\xc2\x9b2J\x7f", "\ufffd2J\ufffd"),
+            (b"\xff\x9b", "\udcff\ufffd"), ("\u202egpj.\u2028".encode(), "\ufffdgpj.\ufffd"), ("caf\u00e9 \u6f22".encode(), "caf\u00e9 \u6f22"),
         ]:
             self.write(name, b"\xff")
+            shown = os.fsencode(shown)
             self.assertEqual(self.answer(*TABLE, "resume", name), (2, b"", shown + b": colfind: fault 31 at 0" + NOT_UTF_8 + b"\n"))
             lacks = b": colfind: fault 41 at 0 (No such file or directory)\n"
             for options in [], ["--show", "-j2"]:
