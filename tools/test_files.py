@@ -178,7 +178,8 @@ class FilesTest(StreamTests, unittest.TestCase):
         """Nothing of them acts on a terminal, and each complaint is a line."""
         for name, shown in [
             (b"a\nb", "a\ufffdb"), (b"\x1b]0;x\x07\x1bc", "\ufffd]0;x\ufffdc"), (b"\xc2\x9b2J\x7f", "\ufffd2J\ufffd"),
-            (b"\xff\x9b", "\udcff\ufffd"), ("\u202egpj.\u2028".encode(), "\ufffdgpj.\ufffd"), ("caf\u00e9 \u6f22".encode(), "caf\u00e9 \u6f22"),
+            (b"\xff\x9b", "\udcff\ufffd"), ("\u202egpj.\u2028".encode(), "\ufffdgpj.\ufffd"),
+            ("caf\u00e9 \u6f22".encode(), "caf\u00e9 \u6f22"),
         ]:
             self.write(name, b"\xff")
             shown = os.fsencode(shown)
