@@ -82,6 +82,7 @@ class TestTest(unittest.TestCase):
             ("1", "rt: FAILED: x\n190 passed, 1 failed\n", "190 passed, 1 failed"),
             ("2", "191 passed, 0 failed\n", "191 passed, 1 failed"),
             ("137", "", "0 passed, 1 failed"),
+            ("0", "rt: proving\n", "0 passed, 1 failed"),
         ]:
             self.prints([*left, f"{counts}, 7 skipped{LEFT_OUT}"], 1, "--gate", status, gate=gate)
 
