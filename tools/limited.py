@@ -31,8 +31,8 @@ def descendants(pid):
 
 
 def start(seconds):
-    """From now on there are so many seconds, with 0 any. Where they are over, in whatever call, all processes are killed that this one has started, and
-    the call raises NoEnd."""
+    """From now on there are so many seconds, with 0 any. Where they are over, in whatever call, all processes are killed that this one has
+    started, and the call raises NoEnd."""
     def end(*_):
         for pid in descendants(os.getpid()):
             with contextlib.suppress(ProcessLookupError):
