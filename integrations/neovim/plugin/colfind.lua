@@ -16,7 +16,9 @@ api.nvim_create_user_command('ColfindClear', function()
 end, { desc = 'mark no matches' })
 api.nvim_create_user_command('ColfindGrep', function(given)
   require('colfind').grep(given.args)
-end, { nargs = '+', complete = 'file', desc = 'matches of this buffer or of files as a quickfix list' })
+end, { nargs = '+', complete = function(...) -- with 'file' Neovim would expand the words
+  return require('colfind').complete(...)
+end, desc = 'matches of this buffer or of files as a quickfix list' })
 
 local group = api.nvim_create_augroup('colfind', {})
 api.nvim_create_autocmd('CmdlineChanged', { group = group, pattern = ':', callback = function()
@@ -30,22 +32,13 @@ api.nvim_create_autocmd('CmdlineLeave', { group = group, pattern = ':', callback
   end
 end })
 
--- A key that jumps to matches, and does what it did before in a diff, or where there is no pattern.
+-- A key that jumps to matches. As a command, and no function, it can be repeated by `.` behind an operator.
 local function map(key, plug, direction, desc)
-  local function jump()
-    require('colfind').step(direction, vim.v.count1)
+  local modes, jump = { 'n', 'x', 'o' }, "<Cmd>lua require('colfind').%s<CR>"
+  vim.keymap.set(modes, plug, jump:format(('step(%d, vim.v.count1)'):format(direction)), { desc = desc })
+  if not (vim.g.colfind_no_mappings or vim.fn.hasmapto(plug) == 1 or vim.fn.maparg(key, 'n') ~= '') then
+    vim.keymap.set(modes, key, jump:format(("press('%s', %d)"):format(key, direction)), { desc = desc })
   end
-  vim.keymap.set({ 'n', 'x', 'o' }, plug, jump, { desc = desc })
-  if vim.g.colfind_no_mappings or vim.fn.hasmapto(plug) == 1 or vim.fn.maparg(key, 'n') ~= '' then
-    return
-  end
-  vim.keymap.set({ 'n', 'x', 'o' }, key, function()
-    if vim.wo.diff or not (package.loaded.colfind and require('colfind').has_pattern()) then
-      vim.cmd('normal! ' .. vim.v.count1 .. key)
-    else
-      jump()
-    end
-  end, { desc = desc })
 end
 map(']c', '<Plug>(colfind-next)', 1, 'next match of :Colfind')
 map('[c', '<Plug>(colfind-previous)', -1, 'previous match of :Colfind')

@@ -85,5 +85,21 @@ T.test('without incsearch, and with !, the cursor stays', function()
   T.same('behind ENTER', looks(2), { { {}, { 'resume' } }, { 2, 0 }, 'n' })
 end)
 
+T.test('an operator with a jump is repeated by a dot', function()
+  begin('')
+  ask("vim.keymap.set({ 'n', 'o' }, ']d', '<Plug>(colfind-next)')")
+  type_keys(':Colfind! resume<CR>')
+  for _, case in ipairs({
+    { 'd]c.', 'resume2 resume3 resume4' }, { 'd]d.', 'resume2 resume3 resume4' }, { 'd]c..', 'resume3 resume4' },
+    { 'd2]c.', 'resume4' }, { '2d]c.', 'resume4' }, { 'd]c2.', 'resume3 resume4' }, { 'd]cu.', 'resume1 resume2 resume3 resume4' },
+    { 'c]cx<Esc>w.', 'xresume1 xresume3 resume4' }, { '$d[c.', 'a resume1 resume2 4' }, { 'qqd]cq@q', 'resume2 resume3 resume4' },
+    { 'v]cd.', 'me1 resume2 resume3 resume4' },
+  }) do
+    ask('T.lines(...)', 'a resume1 resume2 resume3 resume4')
+    type_keys(case[1])
+    T.same(case[1], ask('return vim.fn.getline(1)'), case[2])
+  end
+end)
+
 vim.fn.chanclose(child)
 T.done()

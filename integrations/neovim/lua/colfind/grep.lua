@@ -1,6 +1,9 @@
 -- Matches in buffers and files as a quickfix list, which grows while they are searched in pieces.
+local file = require('colfind.file')
 local library = require('colfind.library')
+local names = require('colfind.names')
 local say = require('colfind.say')
+local words = require('colfind.words')
 local work = require('colfind.work')
 local api = vim.api
 local M = {}
@@ -8,20 +11,9 @@ local M = {}
 local BYTES = 65536 -- of a piece of a text
 local ITEMS = 1000 -- that are added at once
 local LINE = 1000 -- bytes of a line that are shown
+local MOST = 100000 -- matches of a list
 
 local stop_before = function() end
-
--- The pattern and the files of an argument, as :vimgrep has them: `/PATTERN/ FILE..` with any sign that is none of a name, or
--- `PATTERN FILE..`.
-local function parse(argument)
-  local sign = argument:match('^[^%w_%s\128-\255\\]')
-  if not sign then
-    return argument:match('^(%S+)%s*(.*)$')
-  end
-  local stop = argument:find(sign, 2, true) or #argument + 1
-  local rest = argument:sub(stop + 1)
-  return argument:sub(2, stop - 1), rest:match('^[gj]*%s+(.*)$') or rest:match('^[gj]*$') and '' or rest
-end
 
 -- The loaded buffers by the whole names of their files.
 local function buffers()
@@ -34,34 +26,58 @@ local function buffers()
   return named
 end
 
--- What words mean, with `*`, `**`, `%` and the like: each file once, and its buffer where it is loaded.
-local function sources_of(words)
-  local sources, has, named = {}, {}, buffers()
-  for word in words:gsub('\\ ', '\1'):gmatch('%S+') do
-    for _, name in ipairs(vim.fn.expand(word:gsub('\1', ' '), false, true)) do
-      local whole = vim.fn.fnamemodify(name, ':p')
-      if not has[whole] and vim.fn.isdirectory(name) == 0 then
-        has[whole] = true
-        sources[#sources + 1] = { name = name, buf = named[whole] }
+-- What words mean: buffers, names, and words for these. As in Vim `%` is this buffer, `#` the one before, `##` the list of arguments.
+local function meanings(of)
+  local found = {}
+  for _, word in ipairs(of) do
+    local buf = (word == '%' or word == '#') and vim.fn.bufnr(word) or -1
+    if buf > 0 then
+      found[#found + 1] = api.nvim_buf_is_loaded(buf) and { buf = buf } or { name = api.nvim_buf_get_name(buf) }
+    elseif word == '##' then
+      for _, name in ipairs(vim.fn.argv()) do
+        found[#found + 1] = { name = name }
       end
+    else
+      found[#found + 1] = { word = word }
     end
   end
-  return sources
+  return found
+end
+
+-- Calls `visit(source)` for each buffer and file that is meant, once, and `visit(nil, why)` for what can't be read.
+local function each_source(meant, base, visit)
+  local named, has = buffers(), {}
+  local function once(name, whole, why)
+    local buf = named[whole]
+    if why or not has[buf or whole] then
+      has[buf or whole or why] = true
+      visit(not why and { name = name, whole = whole, buf = buf } or nil, why)
+    end
+  end
+  for _, of in ipairs(meant) do
+    if of.word then
+      names.each(of.word, base, once)
+    elseif of.name then
+      once(of.name, file.whole(of.name:find('^/') and of.name or base .. '/' .. of.name))
+    elseif not has[of.buf] then
+      has[of.buf] = true
+      visit({ buf = of.buf })
+    end
+  end
+end
+
+local function shown_name(source)
+  local name = source.name or api.nvim_buf_is_valid(source.buf) and api.nvim_buf_get_name(source.buf) or ''
+  return name ~= '' and name or '[No Name]'
 end
 
 local function text_of(source)
   if source.buf and api.nvim_buf_is_loaded(source.buf) then
     return table.concat(api.nvim_buf_get_lines(source.buf, 0, -1, false), '\n') .. '\n'
-  elseif not source.name then
+  elseif not source.whole then
     return nil, 'the buffer is loaded no more'
   end
-  local file, why = io.open(source.name, 'rb')
-  local text
-  if file then
-    text, why = file:read('*a')
-    file:close()
-  end
-  return text, why or source.name .. ': it can not be read'
+  return file.read(source.whole, source.name)
 end
 
 -- The part of a text from a byte on that is searched next, which ends where a character does, and the byte behind it.
@@ -88,89 +104,106 @@ end
 
 -- The line at a place, or as much of it as is shown, up to the end of a character.
 local function shown_line(text, place)
-  local line = text:sub(place.begin + 1, math.min(place.newline - 1, place.begin + LINE))
-  if place.begin + #line < place.newline - 1 then
-    line = line:gsub('[\192-\255]?[\128-\191]*$', '')
+  if place.shown_of ~= place.line then
+    local line = text:sub(place.begin + 1, math.min(place.newline - 1, place.begin + LINE))
+    if place.begin + #line < place.newline - 1 then
+      line = line:gsub('[\192-\255]?[\128-\191]*$', '')
+    end
+    place.shown, place.shown_of = say.clean((line:gsub('\r$', ''))), place.line
   end
-  return (line:gsub('\r$', ''))
+  return place.shown
 end
 
--- The items of the ranges that follow the first `taken`, at most ITEMS, with the places of their ends.
-local function items_of(source, text, stream, taken, from, to)
+-- The items of the ranges from one to before another, with the places of their ends.
+local function items_of(source, text, stream, first, stop_before, from, to)
   local items = {}
-  for i = taken, math.min(stream.count, taken + ITEMS) - 1 do
+  for i = first, stop_before - 1 do
     local start, stop = stream:range(i)
     advance(text, from, start)
     advance(text, to, stop)
     items[#items + 1] = {
-      filename = not source.buf and source.name or nil, bufnr = source.buf, text = shown_line(text, from),
+      filename = not source.buf and source.whole or nil, bufnr = source.buf, text = shown_line(text, from),
       lnum = from.line, col = start - from.begin + 1, end_lnum = to.line, end_col = stop - to.begin + 1,
     }
   end
   return items
 end
 
--- Searches a text: how many matches it has, and its fault. At each `coroutine.yield` the user may type.
-local function search_source(pattern, source, list)
+-- Searches a text for so many matches: how many it has, or one more, and its fault. At each `coroutine.yield` the user may type.
+local function search_source(pattern, source, list, most)
   local text, why = text_of(source)
   if not text then
     return 0, why
   end
   local stream, at = library.stream(pattern), 1
-  while at <= #text do
+  while at <= #text and stream.count <= most do
     local piece, behind = next_piece(text, at)
     stream:feed(piece)
     at = behind
     coroutine.yield()
   end
   stream:finish()
-  local from, to = first_place(text), first_place(text)
-  for taken = 0, stream.count - 1, ITEMS do
-    vim.fn.setqflist({}, 'a', { id = list, items = items_of(source, text, stream, taken, from, to) })
+  local from, to, count = first_place(text), first_place(text), math.min(stream.count, most)
+  for first = 0, count - 1, ITEMS do
+    local items = items_of(source, text, stream, first, math.min(count, first + ITEMS), from, to)
+    vim.fn.setqflist({}, 'a', { id = list, items = items })
     coroutine.yield()
   end
-  return stream.count, stream.fault and ('%s: %s'):format(source.name or api.nvim_buf_get_name(source.buf), stream.fault)
+  return math.min(stream.count, most + 1), stream.fault and ('%s: %s'):format(shown_name(source), stream.fault)
 end
 
-local function tell(pattern, count, files, of_files, faults)
-  if #faults > 0 then
-    say.fault(('%d matches, %s: %s'):format(count, #faults == 1 and '1 fault' or #faults .. ' faults', faults[1]))
-  elseif count == 0 then
+local function tell(pattern, got)
+  vim.cmd('silent doautocmd <nomodeline> QuickFixCmdPost ColfindGrep')
+  local many = ('%d matches%s'):format(got.count, got.is_full and ', and more that are left out' or '')
+  if got.faults > 0 then
+    say.fault(('%s, %s: %s'):format(many, got.faults == 1 and '1 fault' or got.faults .. ' faults', got.first_fault))
+  elseif got.count == 0 then
     say.say('E480: No match: ' .. pattern.text, 'ErrorMsg')
   else
-    say.say(('%d matches in %d of %d files'):format(count, files, of_files), 'Normal')
+    say.say(('%s in %d of %d files'):format(many, got.files, got.of_files), got.is_full and 'WarningMsg' or 'Normal')
   end
 end
 
-local function search_all(pattern, sources, list)
-  local count, files, faults = 0, 0, {}
-  for _, source in ipairs(sources) do
-    local found, fault = search_source(pattern, source, list)
-    count, files = count + found, files + (found > 0 and 1 or 0)
-    faults[#faults + 1] = fault
-  end
-  vim.cmd('silent doautocmd <nomodeline> QuickFixCmdPost ColfindGrep')
-  tell(pattern, count, files, #sources, faults)
+-- Searches all that is meant, and tells how it went. It yields true where the list is full.
+local function search_all(pattern, meant, base, list)
+  local got = { count = 0, files = 0, of_files = 0, faults = 0 }
+  each_source(meant, base, function(source, why)
+    if source then
+      local found
+      found, why = search_source(pattern, source, list, MOST - got.count)
+      got.of_files, got.files = got.of_files + 1, got.files + (found > 0 and 1 or 0)
+      got.is_full, got.count = got.count + found > MOST, math.min(MOST, got.count + found)
+    end
+    if why then
+      got.faults, got.first_fault = got.faults + 1, got.first_fault or why
+    end
+    if got.is_full then
+      tell(pattern, got)
+      coroutine.yield(true)
+    end
+  end)
+  tell(pattern, got)
 end
 
 -- Begins to search, and makes a new list. Without files it is the buffer of the window that is searched.
 function M.grep(argument)
-  local text, words = parse(argument)
+  local text, rest = words.pattern(argument)
   local pattern, why = library.pattern(text, nil, true)
   if not pattern then
     return say.fault(why)
   end
-  local sources = words == '' and { { buf = api.nvim_get_current_buf() } } or sources_of(words)
-  vim.fn.setqflist({}, ' ', { title = ':ColfindGrep ' .. argument, items = {} })
+  local named = words.split(rest)
+  local meant = meanings(#named > 0 and named or { '%' })
+  vim.fn.setqflist({}, ' ', { title = say.clean(':ColfindGrep ' .. argument), items = {} })
   local list = vim.fn.getqflist({ id = 0 }).id
-  local run = coroutine.create(search_all)
+  local base, run = vim.loop.cwd(), coroutine.create(search_all)
   stop_before()
   stop_before = work.start(function(deadline)
     repeat
-      local good, failure = coroutine.resume(run, pattern, sources, list)
-      assert(good, failure)
-    until coroutine.status(run) == 'dead' or work.is_over(deadline)
-    return coroutine.status(run) ~= 'dead'
+      local good, is_over = coroutine.resume(run, pattern, meant, base, list)
+      assert(good, is_over)
+    until is_over or coroutine.status(run) == 'dead' or work.is_over(deadline)
+    return not is_over and coroutine.status(run) ~= 'dead'
   end, 0, say.fault)
 end
 

@@ -4,6 +4,7 @@ local jump = require('colfind.jump')
 local library = require('colfind.library')
 local marks = require('colfind.marks')
 local say = require('colfind.say')
+local words = require('colfind.words')
 local api = vim.api
 local M = {}
 
@@ -12,6 +13,7 @@ local is_shown = false -- whether it is marked
 local preview -- while :Colfind is typed: its text and pattern, the buffer, and the view to go back to
 
 M.grep = grep.grep
+M.complete = words.complete
 
 -- Tells the fault of a text, once a :Colfind.
 local function told_fault(scan)
@@ -69,8 +71,13 @@ function M.step(direction, count)
   go(direction, count)
 end
 
-function M.has_pattern()
-  return current ~= nil
+-- What a key does that jumps to matches: in a diff, or where there is no pattern, what it did before.
+function M.press(key, direction)
+  if vim.wo.diff or not current then
+    vim.cmd('normal! ' .. vim.v.count1 .. key)
+  else
+    M.step(direction, vim.v.count1)
+  end
 end
 
 -- Marks no more, until the next jump.

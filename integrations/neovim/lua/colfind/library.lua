@@ -1,5 +1,6 @@
 -- The proved library by LuaJIT's ffi: tables, patterns, and searches that go on behind bytes that are no text.
 -- A call that can fail gives nil and a message.
+local file = require('colfind.file')
 local M = {}
 
 local HEADER = [[
@@ -56,21 +57,11 @@ local function handle(C)
   return ffi.gc(ffi.new('colfind_handle'), C.colfind_free)
 end
 
-local function read_file(path)
-  local file, why = io.open(path, 'rb')
-  local data
-  if file then
-    data, why = file:read('*a')
-    file:close()
-  end
-  return data, data and nil or (why or path .. ': it can not be read')
-end
-
 local function read_table(C, path, tailor)
-  local base, why = read_file(path)
+  local base, why = file.read(file.from_home(path), path)
   local more = ''
   if base and tailor ~= '' then
-    more, why = read_file(tailor)
+    more, why = file.read(file.from_home(tailor), tailor)
   end
   if not base or not more then
     return nil, 'the table: ' .. why
@@ -101,8 +92,8 @@ function M.settings()
   local g = vim.g
   local got = {
     library = tostring(g.colfind_library or 'libcolfind.so.1'),
-    table = vim.fn.expand(tostring(g.colfind_table or CLDR)),
-    tailor = vim.fn.expand(tostring(g.colfind_tailor or '')),
+    table = tostring(g.colfind_table or CLDR),
+    tailor = tostring(g.colfind_tailor or ''),
     strength = tonumber(g.colfind_strength or 1),
     variable = tostring(g.colfind_variable or 'non-ignorable'),
   }
