@@ -105,6 +105,14 @@ static emacs_value pattern(emacs_env *env, ptrdiff_t n, emacs_value *args, void 
     return result;
 }
 
+/* (colfind--free PATTERN): what a pattern holds is freed before Emacs finds that nothing refers to it. Calls with it are faults then. */
+static emacs_value free_at_once(emacs_env *env, ptrdiff_t n, emacs_value *args, void *data) {
+    (void)n, (void)data;
+    held *of = held_by(env, args[0], PATTERN);
+    if (of) colfind_free(&of->search), colfind_free(&of->handle);
+    return args[0];
+}
+
 /* Has a search begin a text by itself, behind so many bytes. One that was ended is made anew; another keeps what it found of characters. */
 static colfind_status begin_behind(held *of, uint64_t base) {
     colfind_status status = colfind_first_in(&of->search, (const uint8_t *)"", 0, 0).status;
@@ -170,6 +178,7 @@ int emacs_module_init(struct emacs_runtime *runtime) {
     static const struct { const char *name, *about; ptrdiff_t n; emacs_function call; } calls[] = {
         {"colfind--table", "The table of the files BASE and TAILOR.\n\n(fn BASE TAILOR)", 2, table},
         {"colfind--pattern", "The pattern of STRING.\n\n(fn TABLE STRING STRENGTH VARIABLE)", 4, pattern},
+        {"colfind--free", "Free PATTERN.\n\n(fn PATTERN)", 1, free_at_once},
         {"colfind--begin", "Begin a text for PATTERN.\n\n(fn PATTERN)", 1, begin},
         {"colfind--feed", "The ranges known with STRING, the last first.\n\n(fn PATTERN STRING IS-LAST)", 3, feed},
     };

@@ -12,6 +12,7 @@
 ;;; Code:
 
 (require 'colfind-module)
+(require 'seq)
 
 (define-error 'colfind-error "colfind")
 
@@ -45,49 +46,69 @@ They are those of 31 code points and the longest string of a table at most.")
 (defconst colfind--garbage (* 64 1024 1024)
   "Bytes of pieces that a search leaves behind before they are collected.")
 
+(defconst colfind--most-of-file 256
+  "Megabytes of the file of a table.")
+
+(defconst colfind--most-tables 4
+  "Tables that are kept, those that were asked for last.")
+
 (defvar colfind--tables nil
-  "The tables that were read, by the names of their files.")
+  "The tables that are kept, by the names of their files, in front the last one.")
 
 (defvar colfind--latest nil
-  "The pattern that was made last, behind what it was made of.")
+  "The pattern that was made last, behind what it was made of.
+No other is kept, for one string is searched at a time.")
+
+(defun colfind--wrong-file (name)
+  "Why NAME, if it is there, is no file for a table; or nil."
+  (cond ((file-directory-p name) "Is a directory")
+        ((and (file-exists-p name)
+              (not (and (file-regular-p name)
+                        (<= (file-attribute-size (file-attributes (file-truename name))) (* colfind--most-of-file 1024 1024)))))
+         (format "no file of at most %d MB" colfind--most-of-file))))
 
 (defun colfind--file (name)
-  "The bytes of the file NAME, or none."
+  "The bytes of the file NAME, or none where NAME is nil.
+It is one of this machine, whatever NAME means to others, as to Tramp."
   (if name
-      (with-temp-buffer
-        (set-buffer-multibyte nil)
-        (insert-file-contents-literally name)
-        (decode-coding-string (buffer-string) 'latin-1))
+      (let* ((file-name-handler-alist nil) (wrong (colfind--wrong-file name)))
+        (when wrong
+          (signal 'file-error (list wrong name)))
+        (with-temp-buffer
+          (set-buffer-multibyte nil)
+          (insert-file-contents-literally name)
+          (decode-coding-string (buffer-string) 'latin-1)))
     ""))
 
 (defun colfind--table-of ()
-  "The table of the options, which is read once."
-  (let ((key (list colfind-table colfind-tailor)))
-    (or (cdr (assoc key colfind--tables))
-        (let ((table (colfind--table (colfind--file colfind-table) (colfind--file colfind-tailor))))
-          (push (cons key table) colfind--tables)
-          table))))
+  "The table of the options, which is read once while it is among the last."
+  (let* ((key (list colfind-table colfind-tailor))
+         (kept (or (assoc key colfind--tables)
+                   (cons key (colfind--table (colfind--file colfind-table) (colfind--file colfind-tailor))))))
+    (setq colfind--tables (seq-take (cons kept (delq kept colfind--tables)) colfind--most-tables))
+    (cdr kept)))
 
 (defun colfind--pattern-of (string)
-  "The pattern of STRING under the options, which is kept."
+  "The pattern of STRING under the options, which is kept until another is made.
+Then it is freed at once, for Emacs does not see how much memory it has."
   (let ((key (list string colfind-table colfind-tailor colfind-strength colfind-variable)))
     (unless (equal key (car colfind--latest))
-      (setq colfind--latest
-            (cons key (colfind--pattern (colfind--table-of) string colfind-strength (if (eq colfind-variable 'shifted) 1 0)))))
+      (let ((pattern (colfind--pattern (colfind--table-of) string colfind-strength (if (eq colfind-variable 'shifted) 1 0))))
+        (when colfind--latest
+          (colfind--free (cdr colfind--latest)))
+        (setq colfind--latest (cons key pattern))))
     (cdr colfind--latest)))
 
 (defun colfind--as-unicode (text)
   "TEXT with all that Unicode has not, as bytes that are no character, replaced.
 In its place stand characters with as many bytes, which are none yet, or are for
 what is unknown."
-  (replace-regexp-in-string
-   "[^\0-\x10ffff]"
-   (lambda (part)
-     (pcase (string-bytes part)
-       (2 "\u0378")
-       (4 "\U0010ffff")
-       (_ "\u0378\ufffd")))
-   text t t))
+  (mapconcat (lambda (char)
+               (cond ((<= char #x10ffff) (char-to-string char))
+                     ((<= char #x1fffff) "\U0010ffff")
+                     ((<= char #x3fff7f) "\u0378\ufffd")
+                     (t "\u0378")))
+             text ""))
 
 (defun colfind--cut (place)
   "Where the search for a match at or behind PLACE begins.

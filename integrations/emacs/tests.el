@@ -2,6 +2,7 @@
 
 ;;; Code:
 
+(require 'benchmark)
 (require 'ert)
 (require 'colfind)
 
@@ -128,6 +129,58 @@
     (should-error (colfind--pattern (colfind--table-of) "resume" 4 0) :type 'colfind-error)
     (should-error (colfind--feed (colfind--pattern-of "resume") (make-string 65537 #x10ffff) t))
     (should (= (colfind-search-forward "resume") 7))))
+
+(defun tests-error (file)
+  "The error of a search with the table FILE."
+  (let ((colfind-table file))
+    (cdr (should-error (colfind-search-forward "resume")))))
+
+(ert-deftest colfind-names-of-tables ()
+  (let* ((folder (file-name-as-directory (make-temp-file "colfind" t))) (default-directory folder))
+    (tests-with "résumé"
+      (dolist (name '("t`touch pwned`" "a%b" "$HOME" "-n" "[a]*" "a\nb" "ssh:none:x"))
+        (copy-file tests-letters (concat folder name))
+        (setq colfind-table (concat folder name))
+        (goto-char (point-min))
+        (should (= (colfind-search-forward "resume") 7)))
+      (should (equal (tests-error "/ssh:none:/table") '("Opening input file" "No such file or directory" "/ssh:none:/table")))
+      (should (equal (tests-error folder) (list "Is a directory" folder)))
+      (call-process "mkfifo" nil nil nil (concat folder "fifo"))
+      (call-process "truncate" nil nil nil "-s" "268435457" (concat folder "large"))
+      (dolist (file (list (concat folder "fifo") (concat folder "large") "/dev/zero"))
+        (should (equal (tests-error file) (list "no file of at most 256 MB" file))))
+      (should-not (directory-files folder nil "\\`pwned")))
+    (delete-directory folder t)))
+
+(ert-deftest colfind-strings-are-taken-as-they-are ()
+  (dolist (string '("50%s" "a\\(" "[a" "\\`a" "*a" "a`b`" "$a"))
+    (tests-with (concat "none " string " x")
+      (execute-kbd-macro (vconcat (kbd "C-s") string (kbd "RET")))
+      (should (equal (list isearch-other-end (point)) (list 6 (+ 6 (length string)))))
+      (goto-char (point-min))
+      (should (= (colfind-search-forward string) (+ 6 (length string))))
+      (should (equal (cdr (should-error (colfind-search-forward string))) (list string))))))
+
+(ert-deftest colfind-keeps-one-pattern-and-four-tables ()
+  (tests-with "resume"
+    (let ((first (colfind--pattern-of "resume")))
+      (should (eq (colfind--pattern-of "resume") first))
+      (colfind--pattern-of "me")
+      (should (equal (should-error (colfind--begin first)) (should-error (colfind--feed first "resume" t))))
+      (should (= (colfind-search-forward "resume") 7)))
+    (let* ((files (mapcar (lambda (_) (make-temp-file "colfind")) (make-list 6 nil))))
+      (dolist (colfind-tailor files)
+        (goto-char (point-min))
+        (should (= (colfind-search-forward "resume") 7)))
+      (should (equal (mapcar #'cadar colfind--tables) (seq-take (reverse files) 4)))
+      (mapc #'delete-file files))))
+
+(ert-deftest colfind-bytes-that-are-no-characters-in-a-large-buffer ()
+  (tests-with (string-to-multibyte (make-string 524288 255))
+    (goto-char (point-max))
+    (insert "résumé")
+    (goto-char (point-min))
+    (should (< (benchmark-elapse (should (= (colfind-search-forward "resume") 524295))) 10))))
 
 (ert-deftest colfind-scripts-of-cldr ()
   (skip-unless (file-exists-p tests-cldr))

@@ -156,12 +156,12 @@ T.test('what is no file', function()
   vim.fn.system({ 'truncate', '-s', '1073741825', 'large' })
   T.same('the others are searched', found('hi b fifo large /dev/zero none a.txt/ ~ a.txt'), { 'a.txt:1' })
   T.same('what is said', vim.v.warningmsg, 'colfind: 1 matches, 7 faults: b: Is a directory')
-  for name, why in pairs({ fifo = 'No file of at most 1 GB', large = 'No file of at most 1 GB', ['/'] = 'Is a directory', ['b/'] = 'Is a directory' }) do
+  for name, why in pairs({ fifo = 'no file of at most %d MB', large = 'no file of at most %d MB', ['/'] = 'Is a directory', ['b/'] = 'Is a directory' }) do
     found('hi ' .. name)
-    T.same('what is said', vim.v.warningmsg, ('colfind: 0 matches, 1 fault: %s: %s'):format(name, why))
+    T.same('what is said', vim.v.warningmsg, ('colfind: 0 matches, 1 fault: %s: %s'):format(name, why:format(1024)))
     vim.g.colfind_table = name
     vim.cmd('Colfind hi')
-    T.same('of a table', vim.v.warningmsg, ('colfind: the table: %s: %s'):format(name, why))
+    T.same('of a table', vim.v.warningmsg, ('colfind: the table: %s: %s'):format(name, why:format(256)))
     vim.g.colfind_table = T.letters
   end
   T.same('a pattern takes files', found('hi *'), { 'a.txt:1' })

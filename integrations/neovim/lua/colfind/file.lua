@@ -4,8 +4,6 @@ local uv = vim.loop
 local M = {}
 
 local PIECE = 262144 -- bytes that are read at once
-local MOST = 1073741824 -- bytes of a file
-local NO_FILE = 'No file of at most 1 GB'
 local HOW = uv.constants.O_RDONLY + uv.constants.O_NONBLOCK -- so that a FIFO keeps nobody waiting
 
 -- What the system says of a failure, as C writes it.
@@ -13,32 +11,32 @@ local function reason(failure)
   return ((failure:match('^%w+: ([^:]*)') or failure):gsub('^%l', string.upper))
 end
 
--- The bytes of an open file, or nil and why there are none.
-local function bytes_of(file)
+-- The bytes of an open file, at most so many MB, or nil and why there are none.
+local function bytes_of(file, most)
   local about, failure = uv.fs_fstat(file)
+  local pieces, left, too_much = {}, most * 1048576, ('no file of at most %d MB'):format(most)
   if not about then
     return nil, reason(failure)
-  elseif about.type ~= 'file' or about.size > MOST then
-    return nil, about.type == 'directory' and 'Is a directory' or NO_FILE
+  elseif about.type ~= 'file' or about.size > left then
+    return nil, about.type == 'directory' and 'Is a directory' or too_much
   end
-  local pieces, left = {}, MOST
   repeat
     local piece, why = uv.fs_read(file, PIECE, -1)
     if not piece or #piece > left then
-      return nil, why and reason(why) or NO_FILE
+      return nil, why and reason(why) or too_much
     end
     pieces[#pieces + 1], left = piece, left - #piece
   until piece == ''
   return table.concat(pieces)
 end
 
--- The bytes of a file, or nil and a message, in which its name is `shown`.
-function M.read(name, shown)
+-- The bytes of a file of at most so many MB, or nil and a message, in which its name is `shown`.
+function M.read(name, shown, most)
   local file, failure = uv.fs_open(name, HOW, 0)
   if not file then
     return nil, ('%s: %s'):format(shown, reason(failure))
   end
-  local bytes, why = bytes_of(file)
+  local bytes, why = bytes_of(file, most)
   uv.fs_close(file)
   return bytes, why and ('%s: %s'):format(shown, why)
 end

@@ -12,6 +12,7 @@ local BYTES = 65536 -- of a piece of a text
 local ITEMS = 1000 -- that are added at once
 local LINE = 1000 -- bytes of a line that are shown
 local MOST = 100000 -- matches of a list
+local MOST_MB = 1024 -- of a file
 
 local stop_before = function() end
 
@@ -77,7 +78,7 @@ local function text_of(source)
   elseif not source.whole then
     return nil, 'the buffer is loaded no more'
   end
-  return file.read(source.whole, source.name)
+  return file.read(source.whole, source.name, MOST_MB)
 end
 
 -- The part of a text from a byte on that is searched next, which ends where a character does, and the byte behind it.
@@ -149,6 +150,7 @@ local function search_source(pattern, source, list, most)
     vim.fn.setqflist({}, 'a', { id = list, items = items })
     coroutine.yield()
   end
+  stream:free()
   return math.min(stream.count, most + 1), stream.fault and ('%s: %s'):format(shown_name(source), stream.fault)
 end
 
@@ -198,13 +200,18 @@ function M.grep(argument)
   local list = vim.fn.getqflist({ id = 0 }).id
   local base, run = vim.loop.cwd(), coroutine.create(search_all)
   stop_before()
-  stop_before = work.start(function(deadline)
+  local stop = work.start(function(deadline)
     repeat
       local good, is_over = coroutine.resume(run, pattern, meant, base, list)
       assert(good, is_over)
     until is_over or coroutine.status(run) == 'dead' or work.is_over(deadline)
     return not is_over and coroutine.status(run) ~= 'dead'
   end, 0, say.fault)
+  library.hold(pattern)
+  stop_before = function()
+    stop()
+    library.hold(nil, pattern)
+  end
 end
 
 return M

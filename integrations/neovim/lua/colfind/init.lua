@@ -27,7 +27,7 @@ local function told_fault(scan)
 end
 
 local function show(pattern)
-  current, is_shown = pattern, true
+  current, is_shown = library.hold(pattern, current), true
   marks.show(pattern)
 end
 

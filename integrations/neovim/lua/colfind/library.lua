@@ -23,11 +23,14 @@ void colfind_free(colfind_handle *handle);
 ]]
 local ILL_FORMED, LONG_RUN = 31, 32 -- the faults of a text behind which it can be searched on
 local VARIABLE = { ['non-ignorable'] = 0, shifted = 1 }
+local MOST_MB = 256 -- of a table's file
+local MOST_TABLES = 4
+local MOST_RANGES = 8388608 -- of a text
 local CLDR = '/usr/share/unicode/cldr/common/uca/allkeys_CLDR.txt'
 
 local has_ffi, ffi = pcall(require, 'ffi')
 local libraries = {} -- what was loaded, by name
-local tables = {} -- the handles of tables that were read, or the message of one that can't be, by the names of their files
+local tables = {} -- those that were asked for last, in front the last one: the names of their files, and a handle, or why there is none
 
 local function library(name)
   if not has_ffi then
@@ -58,10 +61,10 @@ local function handle(C)
 end
 
 local function read_table(C, path, tailor)
-  local base, why = file.read(file.from_home(path), path)
+  local base, why = file.read(file.from_home(path), path, MOST_MB)
   local more = ''
   if base and tailor ~= '' then
-    more, why = file.read(file.from_home(tailor), tailor)
+    more, why = file.read(file.from_home(tailor), tailor, MOST_MB)
   end
   if not base or not more then
     return nil, 'the table: ' .. why
@@ -74,17 +77,19 @@ local function read_table(C, path, tailor)
   return made
 end
 
--- A table is read once. One that could not be is read again where `again` says so.
+-- A table is read once while it is among the last. One that could not be is read again where `again` says so.
 local function table_of(C, settings, again)
-  local key = settings.table .. '\0' .. settings.tailor
-  if not tables[key] or (again and type(tables[key]) == 'string') then
-    local made, why = read_table(C, settings.table, settings.tailor)
-    tables[key] = made or why
+  local key, found = settings.table .. '\0' .. settings.tailor, nil
+  for i, kept in ipairs(tables) do
+    found = kept.key == key and table.remove(tables, i) or found
   end
-  if type(tables[key]) == 'string' then
-    return nil, tables[key]
+  if not found or (again and found.why) then
+    found = { key = key }
+    found.handle, found.why = read_table(C, settings.table, settings.tailor)
   end
-  return tables[key]
+  table.insert(tables, 1, found)
+  tables[MOST_TABLES + 1] = nil
+  return found.handle, found.why
 end
 
 -- The options of the user, with their defaults.
@@ -114,7 +119,23 @@ function M.prepare()
   end
 end
 
-local latest -- the pattern that was made last
+-- Notes that a pattern is held, instead of another; each may be nil. One that nobody holds is freed, for Lua's collector, which would do it
+-- at last, does not see how large it is.
+function M.hold(pattern, instead_of)
+  if pattern then
+    pattern.holders = pattern.holders + 1
+  end
+  if instead_of then
+    instead_of.holders = instead_of.holders - 1
+    if instead_of.holders == 0 then
+      instead_of.C.colfind_free(instead_of.search)
+      instead_of.C.colfind_free(instead_of.handle)
+    end
+  end
+  return pattern
+end
+
+local latest -- the pattern that was made last, which is held until the next one is
 
 -- The pattern of a text under the options. That which is given, or was made last, is given back where it is the same.
 function M.pattern(text, before, again)
@@ -144,7 +165,7 @@ function M.pattern(text, before, again)
   if status.kind ~= 0 then
     return nil, words_of(C, status)
   end
-  latest = { key = key, text = text, C = C, handle = made, search = search }
+  latest = M.hold({ key = key, text = text, C = C, handle = made, search = search, holders = 0 }, latest)
   return latest
 end
 
@@ -183,7 +204,7 @@ function M.all_in(pattern, text)
 end
 
 -- A text that comes in pieces. `ranges` has the `count` ranges that are known of its `fed` bytes, `fault` the words of its first fault and
--- `fault_at` where that stands; `failed` says that it can't go on.
+-- `fault_at` where that stands; `failed` says that it can't go on, as behind MOST_RANGES. Who is done with one frees it.
 local Stream = {}
 Stream.__index = Stream
 
@@ -216,6 +237,9 @@ function Stream:take()
     end
   end
   self.count = self.count + more
+  if self.count >= MOST_RANGES then
+    self.fault, self.fault_at, self.failed = MOST_RANGES .. ' matches, and those behind are left out', self:range(self.count - 1), true
+  end
 end
 
 -- Notes a fault. What stands behind it is a text by itself, which begins at an offset of the piece; nil where there is none.
@@ -257,6 +281,11 @@ function Stream:finish()
       self:begin_behind(status, '')
     end
   end
+end
+
+function Stream:free()
+  self.failed = true
+  self.C.colfind_free(self.search)
 end
 
 -- How many ranges have an end, `start` or `stop`, before an offset. None lies within another, so both are in order.

@@ -138,7 +138,7 @@ end
 -- Marks the matches of a pattern, or of none.
 function M.show(shown)
   if shown ~= pattern then
-    pattern = shown
+    pattern = library.hold(shown, pattern)
     views = {}
     scans.keep(pattern)
     M.redraw()
@@ -152,7 +152,7 @@ end
 
 -- What fails, though it should not, is told once, and nothing is marked from then on.
 function M.fail(why)
-  pattern = nil
+  pattern = library.hold(nil, pattern)
   vim.schedule(function()
     tell(tostring(why))
   end)

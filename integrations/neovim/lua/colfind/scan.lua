@@ -8,10 +8,11 @@ local M = {}
 local BYTES = 65536 -- of a piece
 local UNSETTLED = 1024 -- before the end of what was searched ranges may wait: 31 code points and the longest string of a table are less
 local QUIET = 100 -- milliseconds behind a change
+local MOST_SCANS, MOST_BYTES = 256, 16 * 1048576 -- of buffers that no window shows
 
 local Scan = {}
 Scan.__index = Scan
-local scans = {} -- by buffer
+local scans, uses = {}, 0 -- by buffer; and how often one was asked for
 
 function Scan:is_of(pattern)
   return self.pattern == pattern and api.nvim_buf_is_loaded(self.buf) and self.tick == api.nvim_buf_get_changedtick(self.buf)
@@ -67,12 +68,36 @@ function Scan:known()
   return self.is_finished and math.huge or self.stream.fed - UNSETTLED
 end
 
--- Lets go of the scans of other patterns, and of buffers that are loaded no more.
+-- How many bytes a scan may have: its ranges, and what its search has found out of characters.
+function Scan:size()
+  return 16 * self.stream.room + 32768 + 16 * #self.pattern.text + math.min(1600000, 1000 * self.stream.fed)
+end
+
+local function drop(scan)
+  scan.is_dropped = true
+  scan.stop()
+  scan.stream:free()
+  scans[scan.buf] = nil
+end
+
+-- Lets go of the scans of other patterns, and of buffers that are loaded no more; and of those that no window shows, the least recently used
+-- first, as far as they are more than are kept.
 function M.keep(pattern)
+  local hidden, size = {}, 0
   for buf, scan in pairs(scans) do
     if scan.pattern ~= pattern or not api.nvim_buf_is_loaded(buf) then
-      scan.stop()
-      scans[buf] = nil
+      drop(scan)
+    elseif #vim.fn.win_findbuf(buf) == 0 then
+      hidden[#hidden + 1] = scan
+    end
+  end
+  table.sort(hidden, function(a, b)
+    return a.used > b.used
+  end)
+  for i, scan in ipairs(hidden) do
+    size = size + scan:size()
+    if i > MOST_SCANS or size > MOST_BYTES then
+      drop(scan)
     end
   end
 end
@@ -80,16 +105,18 @@ end
 -- The scan of a buffer as it is now. `after(scan)` is called after each piece. One of a buffer that has changed begins when that is quiet.
 function M.of(buf, pattern, after, failed)
   local before = scans[buf]
+  uses = uses + 1
   if before and before:is_of(pattern) then
+    before.used = uses
     return before
   end
   local tick = api.nvim_buf_get_changedtick(buf)
   local made = setmetatable({
-    buf = buf, pattern = pattern, tick = tick, stream = library.stream(pattern), row = 0, rows = 64, piece = '', at = 1,
+    buf = buf, pattern = pattern, tick = tick, stream = library.stream(pattern), row = 0, rows = 64, piece = '', at = 1, used = uses,
   }, Scan)
   local changed = before and before.pattern == pattern
   if before then
-    before.stop()
+    drop(before)
   end
   M.keep(pattern)
   made.stop = work.start(function(deadline)
