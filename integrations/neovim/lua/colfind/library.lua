@@ -237,8 +237,9 @@ function Stream:take()
     end
   end
   self.count = self.count + more
-  if self.count >= MOST_RANGES then
-    self.fault, self.fault_at, self.failed = MOST_RANGES .. ' matches, and those behind are left out', self:range(self.count - 1), true
+  if self.count > MOST_RANGES then
+    self.count, self.failed = MOST_RANGES, true
+    self.fault, self.fault_at = MOST_RANGES .. ' matches, and those behind are left out', self:range(MOST_RANGES - 1)
   end
 end
 
