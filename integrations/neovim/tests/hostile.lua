@@ -154,7 +154,8 @@ T.test('what is no file', function()
   fresh({ ['a.txt'] = 'hi', ['b/c.txt'] = 'hi' })
   vim.fn.system({ 'mkfifo', 'fifo' })
   vim.fn.system({ 'truncate', '-s', '1073741825', 'large' })
-  T.same('the others are searched', found('hi b fifo large /dev/zero none a.txt/ ~ a.txt'), { 'a.txt:1' })
+  local writer = vim.fn.jobstart({ 'sh', '-c', 'while sleep 5; do : <> fifo; done' }) -- so that who waits goes on
+  T.same('the others are searched', found('hi b fifo large /dev/tty none a.txt/ ~ a.txt'), { 'a.txt:1' })
   T.same('what is said', vim.v.warningmsg, 'colfind: 1 matches, 7 faults: b: Is a directory')
   for name, why in pairs({ fifo = 'no file of at most %d MB', large = 'no file of at most %d MB', ['/'] = 'Is a directory', ['b/'] = 'Is a directory' }) do
     found('hi ' .. name)
@@ -165,6 +166,7 @@ T.test('what is no file', function()
     vim.g.colfind_table = T.letters
   end
   T.same('a pattern takes files', found('hi *'), { 'a.txt:1' })
+  vim.fn.jobstop(writer)
 end)
 
 T.test('a folder that can not be listed is told', function()
