@@ -34,6 +34,8 @@ if TYPE_CHECKING:
     from concurrent.futures import Future
 
     from _typeshed import ReadableBuffer as Bytes
+
+    _Some = tuple[array[int], Structure, int]
 else:
     Bytes = object  # with bytes; each version of Python has another name for it
 
@@ -59,6 +61,8 @@ _NEAR = 16  # how many characters are asked first for a safe one
 _LONG = 1 << 12  # how many bytes a call has that lets the lock of the interpreter go: to get it back costs as much as a shorter one
 _AHEAD, _MOST_JOINED = 512, 1 << 16  # how many texts are read, and searched by one call, and how many characters they have at most
 _PART = 1 << 22  # the bytes of a part that one of some threads searches
+_STEPS, _LEAST_STEP = 1 << 20, 1 << 16  # how many bytes some threads search at once by a call each, and how many one does at least
+_MANY = 1 << 17  # how many numbers of a part a thread finds, and then those of one step more, before they are asked for
 _Owning = TypeVar("_Owning", bound="_Owner")
 _Given = TypeVar("_Given")
 _FOLDER = Path(__file__).parent
@@ -721,8 +725,9 @@ class Pattern(_Owner):
     def search_parallel(self, text: Bytes | os.PathLike[str], workers: int | None = None, chain: bool = False,
                         part_bytes: int = _PART) -> Ranges:
         """What `search` gives of bytes, or of those of a file, which is mapped, by threads: as many as there are processors, or `workers`.
-        Each searches a part at a time. Ranges and a fault come in order, and at most two parts a thread are ahead of them. What a thread
-        raises is raised in the place of its part. Where it is interrupted or closed, it waits for the parts that are being searched."""
+        Each searches a part at a time. Ranges and a fault come in order, and at most two parts a thread are ahead of them; of a part with
+        many ranges the first ones alone. What a thread raises is raised in the place of its part. Where it is interrupted or closed, it
+        waits for what is being searched."""
         _typed("chain", chain, bool)
         count = len(os.sched_getaffinity(0)) if workers is None else _above_0("workers", workers)
         size, data = _above_0("part_bytes", part_bytes), _mapped(text) if isinstance(text, os.PathLike) else text
@@ -748,28 +753,46 @@ def _chained(ranges: Ranges) -> Ranges:
             behind = end
 
 
-def _of_parts(view: _View, cutting: Search, searches: list[Search], size: int) -> Ranges:
-    """The ranges of a text by as many threads as there are searches, from parts that begin at safe offsets, as another search says."""
+def _some_of(search: Search, view: _View, start: int, end: int, step: int) -> _Some:
+    """The numbers of the ranges of a part, the fault behind them, and where the part goes on: at its end, or where there are many."""
+    numbers, status, at = array("Q"), _Status(0, 0), start
+    try:
+        while at < end and len(numbers) < _MANY and not status.kind:
+            stop = search._safe(view, view.length, at + step) if at + step < end else end
+            some, status = search._part(view, view.length, at, stop)
+            numbers += some
+            at = stop
+    except Exception as wrong:
+        getattr(wrong, "add_note", str)(f"of the bytes {start} to {end} of the text")
+        raise
+    return numbers, status, at
+
+
+def _of_parts(view: _View, own: Search, searches: list[Search], size: int) -> Ranges:
+    """The ranges of a text by as many threads as there are searches, from parts that begin at safe offsets. These are found by a search of
+    its own, which goes on where a thread found many ranges."""
     from concurrent.futures import ThreadPoolExecutor  # which takes long to import
 
-    def found(start: int, end: int) -> tuple[array[int], Structure]:
+    def found(start: int, end: int) -> _Some:
         search = searches.pop()
         try:
-            return search._part(view, view.length, start, end)
-        except Exception as wrong:
-            getattr(wrong, "add_note", str)(f"of the bytes {start} to {end} of the text")
-            raise
+            return _some_of(search, view, start, end, step)
         finally:
             searches.append(search)
 
-    pool, most, end = ThreadPoolExecutor(len(searches)), 2 * len(searches), 0
-    waiting: deque[Future[tuple[array[int], Structure]]] = deque()
+    pool, most, end, step = ThreadPoolExecutor(len(searches)), 2 * len(searches), 0, max(_LEAST_STEP, _STEPS // len(searches))
+    waiting: deque[tuple[Future[_Some], int]] = deque()
     try:
         while end < view.length or waiting:
             while end < view.length and len(waiting) < most:
-                start, end = end, cutting._safe(view, view.length, min(end + size, view.length))
-                waiting.append(pool.submit(found, start, end))
-            yield from _then_fault(*waiting.popleft().result())
+                start, end = end, own._safe(view, view.length, min(end + size, view.length))
+                waiting.append((pool.submit(found, start, end), end))
+            first, behind = waiting.popleft()
+            numbers, status, at = first.result()
+            yield from _then_fault(numbers, status)
+            while at < behind:
+                numbers, status, at = _some_of(own, view, at, behind, step)
+                yield from _then_fault(numbers, status)
     finally:
         pool.shutdown(cancel_futures=True)
         view.release()

@@ -1,11 +1,11 @@
 /* colfind: an extension of PostgreSQL that finds a pattern by Unicode collation. colfind--1.0.sql has its functions.
  *
- * A backend reads the table of colfind.table once. A call keeps its searches in fn_extra, and its memory context frees them: so nothing is
- * lost where a query ends by an error or is cancelled. A text of more than PIECE bytes is fed in pieces; between two of them the query can
- * be cancelled. The library is called between two such places alone, and never leaves a call but by its return. */
+ * A backend reads the table of colfind.table once, and keeps its searches for all calls, outside of the memory contexts: no call holds one
+ * over a place where a query may end by an error or be cancelled. A text of more than LONG_TEXT bytes is fed in pieces, and all ranges of one
+ * with more than BATCH; between two pieces the query can be cancelled. The library never leaves a call but by its return. */
 #include "postgres.h"
 
-#include <sys/stat.h>
+#include <fcntl.h>
 
 #include "catalog/pg_type_d.h"
 #include "fmgr.h"
@@ -25,7 +25,7 @@
 PG_MODULE_MAGIC;
 void _PG_init(void);
 
-enum { PIECE = 1 << 20, BATCH = 256, MOST_FILE = 1 << 28 };
+enum { BATCH = 256 };
 
 typedef struct { const uint8_t *bytes; size_t len; } utf8;
 
@@ -41,34 +41,31 @@ static void report(int level, const char *what, colfind_status status) {
     ereport(level, (errcode(code), errmsg("colfind: %s: %s", what, message)));
 }
 
-/* ---- the table of the backend. `is_sure` says that it is that of the settings; each new one counts */
+/* ---- the table of the backend, and the searches that it keeps with it. `is_sure` says that it is that of the settings */
 
 static char *table_name, *tailor_name;
 static char *read_names[2];
 static colfind_handle table;
-static unsigned tables_read;
+static searches session;
 static bool is_sure;
 
 static void doubt(const char *value, void *extra) { is_sure = false; }
 
-/* Appends the bytes of a file; false where it can't be read and `level` is no error. Nothing but a file is opened, so nothing waits. */
+/* Appends the bytes of a file; false where it can't be read and `level` is no error. Nothing but a file is read, so nothing waits. */
 static bool read_file(const char *name, StringInfo out, int level) {
-    struct stat about;
-    FILE *file = NULL;
-    size_t n = 1;
-    if (stat(name, &about) == 0 && (!S_ISREG(about.st_mode) || about.st_size > MOST_FILE)) {
-        ereport(level, (errcode(ERRCODE_CONFIG_FILE_ERROR), errmsg("colfind: %s: no file of at most 256 MB", name)));
-        return false;
-    }
-    file = AllocateFile(name, PG_BINARY_R);
-    while (file && n > 0 && out->len <= MOST_FILE) {
+    int file = OpenTransientFile(name, O_RDONLY | O_NONBLOCK | O_NOCTTY | PG_BINARY);
+    bool is_file = file >= 0 && !wrong_file(file);
+    ssize_t n = 1;
+    while (is_file && n > 0 && out->len <= MOST_FILE) {
         CHECK_FOR_INTERRUPTS();
         enlargeStringInfo(out, PIECE);
-        out->len += n = fread(out->data + out->len, 1, PIECE, file);
+        n = read(file, out->data + out->len, PIECE);
+        out->len += Max(n, 0);
     }
-    if (!file || ferror(file)) ereport(level, (errcode_for_file_access(), errmsg("colfind: %s: %m", name)));
-    if (file) FreeFile(file);
-    return file && n == 0;
+    if (file < 0 || n < 0) ereport(level, (errcode_for_file_access(), errmsg("colfind: %s: %m", name)));
+    else if (n > 0) ereport(level, (errcode(ERRCODE_CONFIG_FILE_ERROR), errmsg("colfind: %s: %s", name, no_such_file)));
+    if (file >= 0) CloseTransientFile(file);
+    return n == 0;
 }
 
 /* Notes which table there is. */
@@ -88,7 +85,7 @@ static void read_table(int level) {
     if (read_file(table_name, &base, level) && (!*tailor_name || read_file(tailor_name, &tailor, level))) {
         colfind_status status = colfind_table(&table, (uint8_t *)base.data, base.len, (uint8_t *)tailor.data, tailor.len);
         if (status.kind) report(level, status.kind > 60 && status.kind < 80 ? tailor_name : table_name, status);
-        else tables_read++, keep_names(), is_sure = true;
+        else forget_searches(&session), keep_names(), is_sure = true;
     }
     pfree(base.data), pfree(tailor.data);
 }
@@ -108,6 +105,7 @@ void _PG_init(void) {
     DefineCustomStringVariable("colfind.table", about_table, NULL, &table_name, "", PGC_SUSET, 0, NULL, doubt, NULL);
     DefineCustomStringVariable("colfind.tailor", about_tailor, NULL, &tailor_name, "", PGC_SUSET, 0, NULL, doubt, NULL);
     MarkGUCPrefixReserved("colfind");
+    begin_searches(&session);
     if (process_shared_preload_libraries_in_progress && *table_name) read_table(WARNING);
 }
 
@@ -136,65 +134,48 @@ static sought sought_of(FunctionCallInfo fcinfo) {
                     PG_NARGS() > 4 ? choice_of(PG_GETARG_TEXT_PP(4), selection_of, "selection is 'all' or 'chain'") : COLFIND_ALL};
 }
 
-/* What a call keeps from row to row, and what frees it. */
-typedef struct { searches searches; unsigned of_table; MemoryContextCallback end; } kept_call;
-
-static void end_call(void *given) { forget_searches(&((kept_call *)given)->searches); }
-
-static kept_search *search_of(FunctionCallInfo fcinfo) {
-    kept_call *call = fcinfo->flinfo->fn_extra;
+/* The search that a call asks for, in a text of so many bytes. */
+static kept_search *search_of(FunctionCallInfo fcinfo, size_t len) {
     sought of = sought_of(fcinfo);
     colfind_status status = {0};
     kept_search *kept;
     need_table();
-    if (!call) {
-        call = fcinfo->flinfo->fn_extra = MemoryContextAllocZero(fcinfo->flinfo->fn_mcxt, sizeof *call);
-        call->end.func = end_call, call->end.arg = call;
-        MemoryContextRegisterResetCallback(fcinfo->flinfo->fn_mcxt, &call->end);
-    }
-    if (call->of_table != tables_read) forget_searches(&call->searches);
-    call->of_table = tables_read;
-    if (!(kept = find_search(&call->searches, &table, &of, &status))) report(ERROR, "pattern", status);
+    if (!(kept = find_search(&session, &table, &of, len, &status))) report(ERROR, "pattern", status);
     return kept;
 }
 
 /* ---- ranges of a text */
 
-/* A long text on its way through a search of its own. */
-typedef struct { colfind_handle *search; utf8 rest; colfind_status status; bool has_ended; } walk;
-
-static walk begin_walk(kept_search *kept, utf8 text) {
-    colfind_status status = colfind_search(&kept->pattern, &kept->long_search, kept->of.select);
-    if (status.kind) report(ERROR, "text", status);
-    return (walk){&kept->long_search, text, status, false};
-}
-
-/* The next ranges: how many, 0 at the end of the text. */
+/* The next ranges of a long text, as far as they have room; 0 at its end. */
 static size_t next_ranges(walk *walk, colfind_range *out, size_t room) {
-    for (;;) {
-        size_t n = colfind_take(walk->search, out, room), piece = Min(walk->rest.len, PIECE);
-        if (n > 0) return n;
-        if (walk->status.kind) report(ERROR, "text", walk->status);
-        if (walk->has_ended) return 0;
-        CHECK_FOR_INTERRUPTS();
-        walk->status = piece > 0 ? colfind_feed(walk->search, walk->rest.bytes, piece) : colfind_finish(walk->search);
-        walk->rest.bytes += piece, walk->rest.len -= piece;
-        walk->has_ended = piece == 0;
-    }
+    size_t count;
+    while (!(count = go_on(walk, out, room)) && !walk->has_ended) CHECK_FOR_INTERRUPTS();
+    if (count == 0 && walk->status.kind) report(ERROR, "text", walk->status);
+    return count;
 }
 
 /* Whether a text has a range: the first. */
-static bool first_of(kept_search *kept, utf8 text, colfind_range *out) {
-    if (text.len <= PIECE) {
-        colfind_first first = colfind_first_in(&kept->search, text.bytes, text.len, 0);
-        if (first.status.kind) report(ERROR, "text", first.status);
-        *out = first.range;
-        return first.is_found;
+static bool first_of_long(kept_search *kept, utf8 text, colfind_range *out) {
+    walk walk = begin_walk(kept, text.bytes, text.len);
+    volatile bool is_found = false;
+    PG_TRY();
+    {
+        is_found = next_ranges(&walk, out, 1) > 0;
     }
-    walk walk = begin_walk(kept, text);
-    size_t n = next_ranges(&walk, out, 1);
-    colfind_free(&kept->long_search);
-    return n > 0;
+    PG_FINALLY();
+    {
+        colfind_free(&walk.search);
+    }
+    PG_END_TRY();
+    return is_found;
+}
+
+static bool first_of(kept_search *kept, utf8 text, colfind_range *out) {
+    if (text.len > LONG_TEXT) return first_of_long(kept, text, out);
+    colfind_first first = colfind_first_in(&kept->search, text.bytes, text.len, 0);
+    if (first.status.kind) report(ERROR, "text", first.status);
+    *out = first.range;
+    return first.is_found;
 }
 
 /* How many characters of the server's encoding a part of the text has. */
@@ -222,16 +203,16 @@ PG_FUNCTION_INFO_V1(pg_colfind_range);
 PG_FUNCTION_INFO_V1(pg_colfind_ranges);
 
 Datum pg_colfind(PG_FUNCTION_ARGS) {
-    kept_search *kept = search_of(fcinfo);
     utf8 given = utf8_of(PG_GETARG_TEXT_PP(0));
+    kept_search *kept = search_of(fcinfo, given.len <= LONG_TEXT ? given.len : 0);
     colfind_range range;
-    uint32_t found = given.len <= PIECE ? colfind_has(&kept->search, given.bytes, given.len) : 2;
+    uint32_t found = given.len <= LONG_TEXT ? colfind_has(&kept->search, given.bytes, given.len) : 2;
     PG_RETURN_BOOL(found <= 1 ? found : first_of(kept, given, &range));
 }
 
 Datum pg_colfind_range(PG_FUNCTION_ARGS) {
-    kept_search *kept = search_of(fcinfo);
     utf8 given = utf8_of(PG_GETARG_TEXT_PP(0));
+    kept_search *kept = search_of(fcinfo, given.len <= LONG_TEXT ? given.len : 0);
     colfind_range range;
     size_t from = 0;
     int at = 0;
@@ -259,31 +240,36 @@ static void add_rows(rows *rows, const colfind_range *ranges, size_t n) {
     CHECK_FOR_INTERRUPTS();
 }
 
-/* All ranges of a short text, by the search that is kept. */
+/* All ranges of a text of at most BATCH bytes, by the search that is kept. */
 static void add_all(rows *rows, kept_search *kept) {
-    colfind_range few[BATCH], *ranges = few;
-    colfind_all all = colfind_all_in(&kept->search, rows->text.bytes, rows->text.len, few, BATCH);
-    if (all.status.kind == COLFIND_SMALL_BUFFER) {
-        ranges = palloc(all.count * sizeof *ranges);
-        all = colfind_all_in(&kept->search, rows->text.bytes, rows->text.len, ranges, all.count);
-    }
+    colfind_range ranges[BATCH];
+    colfind_all all = colfind_all_in(&kept->search, rows->text.bytes, rows->text.len, ranges, BATCH);
     if (all.status.kind) report(ERROR, "text", all.status);
     add_rows(rows, ranges, all.count);
-    if (ranges != few) pfree(ranges);
+}
+
+/* All ranges of another one, by a search of its own. */
+static void add_all_of_long(rows *rows, kept_search *kept) {
+    colfind_range ranges[BATCH];
+    walk walk = begin_walk(kept, rows->text.bytes, rows->text.len);
+    PG_TRY();
+    {
+        for (size_t n; (n = next_ranges(&walk, ranges, BATCH)) > 0;) add_rows(rows, ranges, n);
+    }
+    PG_FINALLY();
+    {
+        colfind_free(&walk.search);
+    }
+    PG_END_TRY();
 }
 
 Datum pg_colfind_ranges(PG_FUNCTION_ARGS) {
-    kept_search *kept = search_of(fcinfo);
     rows rows = {.out = (ReturnSetInfo *)fcinfo->resultinfo, .text = utf8_of(PG_GETARG_TEXT_PP(0))};
+    kept_search *kept = search_of(fcinfo, rows.text.len <= BATCH ? rows.text.len : 0);
     InitMaterializedSRF(fcinfo, 0);
     rows.memory = AllocSetContextCreate(CurrentMemoryContext, "colfind", ALLOCSET_DEFAULT_SIZES);
-    if (rows.text.len <= PIECE) add_all(&rows, kept);
-    else {
-        colfind_range ranges[BATCH];
-        walk walk = begin_walk(kept, rows.text);
-        for (size_t n; (n = next_ranges(&walk, ranges, BATCH)) > 0;) add_rows(&rows, ranges, n);
-        colfind_free(&kept->long_search);
-    }
+    if (rows.text.len <= BATCH) add_all(&rows, kept);
+    else add_all_of_long(&rows, kept);
     MemoryContextDelete(rows.memory);
     return (Datum)0;
 }

@@ -7,11 +7,12 @@
 #include <sqlite3ext.h>
 SQLITE_EXTENSION_INIT1
 #include "../searches.h"
-#include <errno.h>
+#include <fcntl.h>
 #include <pthread.h>
 #include <stdio.h>
+#include <unistd.h>
 
-typedef struct { colfind_handle table; char *name; searches searches; unsigned holders; } connection;
+typedef struct { sqlite3 *database; colfind_handle table; char *name; searches searches; unsigned holders; } connection;
 
 typedef struct { const uint8_t *bytes; size_t len; } text;
 
@@ -44,26 +45,32 @@ static void fail(sqlite3_context *context, char *words) {
 
 /* ---- the table */
 
-enum { MOST_FILE = 1 << 28 };
-
-/* The bytes of a file, for sqlite3_free; NULL and words of what is wrong. */
-static uint8_t *read_file(const char *name, size_t *len, char **words) {
-    FILE *file = fopen(name, "rb");
-    uint8_t *bytes = NULL, *more;
-    size_t room = 0, n = 1;
-    *len = 0, *words = NULL;
-    for (; file && n > 0 && *len < MOST_FILE; *len += n) {
+/* Reads an open file up to its end; false with what is wrong, which is NULL where memory is refused. It may grow meanwhile. */
+static bool read_open(int file, uint8_t **bytes, size_t *len, const char **wrong) {
+    size_t room = 0;
+    for (ssize_t n = 1; n > 0 && *len <= MOST_FILE; *len += n > 0 ? (size_t)n : 0) {
         if (*len == room) {
-            if (!(more = sqlite3_realloc64(bytes, room = 2 * room + 65536))) break;
-            bytes = more;
+            uint8_t *more = sqlite3_realloc64(*bytes, room = 2 * room + PIECE);
+            if (!more) return false;
+            *bytes = more;
         }
-        n = fread(bytes + *len, 1, room - *len, file);
+        n = read(file, *bytes + *len, room - *len);
+        if (n < 0) return *wrong = strerror(errno), false;
     }
-    if (!file || ferror(file)) *words = sqlite3_mprintf("colfind: %s: %s", name, strerror(errno));
-    else if (*len >= MOST_FILE) *words = sqlite3_mprintf("colfind: %s: more than 256 MB", name);
-    bool is_whole = file && n == 0 && !*words;
-    if (file) fclose(file);
-    if (is_whole) return bytes;
+    if (*len > MOST_FILE) *wrong = no_such_file;
+    return *len <= MOST_FILE;
+}
+
+/* The bytes of a file, for sqlite3_free; NULL and words of what is wrong. Nothing but a file is read, so nothing waits. */
+static uint8_t *read_file(const char *name, size_t *len, char **words) {
+    int file = open(name, O_RDONLY | O_NONBLOCK | O_NOCTTY | O_CLOEXEC);
+    const char *wrong = file < 0 ? strerror(errno) : wrong_file(file);
+    uint8_t *bytes = NULL;
+    *len = 0;
+    bool is_read = !wrong && read_open(file, &bytes, len, &wrong);
+    *words = wrong ? sqlite3_mprintf("colfind: %s: %s", name, wrong) : NULL;
+    if (file >= 0) close(file);
+    if (is_read) return bytes;
     sqlite3_free(bytes);
     return NULL;
 }
@@ -105,6 +112,8 @@ static void table_function(sqlite3_context *context, int n, sqlite3_value **valu
     for (int i = 0; i < n; i++) {
         if (sqlite3_value_type(values[i]) == SQLITE_NULL) return;
         names[i] = (const char *)sqlite3_value_text(values[i]);
+        if (names[i] && strlen(names[i]) != (size_t)sqlite3_value_bytes(values[i]))
+            return sqlite3_result_error(context, "colfind: the name of a file has no zero byte", -1);
     }
     if (n > 0 && (!names[0] || (n > 1 && !names[1]))) sqlite3_result_error_nomem(context);
     else if (n > 0 && !read_table(own, names[0], names[1], &words)) fail(context, words);
@@ -131,28 +140,35 @@ static int choice_of(sqlite3_value **values, int n, int i, int (*number)(const c
     return 0;
 }
 
+/* The number of a value, 1, 2 or 3; 0 where it is another one, or none. */
+static uint8_t strength_of(sqlite3_value *value) {
+    int type = sqlite3_value_numeric_type(value);
+    double number = type == SQLITE_INTEGER || type == SQLITE_FLOAT ? sqlite3_value_double(value) : 0;
+    return number == 1 || number == 2 || number == 3 ? (uint8_t)number : 0;
+}
+
 /* How to search by the values behind the pattern: strength, weighting and selection, each of which may be left out. False with words. */
 static bool manner_of(sqlite3_value **values, int n, sought *out, char **words) {
     bool is_refused = false;
-    int strength = n > 0 && values[0] ? sqlite3_value_int(values[0]) : 3;
+    uint8_t strength = n > 0 && values[0] ? strength_of(values[0]) : 3;
     int variable = choice_of(values, n, 1, weighting_of, &is_refused), select = choice_of(values, n, 2, selection_of, &is_refused);
     *words = NULL;
     if (is_refused) return false;
-    if (strength < 1 || strength > 3) *words = sqlite3_mprintf("colfind: a strength is 1, 2 or 3");
+    if (strength == 0) *words = sqlite3_mprintf("colfind: a strength is 1, 2 or 3");
     else if (variable < 0) *words = sqlite3_mprintf("colfind: a weighting is 'non-ignorable' or 'shifted'");
     else if (select < 0) *words = sqlite3_mprintf("colfind: a selection is 'all' or 'chain'");
-    else return out->strength = (uint8_t)strength, out->variable = (uint8_t)variable, out->select = (uint8_t)select, true;
+    else return out->strength = strength, out->variable = (uint8_t)variable, out->select = (uint8_t)select, true;
     return false;
 }
 
-/* The search for a pattern in this manner; NULL with words. */
-static kept_search *search_for(connection *own, sqlite3_value *pattern, const sought *manner, char **words) {
+/* The search for a pattern in this manner, in a text of so many bytes; NULL with words. */
+static kept_search *search_for(connection *own, sqlite3_value *pattern, const sought *manner, size_t len, char **words) {
     text given;
     colfind_status status = {0};
     if (!text_of(pattern, &given)) return *words = NULL, NULL;
     if (!has_table(own, words)) return NULL;
     sought of = {given.bytes, given.len, manner->strength, manner->variable, manner->select};
-    kept_search *kept = find_search(&own->searches, &own->table, &of, &status);
+    kept_search *kept = find_search(&own->searches, &own->table, &of, len, &status);
     if (!kept) *words = fault_words("pattern", status);
     return kept;
 }
@@ -163,19 +179,35 @@ static bool has_null(int n, sqlite3_value **values) {
     return false;
 }
 
-/* The search and the text of a function's values; NULL where the result or the error is given already. SQLite keeps the search beside a
- * pattern that is the same for all rows. */
+/* The search and the text of a function's values; NULL where the result or the error is given already. */
 static kept_search *asked(sqlite3_context *context, int n, sqlite3_value **values, text *given) {
     sought manner = {0};
     char *words = NULL;
+    kept_search *kept = NULL;
     if (has_null(n, values)) return NULL;
-    if (!text_of(values[0], given) || !manner_of(values + 2, n - 2, &manner, &words)) return fail(context, words), NULL;
-    kept_search *kept = sqlite3_get_auxdata(context, 1);
-    if (kept && !kept->is_old && is_like(&kept->of, &manner)) return kept;
-    if (!(kept = search_for(sqlite3_user_data(context), values[1], &manner, &words))) return fail(context, words), NULL;
-    kept->holders++;
-    sqlite3_set_auxdata(context, 1, kept, (void (*)(void *))let_go);
+    if (text_of(values[0], given) && manner_of(values + 2, n - 2, &manner, &words))
+        kept = search_for(sqlite3_user_data(context), values[1], &manner, given->len <= LONG_TEXT ? given->len : 0, &words);
+    if (!kept) fail(context, words);
     return kept;
+}
+
+/* Whether the query is interrupted, or ended by a progress handler. SQLite looks after both between the steps of a statement, so one is made
+ * that does nothing; where it can't be made, nothing is known. */
+static bool is_interrupted(sqlite3 *database, sqlite3_stmt **step) {
+    if (!*step) sqlite3_prepare_v2(database, "SELECT 1", -1, step, NULL);
+    int status = *step ? sqlite3_step(*step) : SQLITE_ROW;
+    sqlite3_reset(*step);
+    return status == SQLITE_INTERRUPT;
+}
+
+/* The next ranges of a long text, as far as they have room, or its end: SQLITE_OK, or SQLITE_INTERRUPT. */
+static int next_ranges(sqlite3 *database, walk *walk, colfind_range *out, size_t room, size_t *count) {
+    sqlite3_stmt *step = NULL;
+    bool is_ended = false;
+    while (!(*count = go_on(walk, out, room)) && !walk->has_ended && !is_ended)
+        is_ended = walk->len > 0 && is_interrupted(database, &step);
+    sqlite3_finalize(step);
+    return is_ended ? SQLITE_INTERRUPT : SQLITE_OK;
 }
 
 /* ---- the functions */
@@ -186,53 +218,74 @@ static size_t characters(const uint8_t *bytes, size_t len) {
     return count;
 }
 
+/* Whether a text has a range: the first one. -1 where the error is given already. */
+static int first_of_long(sqlite3_context *context, kept_search *kept, text given, colfind_range *out) {
+    size_t count;
+    walk walk = begin_walk(kept, given.bytes, given.len);
+    int status = next_ranges(sqlite3_context_db_handle(context), &walk, out, 1, &count);
+    colfind_free(&walk.search);
+    if (status) return sqlite3_result_error_code(context, status), -1;
+    if (count == 0 && walk.status.kind) return fail(context, fault_words("text", walk.status)), -1;
+    return (int)count;
+}
+
+static int first_of(sqlite3_context *context, kept_search *kept, text given, colfind_range *out) {
+    if (given.len > LONG_TEXT) return first_of_long(context, kept, given, out);
+    colfind_first first = colfind_first_in(&kept->search, given.bytes, given.len, 0);
+    if (first.status.kind) return fail(context, fault_words("text", first.status)), -1;
+    *out = first.range;
+    return (int)first.is_found;
+}
+
 static void has_function(sqlite3_context *context, int n, sqlite3_value **values) {
     text given;
+    colfind_range range;
     kept_search *kept = asked(context, n, values, &given);
     if (!kept) return;
-    uint32_t found = colfind_has(&kept->search, given.bytes, given.len);
-    if (found <= 1) sqlite3_result_int(context, (int)found);
-    else fail(context, fault_words("text", colfind_first_in(&kept->search, given.bytes, given.len, 0).status));
+    uint32_t has = given.len <= LONG_TEXT ? colfind_has(&kept->search, given.bytes, given.len) : 2;
+    int found = has <= 1 ? (int)has : first_of(context, kept, given, &range);
+    if (found >= 0) sqlite3_result_int(context, found);
 }
 
 static void range_function(sqlite3_context *context, int n, sqlite3_value **values) {
     text given;
+    colfind_range range;
     char printed[48];
     kept_search *kept = asked(context, n, values, &given);
-    if (!kept) return;
-    colfind_first first = colfind_first_in(&kept->search, given.bytes, given.len, 0);
-    if (first.status.kind) fail(context, fault_words("text", first.status));
-    if (!first.is_found) return;
-    size_t start = 1 + characters(given.bytes, first.range.start);
-    size_t end = start + characters(given.bytes + first.range.start, first.range.end - first.range.start);
+    if (!kept || first_of(context, kept, given, &range) <= 0) return;
+    size_t start = 1 + characters(given.bytes, range.start);
+    size_t end = start + characters(given.bytes + range.start, range.end - range.start);
     int len = snprintf(printed, sizeof printed, "[%zu,%zu]", start, end);
     sqlite3_result_text(context, printed, len, SQLITE_TRANSIENT);
 }
 
 /* ---- the table of all ranges. Its words are columns behind the others, as SQLite has it */
 
-enum { START, END, MATCH, WORDS, MOST_WORDS = 5 };
+enum { START, END, MATCH, WORDS, MOST_WORDS = 5, BATCH = 512 };
 
 typedef struct { sqlite3_vtab base; connection *own; } ranges_table;
 
-/* The ranges of a text, and how many characters stand before the one at hand. */
+/* The ranges of a text that were found last, which of them is at hand, and how many there were before it. `before` characters stand before
+ * the byte `from`, where the one at hand begins. */
 typedef struct {
     sqlite3_vtab_cursor base;
     sqlite3_value *values[MOST_WORDS];
     text given;
-    colfind_range *ranges;
-    size_t room, count, at, before;
+    walk walk;
+    size_t count, at, number, from, before;
+    colfind_range ranges[BATCH];
 } ranges_cursor;
 
 static int ranges_connect(sqlite3 *database, void *own, int n, const char *const *words, sqlite3_vtab **out, char **error) {
     (void)n, (void)words, (void)error;
-    ranges_table *made = sqlite3_malloc(sizeof *made);
-    if (!made) return SQLITE_NOMEM;
+    int status = sqlite3_declare_vtab(database, "CREATE TABLE ranges(start, \"end\", match, text HIDDEN, pattern HIDDEN, strength HIDDEN, "
+                                                "weighting HIDDEN, selection HIDDEN)");
+    if (status == SQLITE_OK) status = sqlite3_vtab_config(database, SQLITE_VTAB_INNOCUOUS);
+    ranges_table *made = status == SQLITE_OK ? sqlite3_malloc(sizeof *made) : NULL;
+    if (!made) return status ? status : SQLITE_NOMEM;
     *made = (ranges_table){.own = own};
     *out = &made->base;
-    sqlite3_vtab_config(database, SQLITE_VTAB_INNOCUOUS);
-    return sqlite3_declare_vtab(database, "CREATE TABLE ranges(start, \"end\", match, text HIDDEN, pattern HIDDEN, strength HIDDEN, "
-                                          "weighting HIDDEN, selection HIDDEN)");
+    return SQLITE_OK;
 }
 
 static int ranges_disconnect(sqlite3_vtab *table) {
@@ -266,40 +319,56 @@ static int ranges_open(sqlite3_vtab *table, sqlite3_vtab_cursor **out) {
     (void)table;
     ranges_cursor *made = sqlite3_malloc(sizeof *made);
     if (!made) return SQLITE_NOMEM;
-    *made = (ranges_cursor){0};
+    memset(made, 0, sizeof *made);
     *out = &made->base;
     return SQLITE_OK;
 }
 
 static void forget_words(ranges_cursor *cursor) {
     for (int i = 0; i < MOST_WORDS; i++) sqlite3_value_free(cursor->values[i]), cursor->values[i] = NULL;
-    cursor->count = cursor->at = cursor->before = 0;
+    colfind_free(&cursor->walk.search);
+    cursor->count = cursor->at = cursor->number = cursor->from = cursor->before = 0;
 }
 
 static int ranges_close(sqlite3_vtab_cursor *base) {
-    ranges_cursor *cursor = (ranges_cursor *)base;
-    forget_words(cursor);
-    sqlite3_free(cursor->ranges);
-    sqlite3_free(cursor);
+    forget_words((ranges_cursor *)base);
+    sqlite3_free(base);
     return SQLITE_OK;
 }
 
-/* All ranges of the cursor's text, with room for them: a status. */
-static colfind_status fill(ranges_cursor *cursor, kept_search *kept) {
-    for (;;) {
-        colfind_all all = colfind_all_in(&kept->search, cursor->given.bytes, cursor->given.len, cursor->ranges, cursor->room);
-        cursor->count = all.status.kind ? 0 : all.count;
-        if (all.status.kind != COLFIND_SMALL_BUFFER) return all.status;
-        colfind_range *more = sqlite3_realloc64(cursor->ranges, all.count * sizeof *more);
-        if (!more) return (colfind_status){COLFIND_NO_MEMORY, 0};
-        cursor->ranges = more, cursor->room = all.count;
-    }
+/* Ends a call of the table with the words, which are freed later. */
+static int refuse(sqlite3_vtab *table, char *words) {
+    if (!words) return SQLITE_NOMEM;
+    sqlite3_free(table->zErrMsg);
+    table->zErrMsg = words;
+    return SQLITE_ERROR;
 }
 
-static void go_to(ranges_cursor *cursor, size_t at) {
-    size_t from = at > 0 ? cursor->ranges[at - 1].start : 0;
+/* Goes to a range of those that were found last, or behind them to the next ones, which are read. The fault of a text stands behind all. */
+static int go_to(ranges_cursor *cursor, size_t at) {
+    sqlite3_vtab *table = cursor->base.pVtab;
     cursor->at = at;
-    if (at < cursor->count) cursor->before += characters(cursor->given.bytes + from, cursor->ranges[at].start - from);
+    if (at == cursor->count) {
+        cursor->at = 0;
+        int status = next_ranges(((ranges_table *)table)->own->database, &cursor->walk, cursor->ranges, BATCH, &cursor->count);
+        if (status) return status;
+        if (cursor->count == 0) return cursor->walk.status.kind ? refuse(table, fault_words("text", cursor->walk.status)) : SQLITE_OK;
+    }
+    size_t start = cursor->ranges[cursor->at].start;
+    cursor->before += characters(cursor->given.bytes + cursor->from, start - cursor->from);
+    cursor->from = start;
+    return SQLITE_OK;
+}
+
+/* Searches the cursor's text: a short one at once, by the search that is kept. */
+static void begin(ranges_cursor *cursor, kept_search *kept) {
+    text given = cursor->given;
+    if (given.len > BATCH) cursor->walk = begin_walk(kept, given.bytes, given.len);
+    else {
+        colfind_all all = colfind_all_in(&kept->search, given.bytes, given.len, cursor->ranges, BATCH);
+        cursor->walk = (walk){.status = all.status, .has_ended = true};
+        cursor->count = all.count < BATCH ? all.count : BATCH;
+    }
 }
 
 /* Copies the values to the places of their words; false where memory was refused. */
@@ -314,27 +383,22 @@ static int ranges_filter(sqlite3_vtab_cursor *base, int given, const char *name,
     ranges_cursor *cursor = (ranges_cursor *)base;
     sought manner = {0};
     char *words = NULL;
+    kept_search *kept = NULL;
     forget_words(cursor);
     if (has_null(n, values)) return SQLITE_OK;
     if (!take_words(cursor, given, values) || !text_of(cursor->values[0], &cursor->given)) return SQLITE_NOMEM;
-    kept_search *kept = NULL;
+    size_t len = cursor->given.len <= BATCH ? cursor->given.len : 0;
     if (manner_of(cursor->values + 2, MOST_WORDS - 2, &manner, &words))
-        kept = search_for(((ranges_table *)base->pVtab)->own, cursor->values[1], &manner, &words);
-    if (kept) {
-        colfind_status status = fill(cursor, kept);
-        if (!status.kind) return go_to(cursor, 0), SQLITE_OK;
-        words = fault_words("text", status);
-    }
-    if (!words) return SQLITE_NOMEM;
-    sqlite3_free(base->pVtab->zErrMsg);
-    base->pVtab->zErrMsg = words;
-    return SQLITE_ERROR;
+        kept = search_for(((ranges_table *)base->pVtab)->own, cursor->values[1], &manner, len, &words);
+    if (!kept) return refuse(base->pVtab, words);
+    begin(cursor, kept);
+    return go_to(cursor, 0);
 }
 
 static int ranges_next(sqlite3_vtab_cursor *base) {
     ranges_cursor *cursor = (ranges_cursor *)base;
-    go_to(cursor, cursor->at + 1);
-    return SQLITE_OK;
+    cursor->number++;
+    return go_to(cursor, cursor->at + 1);
 }
 
 static int ranges_end(sqlite3_vtab_cursor *base) {
@@ -355,7 +419,7 @@ static int ranges_column(sqlite3_vtab_cursor *base, sqlite3_context *context, in
 }
 
 static int ranges_row(sqlite3_vtab_cursor *base, sqlite3_int64 *out) {
-    *out = (sqlite3_int64)((ranges_cursor *)base)->at + 1;
+    *out = (sqlite3_int64)((ranges_cursor *)base)->number + 1;
     return SQLITE_OK;
 }
 
@@ -398,7 +462,8 @@ __attribute__((visibility("default"))) int sqlite3_modcolfind_init(sqlite3 *data
     take_calls(calls);
     connection *own = sqlite3_malloc(sizeof *own);
     if (!own) return SQLITE_NOMEM;
-    *own = (connection){.holders = 2};
+    *own = (connection){.database = database, .holders = 2};
+    begin_searches(&own->searches);
     int status = sqlite3_create_module_v2(database, "colfind_ranges", &ranges_module, own, leave);
     if (status == SQLITE_OK) status = add_functions(database, own);
     leave(own);
