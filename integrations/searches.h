@@ -106,15 +106,16 @@ static inline void set_search_size(searches *all, kept_search *kept, size_t size
     kept->search_size = size;
 }
 
-/* Makes room where there is more than is kept: first the searches give way, some at a time, and their patterns stay; then these too. The one
- * in front stays in any case. */
+/* Makes room where there is more than is kept: first searches give way, some at a time, and their patterns stay; then these too. What is in
+ * front stays in any case. */
 static inline void make_room(searches *all) {
     kept_search *kept, *first = TAILQ_FIRST(&all->by_use);
     if (all->size > SEARCHES_BYTES)
         TAILQ_FOREACH_REVERSE(kept, &all->by_use, searches_by_use, place) {
             if (kept == first || all->size <= SEARCHES_BYTES / 4 * 3) break;
             colfind_free(&kept->search);
-            set_search_size(all, kept, kept->seen = 0);
+            kept->seen = 0;
+            set_search_size(all, kept, 0);
         }
     while (all->count > SEARCHES_MOST || all->size > SEARCHES_BYTES) {
         if ((kept = TAILQ_LAST(&all->by_use, searches_by_use)) == first) break;

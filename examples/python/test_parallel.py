@@ -171,6 +171,40 @@ class ParallelTest(unittest.TestCase):
         self.assertLess(tracemalloc.get_traced_memory()[1], 2_000_000)
         tracemalloc.stop()
 
+    def test_many_ranges_in_a_part(self) -> None:
+        """A thread stops where it found some, and the one that takes them goes on: with each bound, in each way, what one search finds."""
+        rng = random.Random(3)
+        with patch.object(colfind, "_MANY", 4), patch.object(colfind, "_STEPS", 3), patch.object(colfind, "_LEAST_STEP", 3):
+            for _ in range(200):
+                data, chain = self.random_text(rng, 60) + b"aaa" * rng.randrange(9), rng.random() < 0.5
+                pattern = Pattern(self.table, rng.choice(SOUGHT), rng.randrange(1, 4))
+                found = pattern.search_parallel(data, rng.randrange(2, 5), chain, rng.randrange(4, 40))
+                self.assertEqual(all_of(found), all_of(pattern.search(data, chain)), data)
+
+    def test_memory_of_many_ranges(self) -> None:
+        """Where each byte begins a range, those of few bytes are held, also by many threads that wait for the one that takes them."""
+        code = f"""
+            import colfind, resource, time
+            with open({str(LETTERS)!r}, "rb") as file:
+                pattern = colfind.Pattern(colfind.Table(file.read()), "a", 1)
+            text, base = b"a" * (1 << 26), resource.getrusage(resource.RUSAGE_SELF).ru_maxrss
+            for workers in 4, 16:
+                found = pattern.search_parallel(text, workers)
+                print(next(found))
+                spent = -1.0
+                while time.process_time() - spent > 0.01:  # until the threads wait
+                    spent = time.process_time()
+                    time.sleep(0.2)
+                found.close()
+                print(resource.getrusage(resource.RUSAGE_SELF).ru_maxrss - base)
+            """
+        words = [sys.executable, "-c", textwrap.dedent(code)]
+        ran = subprocess.run(words, cwd=Path(colfind.__file__).parent, stdout=subprocess.PIPE, check=True, timeout=60)
+        printed = ran.stdout.split(b"\n")
+        self.assertEqual(printed[0], b"(0, 1)")
+        self.assertLess(int(printed[1]), 150_000)
+        self.assertLess(int(printed[3]), 200_000)
+
     def test_one_that_is_closed(self) -> None:
         """Its threads end, and the bytes can be changed."""
         before, data = threading.active_count(), bytearray(b"aa b" * 100_000)

@@ -1,8 +1,8 @@
 /* colfind: an extension of PostgreSQL that finds a pattern by Unicode collation. colfind--1.0.sql has its functions.
  *
  * A backend reads the table of colfind.table once, and keeps its searches for all calls, outside of the memory contexts: no call holds one
- * over a place where a query may end by an error or be cancelled. A text of more than LONG_TEXT bytes is fed in pieces, and all ranges of one
- * with more than BATCH; between two pieces the query can be cancelled. The library never leaves a call but by its return. */
+ * over a place where a query may end by an error or be cancelled. A text of more than LONG_TEXT bytes is fed in pieces, for all its ranges
+ * one of more than BATCH; between two pieces the query can be cancelled. The library never leaves a call but by its return. */
 #include "postgres.h"
 
 #include <fcntl.h>

@@ -1,4 +1,4 @@
-/* interrupted MODULE TABLE: a search of one long text without a match ends where it is interrupted, and where a progress handler ends it. */
+/* interrupted MODULE TABLE: a search of a long text without a match ends where it is interrupted, and where a progress handler ends it. */
 #include <assert.h>
 #include <sqlite3.h>
 #include <stdio.h>

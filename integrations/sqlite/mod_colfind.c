@@ -191,8 +191,8 @@ static kept_search *asked(sqlite3_context *context, int n, sqlite3_value **value
     return kept;
 }
 
-/* Whether the query is interrupted, or ended by a progress handler. SQLite looks after both between the steps of a statement, so one is made
- * that does nothing; where it can't be made, nothing is known. */
+/* Whether the query is interrupted, or ended by a progress handler. SQLite looks after both in the steps of a statement, so one is made that
+ * does nothing; where it can't be made, nothing is known. */
 static bool is_interrupted(sqlite3 *database, sqlite3_stmt **step) {
     if (!*step) sqlite3_prepare_v2(database, "SELECT 1", -1, step, NULL);
     int status = *step ? sqlite3_step(*step) : SQLITE_ROW;
