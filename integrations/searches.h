@@ -18,11 +18,12 @@ enum { SEARCHES_MOST = 256, SEARCHES_BYTES = 16 << 20, PIECE = 1 << 16, LONG_TEX
 typedef struct { const uint8_t *pattern; size_t len; uint8_t strength, variable, select; } sought;
 
 /* A search that serves text after text, and the pattern that it is of. The search may be left out, and is then made when it is asked for.
- * `seen` counts the bytes of the texts that it was asked for; the sizes are upper bounds of what the two have in memory. */
+ * `seen` counts the bytes of the texts that it was asked for, and `room` those of the longest one of which all ranges were; the sizes are
+ * upper bounds of what the two have in memory. */
 typedef struct kept_search {
     sought of; /* its pattern stands behind it */
     colfind_handle pattern, search;
-    size_t keys, seen, pattern_size, search_size;
+    size_t keys, seen, room, pattern_size, search_size;
     TAILQ_ENTRY(kept_search) place;
     uint8_t bytes[];
 } kept_search;
@@ -53,11 +54,12 @@ static inline const char *wrong_file(int file) {
 
 enum { SIZE_OF_PATTERN = 2048, SIZE_OF_KEY = 36, SIZE_OF_SEARCH = 32768, SIZE_OF_PLACE = 16, MOST_ROWS = 990, SIZE_OF_ROW = 800 };
 
-/* A search keeps the places of as many keys as its pattern has, the letters that it met, at most one a byte of text and then in a table of
- * 256 to 65,536, and the moves of an automaton, at most a row of them a byte. */
-static inline size_t size_of_search(size_t keys, size_t seen) {
-    size_t letters = seen < 192 ? 256 : seen < 384 ? 1024 : seen < 4096 ? 4096 : 65536;
-    return SIZE_OF_SEARCH + SIZE_OF_PLACE * keys + 12 * letters + SIZE_OF_ROW * (seen < MOST_ROWS ? seen : MOST_ROWS);
+/* A search keeps the places of as many keys as its pattern has; the letters that it met, at most one a byte of text, in a table of 256 to
+ * 65,536; the moves of an automaton, at most a row of them a byte; and, where all ranges were asked for, room for one a byte, and some more. */
+static inline size_t size_of_search(const kept_search *kept) {
+    size_t seen = kept->seen, letters = seen < 192 ? 256 : seen < 384 ? 1024 : seen < 4096 ? 4096 : 65536;
+    size_t of_text = 12 * letters + SIZE_OF_ROW * (seen < MOST_ROWS ? seen : MOST_ROWS);
+    return SIZE_OF_SEARCH + SIZE_OF_PLACE * kept->keys + of_text + (kept->room ? 32 * (kept->room + 800) : 0);
 }
 
 /* How many keys the pattern of a search has, which is the second of its words; 0 where memory is refused. */
@@ -114,7 +116,7 @@ static inline void make_room(searches *all) {
         TAILQ_FOREACH_REVERSE(kept, &all->by_use, searches_by_use, place) {
             if (kept == first || all->size <= SEARCHES_BYTES / 4 * 3) break;
             colfind_free(&kept->search);
-            kept->seen = 0;
+            kept->seen = kept->room = 0;
             set_search_size(all, kept, 0);
         }
     while (all->count > SEARCHES_MOST || all->size > SEARCHES_BYTES) {
@@ -162,15 +164,25 @@ static inline kept_search *known_search(searches *all, const sought *of) {
     return kept;
 }
 
+/* What is asked of a text of so many bytes: the first range, or all. */
+typedef enum { FIRST, ALL } question;
+
+/* The most bytes of a text that is searched by the search that is kept; a longer one has one of its own. */
+static inline size_t most_at_once(question asked) { return asked == ALL ? PIECE : LONG_TEXT; }
+
 /* The search for what is sought in a text of so many bytes; NULL with a status where it can't be made. It stays until the next one is asked
  * for. */
-static inline kept_search *find_search(searches *all, colfind_handle *table, const sought *of, size_t len, colfind_status *status) {
+static inline kept_search *find_search(searches *all, colfind_handle *table, const sought *of, size_t len, question asked,
+                                       colfind_status *status) {
     kept_search *kept = known_search(all, of);
     if (!kept && !(kept = add_search(all, table, of, status))) return NULL;
     if (!kept->search.at) *status = colfind_search(&kept->pattern, &kept->search, of->select);
     if (status->kind) return NULL;
-    kept->seen += len;
-    set_search_size(all, kept, size_of_search(kept->keys, kept->seen));
+    if (len <= most_at_once(asked)) {
+        kept->seen += len;
+        if (asked == ALL && len >= kept->room) kept->room = len + 1;
+    }
+    set_search_size(all, kept, size_of_search(kept));
     make_room(all);
     return kept;
 }

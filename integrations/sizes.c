@@ -68,15 +68,16 @@ static void compare(size_t base, const char *pattern, size_t keys, const char *t
 /* Texts of each script with one pattern: `steps` times as long each time. */
 static void search_texts(colfind_handle *table, const sought *of, size_t base, const char *name) {
     static uint8_t text[1 << 16];
-    colfind_range ranges[512];
+    colfind_range ranges[1];
     uint64_t seed = 1;
     for (size_t i = 0; i < sizeof scripts / sizeof *scripts; i++)
         for (size_t len = 16; len <= sizeof text; len *= 4) {
             colfind_status status = {0};
             size_t n = fill(text, len, &scripts[i], &seed);
-            kept_search *kept = find_search(&all, table, of, n, &status);
+            question asked = (i + of->strength) % 2 ? FIRST : ALL;
+            kept_search *kept = find_search(&all, table, of, n, asked, &status);
             if (!kept) return;
-            if (n <= 512) colfind_all_in(&kept->search, text, n, ranges, 512);
+            if (asked == ALL) colfind_all_in(&kept->search, text, n, ranges, 1);
             else colfind_has(&kept->search, text, n), colfind_first_in(&kept->search, text, n, n / 2);
             compare(base, name, kept->keys, scripts[i].name, n);
         }
@@ -99,7 +100,7 @@ int main(int argc, char **argv) {
     for (size_t i = 0; i < sizeof letters / sizeof *letters; i++)
         for (size_t len = 4; len <= sizeof pattern; len *= 4)
             for (uint8_t strength = 1; strength <= 3; strength++) {
-                sought of = {pattern, fill(pattern, len, &letters[i], &seed), strength, len % 3 == 1, strength % 2};
+                sought of = {pattern, fill(pattern, len, &letters[i], &seed), strength, strength % 2, i % 2};
                 search_texts(&table, &of, base, letters[i].name);
                 assert(all.count <= SEARCHES_MOST && (all.size <= SEARCHES_BYTES || all.count == 1));
             }

@@ -62,7 +62,7 @@ _LONG = 1 << 12  # how many bytes a call has that lets the lock of the interpret
 _AHEAD, _MOST_JOINED = 512, 1 << 16  # how many texts are read, and searched by one call, and how many characters they have at most
 _PART = 1 << 22  # the bytes of a part that one of some threads searches
 _STEPS, _LEAST_STEP = 1 << 20, 1 << 16  # how many bytes some threads search at once by a call each, and how many one does at least
-_MANY = 1 << 17  # how many numbers of a part a thread finds, and then those of one step more, before they are asked for
+_MOST_HELD = 1 << 17  # how many numbers of a part a thread finds, and then those of one step more, before they are asked for
 _Owning = TypeVar("_Owning", bound="_Owner")
 _Given = TypeVar("_Given")
 _FOLDER = Path(__file__).parent
@@ -757,7 +757,7 @@ def _some_of(search: Search, view: _View, start: int, end: int, step: int) -> _S
     """The numbers of the ranges of a part, the fault behind them, and where the part goes on: at its end, or where there are many."""
     numbers, status, at = array("Q"), _Status(0, 0), start
     try:
-        while at < end and len(numbers) < _MANY and not status.kind:
+        while at < end and len(numbers) < _MOST_HELD and not status.kind:
             stop = search._safe(view, view.length, at + step) if at + step < end else end
             some, status = search._part(view, view.length, at, stop)
             numbers += some

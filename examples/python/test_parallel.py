@@ -174,7 +174,7 @@ class ParallelTest(unittest.TestCase):
     def test_many_ranges_in_a_part(self) -> None:
         """A thread stops where it found some, and the one that takes them goes on: with each bound, in each way, what one search finds."""
         rng = random.Random(3)
-        with patch.object(colfind, "_MANY", 4), patch.object(colfind, "_STEPS", 3), patch.object(colfind, "_LEAST_STEP", 3):
+        with patch.object(colfind, "_MOST_HELD", 4), patch.object(colfind, "_STEPS", 3), patch.object(colfind, "_LEAST_STEP", 3):
             for _ in range(200):
                 data, chain = self.random_text(rng, 60) + b"aaa" * rng.randrange(9), rng.random() < 0.5
                 pattern = Pattern(self.table, rng.choice(SOUGHT), rng.randrange(1, 4))

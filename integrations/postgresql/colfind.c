@@ -1,8 +1,8 @@
 /* colfind: an extension of PostgreSQL that finds a pattern by Unicode collation. colfind--1.0.sql has its functions.
  *
  * A backend reads the table of colfind.table once, and keeps its searches for all calls, outside of the memory contexts: no call holds one
- * over a place where a query may end by an error or be cancelled. A text of more than LONG_TEXT bytes is fed in pieces, for all its ranges
- * one of more than BATCH; between two pieces the query can be cancelled. The library never leaves a call but by its return. */
+ * over a place where a query may end by an error or be cancelled. A long text is fed in pieces to a search of its own; between two of them the
+ * query can be cancelled. The library never leaves a call but by its return. */
 #include "postgres.h"
 
 #include <fcntl.h>
@@ -135,12 +135,12 @@ static sought sought_of(FunctionCallInfo fcinfo) {
 }
 
 /* The search that a call asks for, in a text of so many bytes. */
-static kept_search *search_of(FunctionCallInfo fcinfo, size_t len) {
+static kept_search *search_of(FunctionCallInfo fcinfo, size_t len, question asked) {
     sought of = sought_of(fcinfo);
     colfind_status status = {0};
     kept_search *kept;
     need_table();
-    if (!(kept = find_search(&session, &table, &of, len, &status))) report(ERROR, "pattern", status);
+    if (!(kept = find_search(&session, &table, &of, len, asked, &status))) report(ERROR, "pattern", status);
     return kept;
 }
 
@@ -171,7 +171,7 @@ static bool first_of_long(kept_search *kept, utf8 text, colfind_range *out) {
 }
 
 static bool first_of(kept_search *kept, utf8 text, colfind_range *out) {
-    if (text.len > LONG_TEXT) return first_of_long(kept, text, out);
+    if (text.len > most_at_once(FIRST)) return first_of_long(kept, text, out);
     colfind_first first = colfind_first_in(&kept->search, text.bytes, text.len, 0);
     if (first.status.kind) report(ERROR, "text", first.status);
     *out = first.range;
@@ -204,15 +204,15 @@ PG_FUNCTION_INFO_V1(pg_colfind_ranges);
 
 Datum pg_colfind(PG_FUNCTION_ARGS) {
     utf8 given = utf8_of(PG_GETARG_TEXT_PP(0));
-    kept_search *kept = search_of(fcinfo, given.len <= LONG_TEXT ? given.len : 0);
+    kept_search *kept = search_of(fcinfo, given.len, FIRST);
     colfind_range range;
-    uint32_t found = given.len <= LONG_TEXT ? colfind_has(&kept->search, given.bytes, given.len) : 2;
+    uint32_t found = given.len <= most_at_once(FIRST) ? colfind_has(&kept->search, given.bytes, given.len) : 2;
     PG_RETURN_BOOL(found <= 1 ? found : first_of(kept, given, &range));
 }
 
 Datum pg_colfind_range(PG_FUNCTION_ARGS) {
     utf8 given = utf8_of(PG_GETARG_TEXT_PP(0));
-    kept_search *kept = search_of(fcinfo, given.len <= LONG_TEXT ? given.len : 0);
+    kept_search *kept = search_of(fcinfo, given.len, FIRST);
     colfind_range range;
     size_t from = 0;
     int at = 0;
@@ -240,15 +240,20 @@ static void add_rows(rows *rows, const colfind_range *ranges, size_t n) {
     CHECK_FOR_INTERRUPTS();
 }
 
-/* All ranges of a text of at most BATCH bytes, by the search that is kept. */
+/* All ranges of a short text, by the search that is kept. */
 static void add_all(rows *rows, kept_search *kept) {
-    colfind_range ranges[BATCH];
-    colfind_all all = colfind_all_in(&kept->search, rows->text.bytes, rows->text.len, ranges, BATCH);
+    colfind_range few[BATCH], *ranges = few;
+    colfind_all all = colfind_all_in(&kept->search, rows->text.bytes, rows->text.len, few, BATCH);
+    if (all.status.kind == COLFIND_SMALL_BUFFER) {
+        ranges = palloc(all.count * sizeof *ranges);
+        all = colfind_all_in(&kept->search, rows->text.bytes, rows->text.len, ranges, all.count);
+    }
     if (all.status.kind) report(ERROR, "text", all.status);
     add_rows(rows, ranges, all.count);
+    if (ranges != few) pfree(ranges);
 }
 
-/* All ranges of another one, by a search of its own. */
+/* All ranges of a long text, by a search of its own. */
 static void add_all_of_long(rows *rows, kept_search *kept) {
     colfind_range ranges[BATCH];
     walk walk = begin_walk(kept, rows->text.bytes, rows->text.len);
@@ -265,10 +270,10 @@ static void add_all_of_long(rows *rows, kept_search *kept) {
 
 Datum pg_colfind_ranges(PG_FUNCTION_ARGS) {
     rows rows = {.out = (ReturnSetInfo *)fcinfo->resultinfo, .text = utf8_of(PG_GETARG_TEXT_PP(0))};
-    kept_search *kept = search_of(fcinfo, rows.text.len <= BATCH ? rows.text.len : 0);
+    kept_search *kept = search_of(fcinfo, rows.text.len, ALL);
     InitMaterializedSRF(fcinfo, 0);
     rows.memory = AllocSetContextCreate(CurrentMemoryContext, "colfind", ALLOCSET_DEFAULT_SIZES);
-    if (rows.text.len <= BATCH) add_all(&rows, kept);
+    if (rows.text.len <= most_at_once(ALL)) add_all(&rows, kept);
     else add_all_of_long(&rows, kept);
     MemoryContextDelete(rows.memory);
     return (Datum)0;

@@ -162,13 +162,13 @@ static bool manner_of(sqlite3_value **values, int n, sought *out, char **words) 
 }
 
 /* The search for a pattern in this manner, in a text of so many bytes; NULL with words. */
-static kept_search *search_for(connection *own, sqlite3_value *pattern, const sought *manner, size_t len, char **words) {
+static kept_search *search_for(connection *own, sqlite3_value *pattern, const sought *manner, size_t len, question asked, char **words) {
     text given;
     colfind_status status = {0};
     if (!text_of(pattern, &given)) return *words = NULL, NULL;
     if (!has_table(own, words)) return NULL;
     sought of = {given.bytes, given.len, manner->strength, manner->variable, manner->select};
-    kept_search *kept = find_search(&own->searches, &own->table, &of, len, &status);
+    kept_search *kept = find_search(&own->searches, &own->table, &of, len, asked, &status);
     if (!kept) *words = fault_words("pattern", status);
     return kept;
 }
@@ -186,7 +186,7 @@ static kept_search *asked(sqlite3_context *context, int n, sqlite3_value **value
     kept_search *kept = NULL;
     if (has_null(n, values)) return NULL;
     if (text_of(values[0], given) && manner_of(values + 2, n - 2, &manner, &words))
-        kept = search_for(sqlite3_user_data(context), values[1], &manner, given->len <= LONG_TEXT ? given->len : 0, &words);
+        kept = search_for(sqlite3_user_data(context), values[1], &manner, given->len, FIRST, &words);
     if (!kept) fail(context, words);
     return kept;
 }
@@ -230,7 +230,7 @@ static int first_of_long(sqlite3_context *context, kept_search *kept, text given
 }
 
 static int first_of(sqlite3_context *context, kept_search *kept, text given, colfind_range *out) {
-    if (given.len > LONG_TEXT) return first_of_long(context, kept, given, out);
+    if (given.len > most_at_once(FIRST)) return first_of_long(context, kept, given, out);
     colfind_first first = colfind_first_in(&kept->search, given.bytes, given.len, 0);
     if (first.status.kind) return fail(context, fault_words("text", first.status)), -1;
     *out = first.range;
@@ -242,7 +242,7 @@ static void has_function(sqlite3_context *context, int n, sqlite3_value **values
     colfind_range range;
     kept_search *kept = asked(context, n, values, &given);
     if (!kept) return;
-    uint32_t has = given.len <= LONG_TEXT ? colfind_has(&kept->search, given.bytes, given.len) : 2;
+    uint32_t has = given.len <= most_at_once(FIRST) ? colfind_has(&kept->search, given.bytes, given.len) : 2;
     int found = has <= 1 ? (int)has : first_of(context, kept, given, &range);
     if (found >= 0) sqlite3_result_int(context, found);
 }
@@ -261,19 +261,19 @@ static void range_function(sqlite3_context *context, int n, sqlite3_value **valu
 
 /* ---- the table of all ranges. Its words are columns behind the others, as SQLite has it */
 
-enum { START, END, MATCH, WORDS, MOST_WORDS = 5, BATCH = 512 };
+enum { START, END, MATCH, WORDS, MOST_WORDS = 5, BATCH = 256 };
 
 typedef struct { sqlite3_vtab base; connection *own; } ranges_table;
 
 /* The ranges of a text that were found last, which of them is at hand, and how many there were before it. `before` characters stand before
- * the byte `from`, where the one at hand begins. */
+ * the byte `from`, where the one at hand begins. `ranges` has room for BATCH at least. */
 typedef struct {
     sqlite3_vtab_cursor base;
     sqlite3_value *values[MOST_WORDS];
     text given;
     walk walk;
-    size_t count, at, number, from, before;
-    colfind_range ranges[BATCH];
+    colfind_range *ranges;
+    size_t room, count, at, number, from, before;
 } ranges_cursor;
 
 static int ranges_connect(sqlite3 *database, void *own, int n, const char *const *words, sqlite3_vtab **out, char **error) {
@@ -318,8 +318,9 @@ static int ranges_plan(sqlite3_vtab *table, sqlite3_index_info *info) {
 static int ranges_open(sqlite3_vtab *table, sqlite3_vtab_cursor **out) {
     (void)table;
     ranges_cursor *made = sqlite3_malloc(sizeof *made);
-    if (!made) return SQLITE_NOMEM;
-    memset(made, 0, sizeof *made);
+    colfind_range *ranges = sqlite3_malloc(BATCH * sizeof *ranges);
+    if (!made || !ranges) return sqlite3_free(made), sqlite3_free(ranges), SQLITE_NOMEM;
+    *made = (ranges_cursor){.ranges = ranges, .room = BATCH};
     *out = &made->base;
     return SQLITE_OK;
 }
@@ -331,8 +332,10 @@ static void forget_words(ranges_cursor *cursor) {
 }
 
 static int ranges_close(sqlite3_vtab_cursor *base) {
-    forget_words((ranges_cursor *)base);
-    sqlite3_free(base);
+    ranges_cursor *cursor = (ranges_cursor *)base;
+    forget_words(cursor);
+    sqlite3_free(cursor->ranges);
+    sqlite3_free(cursor);
     return SQLITE_OK;
 }
 
@@ -350,7 +353,7 @@ static int go_to(ranges_cursor *cursor, size_t at) {
     cursor->at = at;
     if (at == cursor->count) {
         cursor->at = 0;
-        int status = next_ranges(((ranges_table *)table)->own->database, &cursor->walk, cursor->ranges, BATCH, &cursor->count);
+        int status = next_ranges(((ranges_table *)table)->own->database, &cursor->walk, cursor->ranges, cursor->room, &cursor->count);
         if (status) return status;
         if (cursor->count == 0) return cursor->walk.status.kind ? refuse(table, fault_words("text", cursor->walk.status)) : SQLITE_OK;
     }
@@ -360,14 +363,18 @@ static int go_to(ranges_cursor *cursor, size_t at) {
     return SQLITE_OK;
 }
 
-/* Searches the cursor's text: a short one at once, by the search that is kept. */
-static void begin(ranges_cursor *cursor, kept_search *kept) {
-    text given = cursor->given;
-    if (given.len > BATCH) cursor->walk = begin_walk(kept, given.bytes, given.len);
-    else {
-        colfind_all all = colfind_all_in(&kept->search, given.bytes, given.len, cursor->ranges, BATCH);
+/* Finds all ranges of the cursor's text, with room for them, by the search that is kept. */
+static void fill(ranges_cursor *cursor, kept_search *kept) {
+    for (;;) {
+        colfind_all all = colfind_all_in(&kept->search, cursor->given.bytes, cursor->given.len, cursor->ranges, cursor->room);
         cursor->walk = (walk){.status = all.status, .has_ended = true};
-        cursor->count = all.count < BATCH ? all.count : BATCH;
+        cursor->count = all.count;
+        if (all.status.kind != COLFIND_SMALL_BUFFER) return;
+        cursor->count = 0;
+        colfind_range *more = sqlite3_realloc64(cursor->ranges, all.count * sizeof *more);
+        cursor->walk.status = (colfind_status){COLFIND_NO_MEMORY, 0};
+        if (!more) return;
+        cursor->ranges = more, cursor->room = all.count;
     }
 }
 
@@ -387,11 +394,11 @@ static int ranges_filter(sqlite3_vtab_cursor *base, int given, const char *name,
     forget_words(cursor);
     if (has_null(n, values)) return SQLITE_OK;
     if (!take_words(cursor, given, values) || !text_of(cursor->values[0], &cursor->given)) return SQLITE_NOMEM;
-    size_t len = cursor->given.len <= BATCH ? cursor->given.len : 0;
     if (manner_of(cursor->values + 2, MOST_WORDS - 2, &manner, &words))
-        kept = search_for(((ranges_table *)base->pVtab)->own, cursor->values[1], &manner, len, &words);
+        kept = search_for(((ranges_table *)base->pVtab)->own, cursor->values[1], &manner, cursor->given.len, ALL, &words);
     if (!kept) return refuse(base->pVtab, words);
-    begin(cursor, kept);
+    if (cursor->given.len <= most_at_once(ALL)) fill(cursor, kept);
+    else cursor->walk = begin_walk(kept, cursor->given.bytes, cursor->given.len);
     return go_to(cursor, 0);
 }
 
@@ -464,8 +471,9 @@ __attribute__((visibility("default"))) int sqlite3_modcolfind_init(sqlite3 *data
     if (!own) return SQLITE_NOMEM;
     *own = (connection){.database = database, .holders = 2};
     begin_searches(&own->searches);
-    int status = sqlite3_create_module_v2(database, "colfind_ranges", &ranges_module, own, leave);
-    if (status == SQLITE_OK) status = add_functions(database, own);
+    int status = add_functions(database, own); /* first: a second load by a statement ends here, for they are in use then */
+    if (status == SQLITE_OK) status = sqlite3_create_module_v2(database, "colfind_ranges", &ranges_module, own, leave);
+    else leave(own);
     leave(own);
     return status;
 }
