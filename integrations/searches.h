@@ -168,19 +168,19 @@ static inline kept_search *known_search(searches *all, const sought *of) {
 typedef enum { FIRST, ALL } question;
 
 /* The most bytes of a text that is searched by the search that is kept; a longer one has one of its own. */
-static inline size_t most_at_once(question asked) { return asked == ALL ? PIECE : LONG_TEXT; }
+static inline size_t most_at_once(question wanted) { return wanted == ALL ? PIECE : LONG_TEXT; }
 
 /* The search for what is sought in a text of so many bytes; NULL with a status where it can't be made. It stays until the next one is asked
  * for. */
-static inline kept_search *find_search(searches *all, colfind_handle *table, const sought *of, size_t len, question asked,
+static inline kept_search *find_search(searches *all, colfind_handle *table, const sought *of, size_t len, question wanted,
                                        colfind_status *status) {
     kept_search *kept = known_search(all, of);
     if (!kept && !(kept = add_search(all, table, of, status))) return NULL;
     if (!kept->search.at) *status = colfind_search(&kept->pattern, &kept->search, of->select);
     if (status->kind) return NULL;
-    if (len <= most_at_once(asked)) {
+    if (len <= most_at_once(wanted)) {
         kept->seen += len;
-        if (asked == ALL && len >= kept->room) kept->room = len + 1;
+        if (wanted == ALL && len >= kept->room) kept->room = len + 1;
     }
     set_search_size(all, kept, size_of_search(kept));
     make_room(all);

@@ -74,10 +74,10 @@ static void search_texts(colfind_handle *table, const sought *of, size_t base, c
         for (size_t len = 16; len <= sizeof text; len *= 4) {
             colfind_status status = {0};
             size_t n = fill(text, len, &scripts[i], &seed);
-            question asked = (i + of->strength) % 2 ? FIRST : ALL;
-            kept_search *kept = find_search(&all, table, of, n, asked, &status);
+            question wanted = (i + of->strength) % 2 ? FIRST : ALL;
+            kept_search *kept = find_search(&all, table, of, n, wanted, &status);
             if (!kept) return;
-            if (asked == ALL) colfind_all_in(&kept->search, text, n, ranges, 1);
+            if (wanted == ALL) colfind_all_in(&kept->search, text, n, ranges, 1);
             else colfind_has(&kept->search, text, n), colfind_first_in(&kept->search, text, n, n / 2);
             compare(base, name, kept->keys, scripts[i].name, n);
         }

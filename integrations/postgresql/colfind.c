@@ -135,12 +135,12 @@ static sought sought_of(FunctionCallInfo fcinfo) {
 }
 
 /* The search that a call asks for, in a text of so many bytes. */
-static kept_search *search_of(FunctionCallInfo fcinfo, size_t len, question asked) {
+static kept_search *search_of(FunctionCallInfo fcinfo, size_t len, question wanted) {
     sought of = sought_of(fcinfo);
     colfind_status status = {0};
     kept_search *kept;
     need_table();
-    if (!(kept = find_search(&session, &table, &of, len, asked, &status))) report(ERROR, "pattern", status);
+    if (!(kept = find_search(&session, &table, &of, len, wanted, &status))) report(ERROR, "pattern", status);
     return kept;
 }
 

@@ -162,13 +162,13 @@ static bool manner_of(sqlite3_value **values, int n, sought *out, char **words) 
 }
 
 /* The search for a pattern in this manner, in a text of so many bytes; NULL with words. */
-static kept_search *search_for(connection *own, sqlite3_value *pattern, const sought *manner, size_t len, question asked, char **words) {
+static kept_search *search_for(connection *own, sqlite3_value *pattern, const sought *manner, size_t len, question wanted, char **words) {
     text given;
     colfind_status status = {0};
     if (!text_of(pattern, &given)) return *words = NULL, NULL;
     if (!has_table(own, words)) return NULL;
     sought of = {given.bytes, given.len, manner->strength, manner->variable, manner->select};
-    kept_search *kept = find_search(&own->searches, &own->table, &of, len, asked, &status);
+    kept_search *kept = find_search(&own->searches, &own->table, &of, len, wanted, &status);
     if (!kept) *words = fault_words("pattern", status);
     return kept;
 }
