@@ -9,6 +9,7 @@ import tempfile
 import unittest
 
 import limited
+from stream_tests import SIGNALS
 
 TOOLS = os.path.dirname(os.path.abspath(__file__))
 TOP = os.path.dirname(TOOLS)
@@ -86,7 +87,7 @@ parts.checks.main()
 
     def test_signals_that_are_ignored(self):
         """As a shell has SIGINT ignored in a job that a script starts with `&`, and nohup SIGHUP."""
-        ignore = {"preexec_fn": lambda: [signal.signal(number, signal.SIG_IGN) for number in (signal.SIGINT, signal.SIGTERM, signal.SIGHUP)]}
+        ignore = {"preexec_fn": lambda: [signal.signal(number, signal.SIG_IGN) for number in SIGNALS]}
         for folder, *words in (TOOLS, "test_files", "test_show", "test_tailor"), (f"{TOP}/examples/python", "test_parallel"):
             status, printed = self.ran(folder, "-v", "-k", "interrupt", *words, **ignore)
             self.assertEqual((status, len(re.findall(r"^test_\w*interrupt.*", printed, re.M))), (0, 4 if words[1:] else 1), printed)

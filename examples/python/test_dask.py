@@ -288,8 +288,8 @@ class PortsTest(unittest.TestCase):
 
     def test_the_client_of_the_document(self) -> None:
         call = re.search(r"this machine: Client\((.*)\)", (ROOT / "docs" / "LARGE.md").read_text("utf-8"))[1]
-        lines = "import sys", "from distributed import Client", "if __name__ == '__main__':", f"    with Client({call}):", "        sys.stdin.read()"
-        (Path(self.folder.name) / "alone.py").write_text("\n".join(lines))
+        head, lines = "import sys\nfrom distributed import Client\n", f"    with Client({call}):\n        sys.stdin.read()\n"
+        (Path(self.folder.name) / "alone.py").write_text(f"{head}if __name__ == '__main__':\n{lines}")
         self.start("alone.py")
         self.listens_alone(8)
 

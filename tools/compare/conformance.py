@@ -1,6 +1,6 @@
 """Asks the library of each line of Unicode's conformance test of CLDR's table: a short text and its weights. At strengths 1 to 3: has it a
-key exactly where weights are printed, is it equal to the line before exactly where these are, is it equal to itself, as it stands and in NFC
-and NFD, and is it found in itself.
+key exactly where weights are printed, is it equal to the line before exactly where these are, is it equal to itself, as it stands and in
+NFC and NFD, and is it found in itself.
 
     python3 conformance.py FOLDER TABLE [STEP]
 
