@@ -52,7 +52,7 @@ static inline const char *wrong_file(int file) {
 
 /* ---- how much memory they have. The library does not tell it; this is more than it takes, by its code and as measured */
 
-enum { SIZE_OF_PATTERN = 2048, SIZE_OF_KEY = 36, SIZE_OF_SEARCH = 32768, SIZE_OF_PLACE = 16, MOST_ROWS = 990, SIZE_OF_ROW = 800 };
+enum { SIZE_OF_PATTERN = 2048, SIZE_OF_KEY = 36, SIZE_OF_SEARCH = 10240, SIZE_OF_PLACE = 16, MOST_ROWS = 990, SIZE_OF_ROW = 800 };
 
 /* A search keeps the places of as many keys as its pattern has; the letters that it met, at most one a byte of text, in a table of 256 to
  * 65,536; the moves of an automaton, at most a row of them a byte; and, where all ranges were asked for, room for one a byte, and some more. */
