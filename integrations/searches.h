@@ -1,6 +1,7 @@
 /* What SQLite and PostgreSQL have in common: the words of a call, the searches that a session keeps while rows come, and a long text on its
  * way through a search of its own. A session keeps a search for each pattern with its strength, weighting and selection, at most
- * SEARCHES_MOST, which have at most SEARCHES_BYTES together; the least recently used gives way. None of it is for two threads at once. */
+ * SEARCHES_MOST. They have at most SEARCHES_BYTES together, and LETTERS_BYTES more for what they found out of the letters of texts; the least
+ * recently used gives way. None of it is for two threads at once. */
 #ifndef SEARCHES_H
 #define SEARCHES_H
 #include "colfind.h"
@@ -12,7 +13,7 @@
 #include <sys/queue.h>
 #include <sys/stat.h>
 
-enum { SEARCHES_MOST = 256, SEARCHES_BYTES = 16 << 20, PIECE = 1 << 16, LONG_TEXT = 1 << 20, MOST_FILE = 1 << 28 };
+enum { SEARCHES_MOST = 256, SEARCHES_BYTES = 16 << 20, LETTERS_BYTES = 64 << 20, PIECE = 1 << 16, LONG_TEXT = 1 << 20, MOST_FILE = 1 << 28 };
 
 /* What is sought, and how. */
 typedef struct { const uint8_t *pattern; size_t len; uint8_t strength, variable, select; } sought;
@@ -23,13 +24,13 @@ typedef struct { const uint8_t *pattern; size_t len; uint8_t strength, variable,
 typedef struct kept_search {
     sought of; /* its pattern stands behind it */
     colfind_handle pattern, search;
-    size_t keys, seen, room, pattern_size, search_size;
+    size_t keys, seen, room, pattern_size, search_size, letters_size;
     TAILQ_ENTRY(kept_search) place;
     uint8_t bytes[];
 } kept_search;
 
 /* The searches that are kept: in front the one that was asked for last; and a tree of them by what they seek. */
-typedef struct { TAILQ_HEAD(searches_by_use, kept_search) by_use; void *by_sought; size_t count, size; } searches;
+typedef struct { TAILQ_HEAD(searches_by_use, kept_search) by_use; void *by_sought; size_t count, size, letters_size; } searches;
 
 /* 0 or 1 for the first or second of two words, else -1. */
 static inline int one_of(const char *word, size_t len, const char *zero, const char *one) {
@@ -54,12 +55,16 @@ static inline const char *wrong_file(int file) {
 
 enum { SIZE_OF_PATTERN = 2048, SIZE_OF_KEY = 36, SIZE_OF_SEARCH = 10240, SIZE_OF_PLACE = 16, MOST_ROWS = 990, SIZE_OF_ROW = 800 };
 
-/* A search keeps the places of as many keys as its pattern has; the letters that it met, at most one a byte of text, in a table of 256 to
- * 65,536; the moves of an automaton, at most a row of them a byte; and, where all ranges were asked for, room for one a byte, and some more. */
+/* A search keeps the places of as many keys as its pattern has, and, where all ranges were asked for, room for one a byte, and some more. */
 static inline size_t size_of_search(const kept_search *kept) {
-    size_t seen = kept->seen, letters = seen < 192 ? 256 : seen < 384 ? 1024 : seen < 4096 ? 4096 : 65536;
-    size_t of_text = 12 * letters + SIZE_OF_ROW * (seen < MOST_ROWS ? seen : MOST_ROWS);
-    return SIZE_OF_SEARCH + SIZE_OF_PLACE * kept->keys + of_text + (kept->room ? 32 * (kept->room + 800) : 0);
+    return SIZE_OF_SEARCH + SIZE_OF_PLACE * kept->keys + (kept->room ? 32 * (kept->room + 800) : 0);
+}
+
+/* It keeps the letters that it met, at most one a byte of text, in a table of 256 to 65,536, and the moves of an automaton, at most a row of
+ * them a byte. Of most texts it keeps a tenth of that: they have few letters. */
+static inline size_t size_of_letters(size_t seen) {
+    size_t letters = seen < 192 ? 256 : seen < 384 ? 1024 : seen < 4096 ? 4096 : 65536;
+    return 12 * letters + SIZE_OF_ROW * (seen < MOST_ROWS ? seen : MOST_ROWS);
 }
 
 /* How many keys the pattern of a search has, which is the second of its words; 0 where memory is refused. */
@@ -94,7 +99,7 @@ static inline void free_search(kept_search *kept) {
 static inline void forget_search(searches *all, kept_search *kept) {
     tdelete(&kept->of, &all->by_sought, order);
     TAILQ_REMOVE(&all->by_use, kept, place);
-    all->count--, all->size -= kept->pattern_size + kept->search_size;
+    all->count--, all->size -= kept->pattern_size + kept->search_size, all->letters_size -= kept->letters_size;
     free_search(kept);
 }
 
@@ -103,21 +108,21 @@ static inline void forget_searches(searches *all) {
     while (!TAILQ_EMPTY(&all->by_use)) forget_search(all, TAILQ_FIRST(&all->by_use));
 }
 
-static inline void set_search_size(searches *all, kept_search *kept, size_t size) {
-    all->size += size - kept->search_size;
-    kept->search_size = size;
+static inline void set_sizes(searches *all, kept_search *kept, size_t search, size_t letters) {
+    all->size += search - kept->search_size, all->letters_size += letters - kept->letters_size;
+    kept->search_size = search, kept->letters_size = letters;
 }
 
 /* Makes room where there is more than is kept: first searches give way, some at a time, and their patterns stay; then these too. What is in
  * front stays in any case. */
 static inline void make_room(searches *all) {
     kept_search *kept, *first = TAILQ_FIRST(&all->by_use);
-    if (all->size > SEARCHES_BYTES)
+    if (all->size > SEARCHES_BYTES || all->letters_size > LETTERS_BYTES)
         TAILQ_FOREACH_REVERSE(kept, &all->by_use, searches_by_use, place) {
-            if (kept == first || all->size <= SEARCHES_BYTES / 4 * 3) break;
+            if (kept == first || (all->size <= SEARCHES_BYTES / 4 * 3 && all->letters_size <= LETTERS_BYTES / 4 * 3)) break;
             colfind_free(&kept->search);
             kept->seen = kept->room = 0;
-            set_search_size(all, kept, 0);
+            set_sizes(all, kept, 0, 0);
         }
     while (all->count > SEARCHES_MOST || all->size > SEARCHES_BYTES) {
         if ((kept = TAILQ_LAST(&all->by_use, searches_by_use)) == first) break;
@@ -182,7 +187,7 @@ static inline kept_search *find_search(searches *all, colfind_handle *table, con
         kept->seen += len;
         if (wanted == ALL && len >= kept->room) kept->room = len + 1;
     }
-    set_search_size(all, kept, size_of_search(kept));
+    set_sizes(all, kept, size_of_search(kept), size_of_letters(kept->seen));
     make_room(all);
     return kept;
 }

@@ -57,11 +57,12 @@ static searches all;
 static double most;
 
 static void compare(size_t base, const char *pattern, size_t keys, const char *text, size_t len) {
-    double part = (double)(held - base) / (double)all.size;
+    size_t size = all.size + all.letters_size;
+    double part = (double)(held - base) / (double)size;
     if (part <= most) return;
     most = part;
-    printf("%.2f of the size: %zu bytes of %zu, pattern of %zu keys of %s, text of %zu bytes of %s\n", part, held - base, all.size, keys,
-           pattern, len, text);
+    printf("%.2f of the size: %zu bytes of %zu, pattern of %zu keys of %s, text of %zu bytes of %s\n", part, held - base, size, keys, pattern,
+           len, text);
     assert(part <= 1);
 }
 
@@ -102,11 +103,12 @@ int main(int argc, char **argv) {
             for (uint8_t strength = 1; strength <= 3; strength++) {
                 sought of = {pattern, fill(pattern, len, &letters[i], &seed), strength, strength % 2, i % 2};
                 search_texts(&table, &of, base, letters[i].name);
-                assert(all.count <= SEARCHES_MOST && (all.size <= SEARCHES_BYTES || all.count == 1));
+                assert(all.count <= SEARCHES_MOST && all.letters_size <= LETTERS_BYTES);
+                assert(all.size <= SEARCHES_BYTES || all.count == 1);
             }
-    printf("%zu patterns, %zu bytes, %.2f of their size at most\n", all.count, all.size, most);
+    printf("%zu patterns, sizes of %zu and %zu bytes, of which %.2f at most were there\n", all.count, all.size, all.letters_size, most);
     forget_searches(&all);
-    assert(held == base && all.count == 0 && all.size == 0);
+    assert(held == base && all.count + all.size + all.letters_size == 0);
     colfind_free(&table);
     return 0;
 }
