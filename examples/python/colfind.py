@@ -61,7 +61,7 @@ _NEAR = 16  # how many characters are asked first for a safe one
 _LONG = 1 << 12  # how many bytes a call has that lets the lock of the interpreter go: to get it back costs as much as a shorter one
 _AHEAD, _MOST_JOINED = 512, 1 << 16  # how many texts are read, and searched by one call, and how many characters they have at most
 _PART = 1 << 22  # the bytes of a part that one of some threads searches
-_STEPS, _LEAST_STEP = 1 << 20, 1 << 16  # how many bytes some threads search at once by a call each, and how many one does at least
+_STEPS, _LEAST_STEP = 1 << 21, 1 << 16  # how many bytes some threads search at once by a call each, and how many one does at least
 _MOST_HELD = 1 << 17  # how many numbers of a part a thread finds, and then those of one step more, before they are asked for
 _Owning = TypeVar("_Owning", bound="_Owner")
 _Given = TypeVar("_Given")

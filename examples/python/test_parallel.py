@@ -202,7 +202,7 @@ class ParallelTest(unittest.TestCase):
         ran = subprocess.run(words, cwd=Path(colfind.__file__).parent, stdout=subprocess.PIPE, check=True, timeout=60)
         printed = ran.stdout.split(b"\n")
         self.assertEqual(printed[0], b"(0, 1)")
-        self.assertLess(int(printed[1]), 150_000)
+        self.assertLess(int(printed[1]), 200_000)
         self.assertLess(int(printed[3]), 200_000)
 
     def test_one_that_is_closed(self) -> None:
