@@ -78,6 +78,17 @@ T.test('names of files', function()
   T.same('what is there', listed(), before)
 end)
 
+T.test('a name like an address', function()
+  fresh({ ['ftp:/h/x'] = 'no\nhi\n' })
+  vim.cmd('runtime plugin/netrwPlugin.vim')
+  for _, name in ipairs({ 'ftp://h/x', 'ftp:/h/x', 'ftp:/*/x' }) do
+    T.same(name, found('hi ' .. name), { 'ftp:/h/x:2' })
+    vim.cmd('cc 1')
+    T.same('where :cc leads', { api.nvim_buf_get_name(0), T.cursor() }, { folder .. '/ftp:/h/x', { 2, 0 } })
+    vim.cmd('silent! %bwipeout!')
+  end
+end)
+
 T.test('words that Neovim or a shell would expand', function()
   fresh({ ['x'] = 'hi\n' })
   vim.cmd('edit x')
