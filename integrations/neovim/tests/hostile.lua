@@ -3,8 +3,9 @@ local T = dofile(vim.env.TESTS .. '/helper.lua')
 local api, uv = vim.api, vim.loop
 
 local NAMES = {
-  'x`touch pwned`', 'a%b', 'a#b', 'a b', '-n', 'a\nb', 'a*b', '[x]', '$HOME', '~', '~root', '%', '#', '##', 'a|b', 'a"b', "a'b", 'a\\b',
-  'a\\{b', '{a,b}', '<cword>', '`=writefile([],"pwned")`', '$(touch pwned)', ';touch pwned', '+touch', 'e\27]0;title\7', 'é\194\155', 'b\255',
+  'x`touch pwned`', 'a%b', 'a#b', 'a b', '-n', 'a\nb', 'a*b', '[x]', '$HOME', '~', '~root', '%', '#', '##', 'a|b', 'a"b', "a'b",
+  'a\\b', 'a\\{b', '{a,b}',
+  '<cword>', '`=writefile([],"pwned")`', '$(touch pwned)', ';touch pwned', '+touch', 'e\27]0;title\7', 'é\194\155', 'b\255',
 }
 local folder = uv.fs_realpath(vim.fn.fnamemodify(vim.fn.tempname(), ':h')) .. '/hostile'
 
@@ -92,7 +93,9 @@ end)
 T.test('words that Neovim or a shell would expand', function()
   fresh({ ['x'] = 'hi\n' })
   vim.cmd('edit x')
-  for _, word in ipairs({ '`touch\\ pwned`', '`=1`', '$(touch\\ pwned)', '%:p', '#1', '<cword>', '$HOME/x', '~root/x', '{`touch\\ pwned`,y}*' }) do
+  for _, word in ipairs({
+    '`touch\\ pwned`', '`=1`', '$(touch\\ pwned)', '%:p', '#1', '<cword>', '$HOME/x', '~root/x', '{`touch\\ pwned`,y}*',
+  }) do
     T.same(word, found('hi ' .. word), {})
     T.same('what is said of ' .. word, vim.v.warningmsg,
       ('colfind: 0 matches, 1 fault: %s: No such file or directory'):format((word:gsub('\\ ', ' '))))
@@ -134,16 +137,17 @@ end)
 
 T.test('patterns of names', function()
   fresh({
-    ['a.txt'] = 'hi', ['b.md'] = 'hi', ['.hidden.md'] = 'hi', ['s/c.md'] = 'hi', ['s/t/d.md'] = 'hi', ['s/t/[d].md'] = 'hi', ['.git/e.md'] = 'hi',
-    ['*.txt'] = 'hi', ['z/x.txt'] = 'hi', ['a\nb.txt'] = 'hi', ['é.c'] = 'hi',
+    ['a.txt'] = 'hi', ['b.md'] = 'hi', ['.hidden.md'] = 'hi', ['s/c.md'] = 'hi', ['s/t/d.md'] = 'hi', ['s/t/[d].md'] = 'hi',
+    ['.git/e.md'] = 'hi', ['*.txt'] = 'hi', ['z/x.txt'] = 'hi', ['a\nb.txt'] = 'hi', ['é.c'] = 'hi',
   })
   uv.fs_symlink(folder, folder .. '/s/t/up')
   uv.fs_symlink('../a.txt', folder .. '/z/link.txt')
   uv.fs_symlink('none', folder .. '/z/none.txt')
   vim.env.HOME = folder .. '/s'
   for _, case in ipairs({
-    { '*.txt', '*.txt', 'a\nb.txt', 'a.txt' }, { '\\*.txt', '*.txt' }, { '**/*.md', 'b.md', 's/c.md', 's/t/[d].md', 's/t/d.md' },
-    { '**/t/**', 's/t/[d].md', 's/t/d.md' }, { '*/*.txt', 'a.txt', 'z/x.txt' }, { '[ab].*', 'a.txt', 'b.md' }, { '[^ab].*', '*.txt', 'é.c' },
+    { '*.txt', '*.txt', 'a\nb.txt', 'a.txt' }, { '\\*.txt', '*.txt' }, { '[ab].*', 'a.txt', 'b.md' },
+    { '**/*.md', 'b.md', 's/c.md', 's/t/[d].md', 's/t/d.md' }, { '**/t/**', 's/t/[d].md', 's/t/d.md' }, { '[^ab].*', '*.txt', 'é.c' },
+    { '*/*.txt', 'a.txt', 'z/x.txt' }, -- the first by a link: it is the buffer of what that leads to
     { '*.{md,c}', 'b.md', 'é.c' }, { '?.md', 'b.md' }, { '?.c', 'é.c' }, { '.*.md', '.hidden.md' }, { '.git/*', '.git/e.md' },
     { '~/t/d*', 's/t/d.md' }, { '~/c.md', 's/c.md' }, { 's/t/[d].md', 's/t/d.md' }, { 's/t/\\[d].md', 's/t/[d].md' }, { './b.md', 'b.md' },
     { 's/../b.*', 'b.md' }, { folder .. '/b*', 'b.md' }, { 'b.md b.md ./b.md b*', 'b.md' }, { 's/*/up/b*', 'b.md' }, { 'B*' }, { '*.none' },
@@ -155,7 +159,7 @@ T.test('patterns of names', function()
     T.same(case[1], found('hi ' .. case[1]), wanted)
   end
   T.same('what is said', vim.v.warningmsg, 'colfind: 0 matches, 1 fault: {a*: No such file or directory')
-  vim.o.wildignore = '*/t/*,a.*,[*'
+  vim.o.wildignore = '*/t/d*,s/t/[[]*,a.*,[*'
   T.same('but for wildignore', found('hi **/*.md a.* *.txt'), { 'b.md:1', 's/c.md:1', '*.txt:1', 'a\nb.txt:1' })
   T.same('by its name', found('hi a.txt'), { 'a.txt:1' })
   vim.o.wildignore = ''
@@ -168,7 +172,8 @@ T.test('what is no file', function()
   local writer = vim.fn.jobstart({ 'sh', '-c', 'while sleep 5; do : <> fifo; done' }) -- so that who waits goes on
   T.same('the others are searched', found('hi b fifo large /dev/tty none a.txt/ ~ a.txt'), { 'a.txt:1' })
   T.same('what is said', vim.v.warningmsg, 'colfind: 1 matches, 7 faults: b: Is a directory')
-  for name, why in pairs({ fifo = 'no file of at most %d MB', large = 'no file of at most %d MB', ['/'] = 'Is a directory', ['b/'] = 'Is a directory' }) do
+  local no_file = 'no file of at most %d MB'
+  for name, why in pairs({ fifo = no_file, large = no_file, ['/'] = 'Is a directory', ['b/'] = 'Is a directory' }) do
     found('hi ' .. name)
     T.same('what is said', vim.v.warningmsg, ('colfind: 0 matches, 1 fault: %s: %s'):format(name, why:format(1024)))
     vim.g.colfind_table = name
@@ -196,8 +201,8 @@ end)
 
 T.test('texts that would act on a screen', function()
   fresh({
-    ['zero'] = 'a\0hi\0\n\0\0\nhi\0', ['signs'] = '\tx\27]0;title\7 hi \194\155 \226\128\174 \226\128\168 é \255\n', ['e\27c\n\216\156'] = 'hi\255',
-    ['b'] = 'hi',
+    zero = 'a\0hi\0\n\0\0\nhi\0', signs = '\tx\27]0;title\7 hi \194\155 \226\128\174 \226\128\168 é \255\n', b = 'hi',
+    ['e\27c\n\216\156'] = 'hi\255',
   })
   T.same('zero bytes', found('hi zero b'), { 'zero:1', 'zero:3', 'b:1' })
   local function texts()
@@ -212,7 +217,8 @@ T.test('texts that would act on a screen', function()
     T.same('texts', texts(), { '\tx?]0;title? hi ? ? ? é \255' })
   end
   found('hi e*')
-  T.same('what is said', vim.v.warningmsg, 'colfind: 1 matches, 1 fault: e?c??: fault 31 at 2: the text is not UTF-8 here, or ends amid a character')
+  T.same('what is said', vim.v.warningmsg,
+    'colfind: 1 matches, 1 fault: e?c??: fault 31 at 2: the text is not UTF-8 here, or ends amid a character')
   found('h\27\n\tb')
   T.same('what is said', T.said(), { 'E480: No match: h??' })
   T.same('the title', vim.fn.getqflist({ title = 0 }).title, ':ColfindGrep h??\tb')
@@ -226,13 +232,18 @@ T.test('texts that would act on a screen', function()
 end)
 
 T.test('words are completed by names', function()
-  fresh({ ['a b'] = '', ['a`touch pwned`'] = '', ['a%'] = '', ['%a'] = '', ['a*'] = '', ['a\nb'] = '', ['.a'] = '', ['s/ü[1]'] = '', ['s/t/x'] = '' })
+  fresh({
+    ['a b'] = '', ['a`touch pwned`'] = '', ['a%'] = '', ['%a'] = '', ['a*'] = '', ['a\nb'] = '', ['.a'] = '', ['s/ü[1]'] = '',
+    ['s/t/x'] = '',
+  })
   vim.env.HOME = folder .. '/s'
   for line, wanted in pairs({
-    ['ColfindGrep hi a'] = { 'a\\ b', 'a%', 'a\\*', 'a`touch\\ pwned`' }, ['ColfindGrep hi '] = { '\\%a', 'a\\ b', 'a%', 'a\\*', 'a`touch\\ pwned`', 's/' },
+    ['ColfindGrep hi '] = { '\\%a', 'a\\ b', 'a%', 'a\\*', 'a`touch\\ pwned`', 's/' },
+    ['ColfindGrep hi a'] = { 'a\\ b', 'a%', 'a\\*', 'a`touch\\ pwned`' }, ['ColfindGrep  a'] = {},
     ['ColfindGrep hi a\\ '] = { 'a\\ b' }, ['ColfindGrep hi .'] = { '.a' }, ['ColfindGrep /x y/ x s/'] = { 's/t/', 's/ü\\[1]' },
     ['ColfindGrep hi ~/'] = { '~/t/', '~/ü\\[1]' }, ['ColfindG hi ' .. folder .. '/s/t/'] = { folder .. '/s/t/x' },
-    ['ColfindGrep a'] = {}, ['ColfindGrep hi `touch\\ pwned`'] = {}, ['ColfindGrep hi $(touch\\ pwned)'] = {}, ['ColfindGrep hi none/'] = {},
+    ['ColfindGrep a'] = {}, ['ColfindGrep hi none/'] = {},
+    ['ColfindGrep hi `touch\\ pwned`'] = {}, ['ColfindGrep hi $(touch\\ pwned)'] = {},
   }) do
     local got = vim.fn.getcompletion(line, 'cmdline')
     table.sort(got)

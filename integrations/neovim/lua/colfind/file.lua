@@ -55,7 +55,7 @@ function M.list(folder)
   end
   local entries = {}
   for name, type in uv.fs_scandir_next, listing do
-    entries[#entries + 1] = { name = name, type = type ~= 'unknown' and type or uv.fs_lstat(folder .. '/' .. name).type }
+    entries[#entries + 1] = { name = name, type = type ~= 'unknown' and type or (uv.fs_lstat(folder .. '/' .. name) or {}).type }
   end
   return entries
 end

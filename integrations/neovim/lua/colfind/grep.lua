@@ -50,9 +50,11 @@ local function each_source(meant, base, visit)
   local named, has = buffers(), {}
   local function once(name, whole, why)
     local buf = named[whole]
-    if why or not has[buf or whole] then
-      has[buf or whole or why] = true
-      visit(not why and { name = name, whole = whole, buf = buf } or nil, why)
+    if why then
+      visit(nil, why)
+    elseif not has[buf or whole] then
+      has[buf or whole] = true
+      visit({ name = name, whole = whole, buf = buf })
     end
   end
   for _, of in ipairs(meant) do
@@ -116,9 +118,9 @@ local function shown_line(text, place)
 end
 
 -- The items of the ranges from one to before another, with the places of their ends.
-local function items_of(source, text, stream, first, stop_before, from, to)
+local function items_of(source, text, stream, first, behind, from, to)
   local items = {}
-  for i = first, stop_before - 1 do
+  for i = first, behind - 1 do
     local start, stop = stream:range(i)
     advance(text, from, start)
     advance(text, to, stop)

@@ -29,15 +29,17 @@ local function parts_of(pattern)
   return parts
 end
 
--- Whether 'wildignore' has a name in a folder.
-local function ignoring()
+-- Whether 'wildignore' has a name, whose end is `last`. As in Vim a pattern with a slash is for the name, from here or as a whole.
+local function ignoring(root)
   local patterns = vim.tbl_map(function(pattern)
-    return { regex = regex_of(pattern), is_whole = pattern:find('/') }
+    return { regex = regex_of(pattern), has_slash = pattern:find('/') }
   end, vim.opt.wildignore:get())
-  return function(folder, name)
+  return function(name, last)
     for _, pattern in ipairs(patterns) do
-      if pattern.regex and pattern.regex:match_str(pattern.is_whole and folder .. name or name) then
-        return true
+      for _, of in ipairs(pattern.regex and (pattern.has_slash and { name, root .. name } or { last }) or {}) do
+        if pattern.regex:match_str(of) then
+          return true
+        end
       end
     end
     return false
@@ -56,7 +58,7 @@ local function entries_of(walk, folder, part)
   end
   return vim.tbl_filter(function(entry)
     local is_shown = part.name:find('^%.') or not entry.name:find('^%.')
-    return is_shown and part.regex:match_str(entry.name) and not walk.ignores(walk.root .. folder, entry.name)
+    return is_shown and part.regex:match_str(entry.name) and not walk.ignores(folder .. entry.name, entry.name)
   end, entries)
 end
 
@@ -101,7 +103,7 @@ function M.each(word, base, visit)
   end
   local parts = words.is_pattern(rest) and parts_of(rest)
   if parts then
-    go({ root = root, parts = parts, visit = found, ignores = ignoring(), told = {} })
+    go({ root = root, parts = parts, visit = found, ignores = ignoring(root), told = {} })
   end
   if not has then
     found(words.name(rest))

@@ -80,8 +80,8 @@ local function drop(scan)
   scans[scan.buf] = nil
 end
 
--- Lets go of the scans of other patterns, and of buffers that are loaded no more; and of those that no window shows, the least recently used
--- first, as far as they are more than are kept.
+-- Lets go of the scans of other patterns, and of buffers that are loaded no more; and of those that no window shows the least recently
+-- used, as far as they are more than are kept.
 function M.keep(pattern)
   local hidden, size = {}, 0
   for buf, scan in pairs(scans) do

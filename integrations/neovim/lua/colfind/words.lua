@@ -47,7 +47,7 @@ end
 
 -- What a word that is typed up to the cursor may become, as Neovim asks for it. A name with control characters is left out.
 function M.complete(lead, line, cursor)
-  if not line:sub(1, cursor - #lead):find('Colfind%a*[ \t]+.') then
+  if not line:sub(1, cursor - #lead):find('Colfind%a*[ \t]+[^ \t]') then
     return {} -- it is the pattern
   end
   local word = M.split(lead)[1] or ''
