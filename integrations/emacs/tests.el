@@ -136,7 +136,8 @@
     (cdr (should-error (colfind-search-forward "resume")))))
 
 (ert-deftest colfind-names-of-tables ()
-  (let* ((folder (file-name-as-directory (make-temp-file "colfind" t))) (default-directory folder))
+  (let* ((folder (file-name-as-directory (make-temp-file "colfind" t))) (default-directory folder)
+         (writer (start-process "writer" nil "sh" "-c" "while sleep 5; do : <> fifo; done"))) ; so that who waits goes on
     (tests-with "résumé"
       (dolist (name '("t`touch pwned`" "a%b" "$HOME" "-n" "[a]*" "a\nb" "ssh:none:x"))
         (copy-file tests-letters (concat folder name))
@@ -150,6 +151,7 @@
       (dolist (file (list (concat folder "fifo") (concat folder "large") "/dev/zero"))
         (should (equal (tests-error file) (list "no file of at most 256 MB" file))))
       (should-not (directory-files folder nil "\\`pwned")))
+    (delete-process writer)
     (delete-directory folder t)))
 
 (ert-deftest colfind-strings-are-taken-as-they-are ()
@@ -176,7 +178,7 @@
       (mapc #'delete-file files))))
 
 (ert-deftest colfind-bytes-that-are-no-characters-in-a-large-buffer ()
-  (tests-with (string-to-multibyte (make-string 524288 255))
+  (tests-with (make-string 524288 #x3fffff) ; bytes FF
     (goto-char (point-max))
     (insert "résumé")
     (goto-char (point-min))
