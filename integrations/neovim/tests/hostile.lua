@@ -79,6 +79,39 @@ T.test('names of files', function()
   T.same('what is there', listed(), before)
 end)
 
+T.test('random names and words', function()
+  math.randomseed(101)
+  local signs = {
+    '`', '%', '#', '*', '?', '[', ']', '{', '}', ',', '\\', '~', '$', ' ', '\t', '\n', '|', '"', "'", '!', '<', '>', '(', ')', '^', '.', '-',
+    '+', '=', ';', '&', ':', '@', 'a', 'B', 'touch', 'pwned', 'é', '\255', '\27', '\1',
+  }
+  local function some(most)
+    local parts = {}
+    for i = 1, math.random(most) do
+      parts[i] = signs[math.random(#signs)]
+    end
+    return table.concat(parts)
+  end
+  fresh()
+  local wanted = {}
+  for _ = 1, 100 do
+    local name = some(5)
+    if name ~= '.' and name ~= '..' and not wanted[name] then
+      write(name, 'hi')
+      T.same('by its name', found('hi ' .. typed(name)), { name .. ':1' })
+      wanted[name] = true
+    end
+  end
+  local names = listed()
+  for _ = 1, 300 do
+    local words = some(8)
+    found('/hi/ ./' .. words)
+    assert(not vim.v.warningmsg:find('%.lua:'), vim.v.warningmsg)
+    vim.fn.getcompletion('ColfindGrep hi ' .. words, 'cmdline')
+  end
+  T.same('what is there', listed(), names)
+end)
+
 T.test('a name like an address', function()
   fresh({ ['ftp:/h/x'] = 'no\nhi\n' })
   vim.cmd('runtime plugin/netrwPlugin.vim')
