@@ -82,8 +82,8 @@ end)
 T.test('random names and words', function()
   math.randomseed(101)
   local signs = {
-    '`', '%', '#', '*', '?', '[', ']', '{', '}', ',', '\\', '~', '$', ' ', '\t', '\n', '|', '"', "'", '!', '<', '>', '(', ')', '^', '.', '-',
-    '+', '=', ';', '&', ':', '@', 'a', 'B', 'touch', 'pwned', 'é', '\255', '\27', '\1',
+    '`', '%', '#', '*', '?', '[', ']', '{', '}', ',', '\\', '~', '$', ' ', '\t', '\n', '|', '"', "'", '!', '<', '>', '(', ')', '^', '.',
+    '-', '+', '=', ';', '&', ':', '@', 'a', 'B', 'touch', 'pwned', 'é', '\255', '\27', '\1',
   }
   local function some(most)
     local parts = {}
@@ -215,6 +215,13 @@ T.test('what is no file', function()
     vim.g.colfind_table = T.letters
   end
   T.same('a pattern takes files', found('hi *'), { 'a.txt:1' })
+  local file, stat = require('colfind.file'), uv.fs_stat
+  uv.fs_stat = function() -- what was looked at just before something else took its place
+    return { type = 'file', size = 1 }
+  end
+  local read = { { file.read('fifo', 'fifo', 1) }, { file.read('/dev/zero', 'zero', 1) }, { file.read('b', 'b', 1) } }
+  uv.fs_stat = stat
+  T.same('what is read', read, { { '' }, { nil, 'zero: no file of at most 1 MB' }, { nil, 'b: Illegal operation on a directory' } })
   vim.fn.jobstop(writer)
 end)
 

@@ -3,42 +3,44 @@
 local uv = vim.loop
 local M = {}
 
+local MB = 1048576
 local PIECE = 262144 -- bytes that are read at once
-local HOW = uv.constants.O_RDONLY + uv.constants.O_NONBLOCK -- so that a FIFO keeps nobody waiting
+local HOW = uv.constants.O_RDONLY + uv.constants.O_NONBLOCK
 
 -- What the system says of a failure, as C writes it.
 local function reason(failure)
   return ((failure:match('^%w+: ([^:]*)') or failure):gsub('^%l', string.upper))
 end
 
--- The bytes of an open file, at most so many MB, or nil and why there are none.
-local function bytes_of(file, most)
-  local about, failure = uv.fs_fstat(file)
-  local pieces, left, too_much = {}, most * 1048576, ('no file of at most %d MB'):format(most)
-  if not about then
-    return nil, reason(failure)
-  elseif about.type ~= 'file' or about.size > left then
-    return nil, about.type == 'directory' and 'Is a directory' or too_much
-  end
+-- The bytes of an open file, or nil and the failure; nil alone where they are more than so many.
+local function bytes_of(file, left)
+  local pieces = {}
   repeat
-    local piece, why = uv.fs_read(file, PIECE, -1)
+    local piece, failure = uv.fs_read(file, PIECE, -1)
     if not piece or #piece > left then
-      return nil, why and reason(why) or too_much
+      return nil, failure
     end
     pieces[#pieces + 1], left = piece, left - #piece
   until piece == ''
   return table.concat(pieces)
 end
 
--- The bytes of a file of at most so many MB, or nil and a message, in which its name is `shown`.
+-- The bytes of a file of at most so many MB, or nil and a message, in which its name is `shown`. Nothing but a file is opened; should another
+-- thing have taken its place since it was looked at, nobody waits for that, and no more is read of it.
 function M.read(name, shown, most)
-  local file, failure = uv.fs_open(name, HOW, 0)
-  if not file then
-    return nil, ('%s: %s'):format(shown, reason(failure))
+  local about, failure = uv.fs_stat(name)
+  local why, bytes = ('no file of at most %d MB'):format(most), nil
+  if about and about.type == 'directory' then
+    why = 'Is a directory'
+  elseif about and about.type == 'file' and about.size <= most * MB then
+    local file
+    file, failure = uv.fs_open(name, HOW, 0)
+    if file then
+      bytes, failure = bytes_of(file, most * MB)
+      uv.fs_close(file)
+    end
   end
-  local bytes, why = bytes_of(file, most)
-  uv.fs_close(file)
-  return bytes, why and ('%s: %s'):format(shown, why)
+  return bytes, not bytes and ('%s: %s'):format(shown, failure and reason(failure) or why) or nil
 end
 
 -- What a name leads to: `file`, `directory` or another type, or nil.
