@@ -242,7 +242,7 @@ end)
 T.test('texts that would act on a screen', function()
   fresh({
     zero = 'a\0hi\0\n\0\0\nhi\0', signs = '\tx\27]0;title\7 hi \194\155 \226\128\174 \226\128\168 é \255\n', b = 'hi',
-    ['e\27c\n\216\156'] = 'hi\255',
+    ['e\27c\n\216\156'] = 'hi x\255',
   })
   T.same('zero bytes', found('hi zero b'), { 'zero:1', 'zero:3', 'b:1' })
   local function texts()
@@ -258,7 +258,7 @@ T.test('texts that would act on a screen', function()
   end
   found('hi e*')
   T.same('what is said', vim.v.warningmsg,
-    'colfind: 1 matches, 1 fault: e?c??: fault 31 at 2: the text is not UTF-8 here, or ends amid a character')
+    'colfind: 1 matches, 1 fault: e?c??: fault 31 at 4: the text is not UTF-8 here, or ends amid a character')
   found('h\27\n\tb')
   T.same('what is said', T.said(), { 'E480: No match: h??' })
   T.same('the title', vim.fn.getqflist({ title = 0 }).title, ':ColfindGrep h??\tb')
