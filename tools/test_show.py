@@ -174,6 +174,14 @@ class ShowTest(StreamTests, unittest.TestCase):
         self.assertEqual(self.ran([SHOW, folder], b"0:1\n"), (2, b"", self.complaint(f"{folder}: Is a directory")))
         self.assertEqual(self.ran([SHOW, "/none"], b"0:1\n"), (2, b"", self.complaint("/none: No such file or directory")))
 
+    def test_names_that_would_act_on_a_terminal(self):
+        """They are one line without a control; a byte that is not UTF-8 is printed as it is."""
+        name = "/a\x1b]0;b\x07\n\x85\u2028\u202e\u2066\u200f\u061c\ufeff\U000e0041\udc9b\udcffb"
+        wanted = b"/a\xef\xbf\xbd]0;b\xef\xbf\xbd\xffb"
+        self.assertEqual(self.ran([SHOW, name]), (2, b"", self.complaint("NAME: No such file or directory").replace(b"NAME", wanted)))
+        complained = self.ran([SHOW, "a", "b\x1bc\n"])[2]
+        self.assertTrue(complained.endswith("unrecognized arguments: b\ufffdc\ufffd\n".encode()), complained)
+
     def test_file_that_gets_shorter(self):
         path = self.file("ab\n" + "x" * 500_000)
         with subprocess.Popen([SHOW, path], stdin=subprocess.PIPE, stdout=subprocess.PIPE, stderr=subprocess.PIPE) as child:

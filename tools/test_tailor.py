@@ -117,9 +117,11 @@ class TailorTest(StreamTests, unittest.TestCase):
         self.assertEqual(self.found(table, ["ä = ae", *PREFIXES], "baer", "bär baer", 1), ["bär", "baer"])
 
     def test_files_that_are_not_read(self):
-        for path, cause in (self.folder, "Is a directory"), ("/none", "No such file or directory"):
-            self.assertEqual(self.ran([TAILOR, path, "ä = ae"]), (2, b"", self.complaint(f"{path}: {cause}")))
-            self.assertEqual(self.redirected([TAILOR, path, "ä = ae"], "<&- >&-"), (2, b"", self.complaint(f"{path}: {cause}")))
+        none = "No such file or directory"
+        for path, cause in (self.folder, "Is a directory"), ("/none", none), ("/\x1b\n", none):
+            complaint = self.complaint(f"{path}: {cause}".replace("\x1b\n", "\ufffd"))
+            self.assertEqual(self.ran([TAILOR, path, "ä = ae"]), (2, b"", complaint))
+            self.assertEqual(self.redirected([TAILOR, path, "ä = ae"], "<&- >&-"), (2, b"", complaint))
 
     def test_closed_streams_that_are_not_used(self):
         wanted = self.ran([TAILOR, LETTERS, "ä = ae"])
