@@ -14,7 +14,7 @@
  * Offsets are in bytes from the beginning of the text; the end of a range is not part of it. */
 #ifndef COLFIND_H
 #define COLFIND_H
-#define COLFIND_VERSION "1.4.6"
+#define COLFIND_VERSION "1.5.0"
 #include <stddef.h>
 #include <stdint.h>
 #ifdef __cplusplus

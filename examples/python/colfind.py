@@ -40,7 +40,7 @@ else:
     Bytes = object  # with bytes; each version of Python has another name for it
 
 __all__ = ["Fault", "Kind", "Pattern", "Search", "Table"]
-__version__ = "1.4.6"
+__version__ = "1.5.0"
 
 
 def _struct(**fields: type) -> type[Structure]:
