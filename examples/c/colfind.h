@@ -169,10 +169,10 @@ colfind_first colfind_ends(colfind_handle *pattern, const uint8_t *text, size_t 
 /* An offset, if `is_found` is 1; else both are 0. */
 typedef struct { colfind_status status; uint32_t is_found; uint64_t at; } colfind_place;
 
-/* The nearest safe offset at `from` or behind it, and the nearest one before `before`: a search that begins there finds what the whole text
- * has from there on, whatever stands before. `from` and `before` may be within a character, or behind the end. The handle holds a table, or
- * a pattern or a search that was made with it, and stays as it is. No memory is needed. All bytes are looked at up to the offset, and all
- * that there are where none is safe. */
+/* The nearest safe offset at `from` or behind it, and the nearest one before `before`: the character there alone tells that a search which
+ * begins there finds what the whole text has from there on. `from` and `before` may be within a character, or behind the end. The handle
+ * holds a table, or a pattern or a search that was made with it, and stays as it is. No memory is needed. All bytes are looked at up to the
+ * offset, and all that there are where none is safe. */
 colfind_place colfind_next_safe(colfind_handle *handle, const uint8_t *bytes, size_t n, size_t from);
 colfind_place colfind_previous_safe(colfind_handle *handle, const uint8_t *bytes, size_t n, size_t before);
 

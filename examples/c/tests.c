@@ -359,7 +359,7 @@ static void safe_offsets(colfind_handle *table, colfind_handle *pattern, const u
         offset = found_at;
         assert(next.is_found ? next.at >= at && next.at < n : next.at == 0);
         int is_safe = offset == at;
-        if (at < n && text[at] == 'a') assert(is_safe);
+        if (at < n && text[at] && strchr("abcemrsu", text[at])) assert(is_safe); /* contractions begin with `c` and with `u` */
         if (at < n && (text[at] == 'h' || (text[at] & 0xC0) == 0x80)) assert(!is_safe);
         if (!is_safe) continue;
         last = at;

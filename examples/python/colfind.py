@@ -467,7 +467,7 @@ class Table(_Owner):
 
     def next_safe(self, text: str | Bytes, start: int = 0) -> int | None:
         """The nearest offset, from `start` on, from which a search with this table finds what the whole text has from there on, whatever
-        stands before; or None. Of a str it reads, and encodes, no more than twice the way to it."""
+        stands before and behind the character there; or None. Of a str it reads, and encodes, no more than twice the way to it."""
         if not isinstance(text, str):
             return _over("text", text, lambda data, length: self._place(_C.colfind_next_safe, data, length, _offset(start, length)), _TEXT)
         text = _exact(text)

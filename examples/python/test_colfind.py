@@ -317,6 +317,7 @@ class Tests(unittest.TestCase):
                                      [one for one in ranges if one[0] >= at])
                     places += 1
         self.assertGreater(places, 500)
+        self.assertEqual([at for at in range(6) if self.table.next_safe("achu\u0301", at) == at], [0, 1, 3])
         self.assertEqual((self.table.next_safe("\u0301" * 5_000 + "a"), self.table.previous_safe("a" + "\u0301" * 5_000, 5_001)), (5_000, 0))
         self.assertEqual((self.table.next_safe(""), self.table.previous_safe("", 0), self.table.previous_safe(b"\xff", 1)), (None, None, None))
 

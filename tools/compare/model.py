@@ -280,7 +280,6 @@ class SafeOffsets:
         rows, self.ranges = table
         self.mapped = {key[0] for key in rows if len(key) == 1}
         self.behind_first = {code_point for key in rows for code_point in key[1:]}
-        self.begins_longer = {key[0] for key in rows if len(key) > 1}
         self.without_primary = {key[0] for key, row in rows.items() if not row[0][1]}
 
     def is_safe_code_point(self, code_point):
@@ -288,13 +287,13 @@ class SafeOffsets:
         return has_primary and code_point not in self.behind_first | self.without_primary
 
     def of(self, data):
-        """The safe offsets, and of each whether a contraction begins with what stands there: then it need not be told."""
+        """The safe offsets of bytes."""
         for at in range(len(data)):
             for length in range(1, 5):
                 with contextlib.suppress(UnicodeDecodeError):
                     first = decomposition(ord(data[at : at + length].decode()))[0]
                     if not combining_class(first) and self.is_safe_code_point(first):
-                        yield at, first in self.begins_longer
+                        yield at
                     break
 
 

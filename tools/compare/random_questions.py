@@ -20,6 +20,9 @@ import scripts
 PERL = os.path.join(os.path.dirname(os.path.abspath(__file__)), "perl_equal.pl")
 IGNORED = ["\u00ad", "\u200b", "-", " ", "\u0301", "\u20dd"]
 FAULTS = [b"\xff", b"\xc3", "a\u0301".encode() + "\u0301".encode() * 31]
+# lines with letters with which contractions of CLDR's table begin, a blank among them: of Latin, Cyrillic, Arabic, Thai and Lao
+FIRST_LETTERS = ["lake col\u00b7legi L\u00b7L", "\u0438\u0438\u0438\u0438\u0438 \u0439", "\u0627\u0644\u0639\u0627\u0644\u0645 \u0648\u064a\u0624\u0626\u0622",
+                 "\u0e44\u0e17\u0e22 \u0e40\u0e01\u0e32\u0e30", "\u0ec3\u0e99\u0ea5\u0eb2\u0ea7 \u0ec0\u0e81"]
 QUIET = "\U0002a6d6".encode()  # a letter that stands in no pattern, and in no string of a table
 
 
@@ -116,13 +119,12 @@ class Questions:
         if self.perl and not front.fault and told != self.perl.are_equal(strength, is_shifted, pattern, data.decode()):
             self.differ("Perl", strength, is_shifted, pattern, data, told)
         self.by_perl += self.perl is not None and not front.fault
-        self.ask_safe(library_table, table, safe, data)
+        self.ask_safe(library_table, table, safe, data, [choice.randrange(len(data) + 1)])
 
     def ask_back(self, table, safe, settings, compiled, way):
         """The last match before an offset, and the one that ends the text. What each tells is equal for Perl too."""
         strength, is_shifted, pattern = settings
-        places = [at for at, begins_longer in safe.of(way.short) if not begins_longer]
-        back = model.Back(table, strength, is_shifted, pattern.encode(), way.short, places)
+        back = model.Back(table, strength, is_shifted, pattern.encode(), way.short, safe.of(way.short))
         wanted = way.in_data(back.last_before(way.in_short(way.at))), way.in_data(back.ends())
         told = self.answered(lambda: compiled.last_before(way.data, way.at)), self.answered(lambda: compiled.ends(way.data))
         if wanted[1] and wanted[1][0] == "fault" and told[1] is None and any(back.is_decided_by(*place) for place in way.counted(places)):
@@ -161,16 +163,15 @@ class Questions:
             if (ranges, fault) != wanted:
                 self.differ("parts", cuts, data, wanted, (ranges, fault))
 
-    def ask_safe(self, library_table, table, safe, data):
-        """Each offset that is told must be safe, and the nearest one but for those with which a contraction begins."""
-        offsets = dict(safe.of(data))
-        known = [at for at, begins_longer in offsets.items() if not begins_longer]
-        self.safe += len(known)
-        at = self.choice.randrange(len(data) + 1)
-        behind, before = library_table.next_safe(data, at), library_table.previous_safe(data, at)
-        wanted = next((one for one in known if one >= at), None), next((one for one in reversed(known) if one < at), None)
-        if (behind, before) != wanted:
-            self.differ(table if len(table[0]) < 99 else "", data, at, offsets, wanted, (behind, before))
+    def ask_safe(self, library_table, table, safe, data, asked):
+        """The nearest safe offset, forth and back from some offsets."""
+        offsets = list(safe.of(data))
+        self.safe += len(offsets)
+        for at in asked:
+            told = library_table.next_safe(data, at), library_table.previous_safe(data, at)
+            wanted = next((one for one in offsets if one >= at), None), next((one for one in reversed(offsets) if one < at), None)
+            if told != wanted:
+                self.differ(table if len(table[0]) < 99 else "", data, at, offsets, wanted, told)
 
 
 class Perl:
@@ -206,6 +207,8 @@ def over_scripts(questions, choice, most, path, seed):
     safe = model.SafeOffsets(given.table)
     with open(path, "rb") as file:
         table = questions.colfind.Table(file.read())
+    for line in FIRST_LETTERS:
+        questions.ask_safe(table, given.table, safe, line.encode(), range(len(line.encode()) + 1))
     while questions.asked < most:
         questions.ask(given.table, table, safe, lambda most: given.words(choice, most))
 

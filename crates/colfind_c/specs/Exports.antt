@@ -5,7 +5,7 @@ use Rattle.std.specs.Arc.{arc_value}
 use Rattle.std.specs.declared.alloc.Global.{Global}
 use Rattle.std_alloc.specs.declared.arc.Arc.{Arc}
 use Rattle.collation_table.specs.declared.table.Table.{Table}
-use Rattle.collation_table.specs.Table.{TableMap, longest_mapped}
+use Rattle.collation_table.specs.Table.{TableMap}
 use Rattle.collation_table.specs.contracts.table.TableWeights.TheImpl.{ghosts as weights}
 use Rattle.collation_table.specs.Faults.{tailored_map, tailored_fault, IsFaultOrAllocationRefused}
 use Rattle.collation_elements.specs.declared.settings.Strength.{Strength}
@@ -23,7 +23,7 @@ use Rattle.collation_matches.specs.Offsets.{answer_from}
 use Rattle.collation_anchored.specs.Anchored.{ends}
 use Rattle.collation_anchored.specs.Answers.{equal_answer, begins_answer, no_memory}
 use Rattle.collation_backward.specs.Backward.{is_fault_before, last_up_to, IsToldBefore, IsNothingBehind, IsStartTold}
-use Rattle.collation_safe.specs.Safe.{IsSafeAloneOffset, IsSafeOffset}
+use Rattle.collation_safe.specs.Safe.{IsSafeOffset}
 use Rattle.collation_safe.specs.Found.{IsFoundFrom, IsFoundUpTo}
 use Rattle.collation_search.specs.Indexing.{IsFirstOf}
 use Rattle.collation_search.specs.Resuming.{IsRefused}
@@ -260,7 +260,7 @@ AnswersBegins q text range _ = ⊥
 -- refused.
 --   good: where no fault stands before the offset, it is the last range that ends there or before it
 --   told: it is what the rest of the text from a safe offset on says; that there is none is said by the whole text
---   behind: from each safe offset behind a fault that is told, but one amid a contraction, the rest says that there is none
+--   behind: from each safe offset behind a fault that is told the rest says that there is none
 pub record IsLastBefore (s : Sought) (text : List ℕ) (at : ℕ) (result : Result (Option (ℕ × ℕ)) TextFault) : Type 0 where
   pub good : (p : List ℕ) → IsCompiledFrom s p → length text ≤ most_bytes → is_fault_before at (fault text) ≡ false
       → (result ≡ Err no_memory) ⊎ (result ≡ Ok (last_up_to at (answer_to s p text).ranges))
@@ -304,14 +304,11 @@ table_under (ATable t) = weights.table (arc_value t)
 table_under (APattern q) = table_of (arc_value q)
 table_under (ASearch s) = table_of (arc_value s.query)
 
--- What was found is safe, stands in no contraction, and from the offset on; it is the nearest such offset, and none is found only where there
--- is none. Under a table without contractions it is the nearest safe one.
+-- What was found is safe, and from the offset on; it is the nearest safe offset, and none is found only where there is none.
 pub record IsNextSafe (table : TableMap) (bytes : List ℕ) (from : ℕ) (found : Option ℕ) : Type 0 where
   pub safe : IfSome found (λ at. IsSafeOffset table bytes at)
-  pub told : IfSome found (λ at. IsSafeAloneOffset table bytes at)
   pub behind : IfSome found (λ at. from ≤ at)
-  pub alone : (at : ℕ) → from ≤ at → IsSafeAloneOffset table bytes at → IsFoundUpTo at found
-  pub nearest : longest_mapped table ≤ 1 → (at : ℕ) → from ≤ at → IsSafeOffset table bytes at → IsFoundUpTo at found
+  pub nearest : (at : ℕ) → from ≤ at → IsSafeOffset table bytes at → IsFoundUpTo at found
 
 abbrev pub AnswersNextSafe : Option Owned → List ℕ → ℕ → Option ℕ → Outcome → Type 0
 AnswersNextSafe (Some owned) bytes from found outcome = (outcome ≡ Good) × IsNextSafe (table_under owned) bytes from found
@@ -320,10 +317,8 @@ AnswersNextSafe None bytes from found outcome = (outcome ≡ WrongHandle) × (fo
 -- the same before an offset
 pub record IsPreviousSafe (table : TableMap) (bytes : List ℕ) (before : ℕ) (found : Option ℕ) : Type 0 where
   pub safe : IfSome found (λ at. IsSafeOffset table bytes at)
-  pub told : IfSome found (λ at. IsSafeAloneOffset table bytes at)
   pub earlier : IfSome found (λ at. at < before)
-  pub alone : (at : ℕ) → at < before → IsSafeAloneOffset table bytes at → IsFoundFrom at found
-  pub nearest : longest_mapped table ≤ 1 → (at : ℕ) → at < before → IsSafeOffset table bytes at → IsFoundFrom at found
+  pub nearest : (at : ℕ) → at < before → IsSafeOffset table bytes at → IsFoundFrom at found
 
 abbrev pub AnswersPreviousSafe : Option Owned → List ℕ → ℕ → Option ℕ → Outcome → Type 0
 AnswersPreviousSafe (Some owned) bytes before found outcome = (outcome ≡ Good) × IsPreviousSafe (table_under owned) bytes before found

@@ -13,8 +13,7 @@ use Rattle.collation_matches.specs.Sought.{Sought, answer_to}
 use Rattle.collation_matches.proofs.SearchLemmas.{TextLaw, WithinLaw}
 use Rattle.collation_safe.specs.Laws.{AnswersFromSafeOffsets}
 use Rattle.collation_safe.specs.Found.{IsFoundUpTo}
-use Rattle.collation_safe.specs.Safe.{IsSafeAloneOffset, IsSafeOffset}
-use Rattle.collation_safe.proofs.Strings.{offset-safe}
+use Rattle.collation_safe.specs.Safe.{IsSafeOffset}
 use Rattle.collation_anchored.specs.Answers.{unless_fault}
 use Rattle.collation_search.specs.Indexing.{first_moved}
 use Rattle.collation_backward.specs.Backward.{last_up_to, is_fault_before, said_up_to, IsNothingBehind}
@@ -89,11 +88,11 @@ nothing-behind answers text_law within_law s p text at next place all few none l
 
 -- the place that was found behind a fault is the nearest one
 abbrev pub IsNearestBehind : TableMap → List ℕ → ℕ → TextFault → Option ℕ → Type 0
-IsNearestBehind table text at f found = (place : ℕ) → IsSafeAloneOffset table text place → f.offset < place → place < at → IsFoundUpTo place found
+IsNearestBehind table text at f found = (place : ℕ) → IsSafeOffset table text place → f.offset < place → place < at → IsFoundUpTo place found
 
 module _ (s : Sought) (table : TableMap) (text : List ℕ) (at : ℕ) (f : TextFault) (found : Option ℕ) (same : s.table ≡ table) (nearest : IsNearestBehind table text at f found) where
-  found-up-to : (place : ℕ) → IsSafeAloneOffset s.table text place → f.offset < place → place < at → IsFoundUpTo place found
-  found-up-to place safe behind less = nearest place (subst (λ (t : TableMap). IsSafeAloneOffset t text place) same safe) behind less
+  found-up-to : (place : ℕ) → IsSafeOffset s.table text place → f.offset < place → place < at → IsFoundUpTo place found
+  found-up-to place safe behind less = nearest place (subst (λ (t : TableMap). IsSafeOffset t text place) same safe) behind less
 
   pub none-behind : (p : List ℕ) → found ≡ None → IsNothingBehind s p text at f
   none-behind p none = λ place safe behind less. absurd (subst (IsFoundUpTo place) none (found-up-to place safe behind less))
@@ -102,4 +101,4 @@ module _ (s : Sought) (table : TableMap) (text : List ℕ) (at : ℕ) (f : TextF
       said_up_to at (answer_from s p text next) ≡ nothing → IsNothingBehind s p text at f
   nothing-from answers text_law within_law p next all few some none = λ place safe behind less.
       let le = subst (IsFoundUpTo place) some (found-up-to place safe behind less) in
-      nothing-behind answers text_law within_law s p text at next place all few none le less (offset-safe s.table text place safe)
+      nothing-behind answers text_law within_law s p text at next place all few none le less safe

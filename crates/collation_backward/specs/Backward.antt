@@ -6,7 +6,7 @@ use Rattle.collation_matches.specs.declared.faults.TextFault.{TextFault}
 use Rattle.collation_matches.specs.Answer.{Answer}
 use Rattle.collation_matches.specs.Offsets.{answer_from}
 use Rattle.collation_matches.specs.Sought.{Sought}
-use Rattle.collation_safe.specs.Safe.{IsSafeAloneOffset, IsSafeOffset}
+use Rattle.collation_safe.specs.Safe.{IsSafeOffset}
 use Rattle.collation_anchored.specs.Anchored.{last_of}
 use Rattle.collation_anchored.specs.Answers.{unless_fault}
 use Rattle.collation_anchored.specs.Laws.{start_of_equal}
@@ -39,10 +39,10 @@ pub record IsToldFrom (s : Sought) (p text : List ℕ) (first at : ℕ) (result 
 abbrev pub IsToldBefore : Sought → List ℕ → List ℕ → ℕ → Result (Option (ℕ × ℕ)) TextFault → Type 0
 IsToldBefore s p text at result = IsToldFrom s p text 0 at result
 
--- from each safe offset behind a fault whose character stands in no contraction the rest says that there is nothing up to the offset
+-- from each safe offset behind a fault the rest says that there is nothing up to the offset
 abbrev pub IsNothingBehind : Sought → List ℕ → List ℕ → ℕ → TextFault → Type 0
 IsNothingBehind s p text at fault =
-    (place : ℕ) → IsSafeAloneOffset s.table text place → fault.offset < place → place < at → said_up_to at (answer_from s p text place) ≡ Ok None
+    (place : ℕ) → IsSafeOffset s.table text place → fault.offset < place → place < at → said_up_to at (answer_from s p text place) ≡ Ok None
 
 -- ---- the match that ends where a text ends
 

@@ -1,7 +1,7 @@
 //! Where a search begins that goes back: at safe offsets, or at the beginning of the text.
 ghost use Rattle.std.specs.Prelude.{◌≡◌, ◌⊎◌, ℕ, ◌+◌, ◌<◌, IfSome};
 ghost use Rattle.collation_safe.specs.Found.{IsFoundUpTo};
-ghost use Rattle.collation_safe.specs.Safe.{IsSafeAloneOffset, IsSafeOffset};
+ghost use Rattle.collation_safe.specs.Safe.{IsSafeOffset};
 
 use collation_safe::{next_safe, previous_safe};
 use collation_table::Strings;
@@ -20,13 +20,12 @@ pub fn place_before<W: Strings>(table: &W, text: &[u8], end: usize, len: usize) 
     }
 }
 
-/// The next safe offset behind a fault that stands before an offset, if it stands before that too: one whose character stands in no
-/// contraction.
+/// The next safe offset behind a fault that stands before an offset, if it stands before that too.
 pub fn place_behind<W: Strings>(table: &W, text: &[u8], fault: u64, at: usize) -> Option<usize>
     requires { fault < at }
     ensures safe { IfSome result (λ place. IsSafeOffset (W.table table.now) text.now place) }
     ensures behind { IfSome result (λ place. (fault < place) × (place < at)) }
-    ensures nearest { (place : ℕ) → IsSafeAloneOffset (W.table table.now) text.now place
+    ensures nearest { (place : ℕ) → IsSafeOffset (W.table table.now) text.now place
         → fault < place → place < at → IsFoundUpTo place result }
 {
     match next_safe(table, text, fault as usize + 1) {

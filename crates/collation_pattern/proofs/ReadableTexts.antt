@@ -100,7 +100,7 @@ found_at p (x ∷ rs) r h =
       | inr t ↦ let later = rw t at h in let rest = found_at p rs r later in (suc rest.0, rest.1)
     ]
 
-range_base : (T : TableMap) (wf : IsWellFormed T) (p : ImplicitRange → Bool) (r : ImplicitRange) → find p T.ranges ≡ Some r → (0xFB00 ≤ r.base) × (r.base ≤ 0xFB3F)
+pub range_base : (T : TableMap) (wf : IsWellFormed T) (p : ImplicitRange → Bool) (r : ImplicitRange) → find p T.ranges ≡ Some r → (0xFB00 ≤ r.base) × (r.base ≤ 0xFB3F)
 range_base T wf p r h =
     let at = found_at p T.ranges r h in
     let sound = wf.ranges at.0 r at.1 in
@@ -110,7 +110,7 @@ range_base T wf p r h =
     let between = and_parts (nat_le 0xFB00 r.base) (nat_le r.base 0xFB3F) (not-false (is_in_range 0xFB00 0xFB3F r.base) based.1) in
     (leb-true 0xFB00 r.base between.0, leb-true r.base 0xFB3F between.1)
 
-base_between : (cp : ℕ) → (0xFB40 ≤ implicit_base cp) × (implicit_base cp ≤ 0xFBC0)
+pub base_between : (cp : ℕ) → (0xFB40 ≤ implicit_base cp) × (implicit_base cp ≤ 0xFBC0)
 base_between cp =
     elim (cases_Bool (is_core_ideograph cp)) [
       | inl c ↦ simp c (lit≤ tt, lit≤ tt)

@@ -1,21 +1,21 @@
 -- A safe offset is a boundary.
 use Rattle.std.specs.Str.{chars, IsUtf8}
-use Rattle.std.proofs.Common.{◌≡◌, ◌⊎◌, ℕ, ◌+◌, ◌<◌, ◌≤◌, true, None, List, ◌∷◌, ◌++◌, length, sym, ap, ◌∙◌, subst, inl, inr, arith, Contains}
+use Rattle.std.proofs.Common.{◌≡◌, ℕ, ◌+◌, ◌<◌, true, List, ◌∷◌, ◌++◌, length, sym, ap, subst, inl, inr, arith, Contains}
 use Rattle.nfd_points.specs.declared.points.Point.{Point}
 use Rattle.nfd_points.specs.Points.{byte_len, points, is_starter}
 use Rattle.nfd_points.specs.Laws.{TextsPart}
 use Rattle.collation_table.specs.Table.{TableMap, ContinuesNoString}
 use Rattle.collation_elements.specs.Boundaries.{boundaries, cluster_starts}
 use Rattle.collation_elements.specs.Units.{units}
-use Rattle.collation_matches.specs.GoodPrefix.{most_bytes, fault, good_prefix, prefix_at}
-use Rattle.collation_matches.specs.OffsetLaws.{MayGoOnFrom, AnswersFromBoundaries}
+use Rattle.collation_matches.specs.GoodPrefix.{good_prefix, prefix_at}
+use Rattle.collation_matches.specs.OffsetLaws.{AnswersFromBoundaries}
 use Rattle.collation_matches.proofs.BridgeLists.{In}
 use Rattle.collation_matches.proofs.LagLaw.{in-contains}
 use Rattle.collation_matches.proofs.OffsetAnswers.{good-text}
 use Rattle.collation_matches.proofs.OffsetBoundaries.{start-boundary}
 use Rattle.collation_matches.proofs.OffsetFaults.{RestLaws}
-use Rattle.collation_safe.specs.Laws.{AnswersFromSafeOffsets, IsGoodUpTo, SafeOffsetsAreBoundaries, SafeOffsetsMayBeGoneOnFrom}
-use Rattle.collation_safe.specs.Safe.{IsSafeOffset, is_safe_character}
+use Rattle.collation_safe.specs.Laws.{AnswersFromSafeOffsets, SafeOffsetsAreBoundaries, SafeOffsetsMayBeGoneOnFrom}
+use Rattle.collation_safe.specs.Safe.{is_safe_character}
 use Rattle.collation_safe.proofs.SafeTexts.{safe-starts}
 use Rattle.collation_safe.proofs.Standing.{CharacterStandsAt, stands-amid, stands-from, stands-in_text, stands-prefix, stands-within}
 

@@ -1,10 +1,10 @@
 -- Where a safe character stands in a text, a cluster begins.
 use Rattle.std.specs.Char.{len_utf8}
-use Rattle.std.proofs.Common.{◌≡◌, ℕ, ◌+◌, ◌≤◌, ◌==◌, ◌&&◌, nat_lt, Bool, true, false, cond, List, [], ◌∷◌, ◌++◌, length, map, flat_map, refl, sym, ap, ◌∙◌, subst, inl, inr, arith}
+use Rattle.std.proofs.Common.{◌≡◌, ℕ, ◌+◌, nat_lt, true, false, cond, List, [], ◌∷◌, ◌++◌, map, refl, sym, ap, ◌∙◌, subst, inl, arith}
 use Rattle.std.proofs.lemmas.Bool.{false≢true, and_parts, and_right, cond-false, eqb-true, le-ltb}
 use Rattle.unicode_normalization.specs.Lookups.{canonical_combining_class}
 use Rattle.nfd_points.specs.declared.points.Point.{Point}
-use Rattle.nfd_points.specs.Points.{decomposition, byte_len, points_at, points_of, points_from, points, is_starter, begins_with_starter, is_reorderable, sink, ordered, shifted}
+use Rattle.nfd_points.specs.Points.{decomposition, byte_len, points_at, points_from, points, is_starter, begins_with_starter, is_reorderable, sink, ordered, shifted}
 use Rattle.nfd_points.specs.Laws.{TextsPart}
 use Rattle.collation_table.specs.Table.{TableMap, ContinuesNoString}
 use Rattle.collation_elements.specs.Boundaries.{unit_starts, cluster_starts}

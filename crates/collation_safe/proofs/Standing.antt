@@ -1,16 +1,16 @@
 -- Where a character stands in bytes: parts of them, and longer ones.
 use Rattle.std.specs.Char.{IsScalar, len_utf8, encode_utf8}
 use Rattle.std.specs.Str.{chars, IsUtf8, IsCharBoundary, StartsWithNoChar}
-use Rattle.std.proofs.Common.{◌≡◌, ℕ, zero, suc, ◌+◌, ◌-◌, ◌<◌, ◌≤◌, ◌&&◌, true, List, [], ◌∷◌, ◌++◌, length, take, drop, encode_utf8_all, refl, sym, ap, ap₂, ◌∙◌, subst, arith, append_assoc, length-append}
+use Rattle.std.proofs.Common.{◌≡◌, ℕ, suc, ◌+◌, ◌-◌, ◌<◌, ◌≤◌, true, List, [], ◌∷◌, ◌++◌, length, take, drop, encode_utf8_all, refl, sym, ap, ap₂, ◌∙◌, subst, arith, append_assoc, length-append}
 use Rattle.std.proofs.lemmas.Bool.{and_parts}
-use Rattle.std.proofs.lemmas.List.{take-append-drop, take-append-le, take_at, drop_at, length-take, length-drop, length-take-le, take_all}
+use Rattle.std.proofs.lemmas.List.{take-append-drop, take_at, drop_at, length-take, length-drop, length-take-le, take_all}
 use Rattle.std.proofs.lemmas.Str.{length-encode, len_utf8_bounds, IsUtf8-encode, IsUtf8-take, IsUtf8-drop, IsCharBoundary-start, IsCharBoundary-from_rest, encodes-chars, scalars-chars, chars-append, chars_past_char}
 use Rattle.std.proofs.Math.Seq.{take-append-add}
 use Rattle.std.proofs.Math.Utf8.{scalar}
 use Rattle.std.specs.Str.{all_scalars}
 use Rattle.utf8_cut.specs.Sequences.{SpellsCharacter}
 use Rattle.utf8_cut.specs.Characters.{characters, characters_from, with_offsets}
-use Rattle.utf8_cut.proofs.CharactersLemmas.{characters_from-append, characters_from-encode}
+use Rattle.utf8_cut.proofs.CharactersLemmas.{characters_from-append}
 use Rattle.utf8_cut.proofs.TextLemmas.{one_char}
 use Rattle.nfd_points.specs.Points.{byte_len}
 use Rattle.nfd_points.proofs.ByteLenLemmas.{byte_len_encoded}

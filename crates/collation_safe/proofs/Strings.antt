@@ -1,17 +1,18 @@
--- What a safe code point says of the mapped strings, and what they say of it.
-use Rattle.std.proofs.Common.{◌≡◌, ◌⊎◌, ℕ, ◌<◌, ◌≤◌, Bool, true, false, cond, not, ◌==◌, ◌&&◌, ◌||◌, List, [], ◌∷◌, ◌++◌, length, map, unwrap_or, Option, Some, None, is_some, bytes_eq, refl, sym, ap, ◌∙◌, subst, inl, inr, arith, length-append}
-use Rattle.std.proofs.lemmas.Bool.{cases_Bool, false≢true, false_from_ne_true, and_parts, and_from, and_right, or_left, or_right, eq-eqb, eqb-true}
+-- What a safe code point says of the mapped strings, and what the rows say of one.
+use Rattle.std.proofs.Common.{◌≡◌, ◌≢◌, ◌⊎◌, ℕ, suc, ◌<◌, Bool, true, false, cond, not, ◌==◌, ◌&&◌, ◌||◌, List, [], ◌∷◌, ◌++◌, length, take, map, find, get_or, slice_get, unwrap_or, Option, Some, None, is_some, bytes_eq, refl, sym, ap, ◌∙◌, inl, inr, arith}
+use Rattle.std.proofs.lemmas.Bool.{cases_Bool, cases_lt, false≢true, false_from_ne_true, and_parts, and_from, or_left, or_right, or_parts, not-false, eq-eqb, eqb-true, lt-ltb, le-ltb}
 use Rattle.std.proofs.lemmas.Slice.Eq.{bytes_eq-Decides}
 use Rattle.std.specs.List.{list_all, list_any}
 use Rattle.nfd_points.specs.declared.points.Point.{Point}
-use Rattle.nfd_points.specs.Points.{points_of, is_starter}
 use Rattle.collation_table.specs.declared.elements.Element.{Element}
-use Rattle.collation_table.specs.Table.{TableMap, BeginsNoLongerString, ContinuesNoString, row_with, row_of, is_mapped, implicit_pair, longest_mapped, stands_alone}
+use Rattle.collation_table.specs.declared.ranges.ImplicitRange.{ImplicitRange}
+use Rattle.collation_table.specs.Table.{TableMap, ContinuesNoString, row_with, row_of, is_in, is_mapped, implicit_pair, implicit_weights, implicit_weights_in}
+use Rattle.collation_table.specs.Unsafe.{begins_with, is_behind_first, is_unsafe, is_unsafe_by, lacks_primary}
+use Rattle.collation_table.specs.WellFormed.{AreStringsDistinct, IsWellFormed}
 use Rattle.collation_elements.specs.Elements.{begins_primary}
-use Rattle.collation_elements.proofs.Longest.{length_mapped}
-use Rattle.collation_matches.proofs.BridgeLists.{In, in_right, any_in, in_any}
-use Rattle.collation_table.proofs.AloneLemmas.{alone-begins, alone-continues, alone-from}
-use Rattle.collation_safe.specs.Safe.{strings, is_behind_first, begins_with, is_primary, alone, is_safe_code_point, is_safe_alone_code_point, begins_safely, begins_safely_alone, is_safe_character, is_safe_alone, IsSafeOffset, IsSafeAloneOffset}
+use Rattle.collation_pattern.proofs.ReadableTexts.{base_between, range_base}
+use Rattle.collation_matches.proofs.BridgeLists.{In, in_right, any_in, in_any, in_map, map_in}
+use Rattle.collation_safe.specs.Safe.{strings, is_primary, alone, is_safe_code_point, begins_safely}
 
 abbrev MappedRows : Type 0
 MappedRows = List (List ℕ × List Element)
@@ -96,106 +97,133 @@ module _ (T : TableMap) (cp : ℕ) where
       let test = all-in (λ string. not (begins_with cp string) || is_primary T string) (strings T) (cp ∷ rest) all (mapped-in T (cp ∷ rest) mapped) in
       sym (ap (λ b. not b || is_primary T (cp ∷ rest)) (eq-eqb cp cp refl)) ∙ test
 
-  -- ---- a code point in no mapped string of two or more
+-- ---- what the rows say of a code point
 
-  module _ (begins : BeginsNoLongerString T cp) (continues : ContinuesNoString T cp) where
-    split-behind : (later : List ℕ) → list_any (λ l. l == cp) later ≡ true → (prefix : List ℕ) × (rest : List ℕ) × (later ≡ prefix ++ cp ∷ rest)
-    split-behind [] h = absurd (false≢true h)
-    split-behind (l ∷ ls) h =
-        elim (cases_Bool (l == cp)) [
-          | inl same ↦ ([], ls, ap (λ n. n ∷ ls) (eqb-true l cp same))
-          | inr other ↦
-              let further = split-behind ls (sym (ap (λ b. b || list_any (λ k. k == cp) ls) other) ∙ h) in
-              (l ∷ further.0, further.1, ap (λ (t : List ℕ). l ∷ t) further.2)
+lacks-primary : (row : List Element) → lacks_primary row ≡ not (begins_primary row)
+lacks-primary [] = refl
+lacks-primary (e ∷ es) =
+    elim (cases_lt 0 e.w1) [
+      | inl some ↦ let clash : e.w1 ≢ 0 = omega (arith, some) in false_from_ne_true (e.w1 == 0) (λ h. clash (eqb-true e.w1 0 h)) ∙ sym (ap not (lt-ltb 0 e.w1 some))
+      | inr none ↦ eq-eqb e.w1 0 (omega (arith, none)) ∙ sym (ap not (le-ltb 0 e.w1 none))
+    ]
+
+lacks-false : (row : List Element) → lacks_primary row ≡ false → begins_primary row ≡ true
+lacks-false row h = not-false (begins_primary row) (sym (lacks-primary row) ∙ h)
+
+lacks-true : (row : List Element) → lacks_primary row ≡ true → begins_primary row ≡ false
+lacks-true row h = not_true (begins_primary row) (sym (lacks-primary row) ∙ h)
+
+-- a row that is found is one of the rows
+found-step : (string : List ℕ) (row : List Element) (r : List ℕ × List Element) (rows : MappedRows) (b : Bool) → bytes_eq string r.0 ≡ b → cond b (Some r.1) (row_with string rows) ≡ Some row →
+    (row_with string rows ≡ Some row → In rows (string, row)) → In (r ∷ rows) (string, row)
+found-step string row r rows true same found rest =
+    let there : r.1 ≡ row = cc in inl (λ i. (sym ((bytes_eq-Decides string r.0).0 same) i, there i))
+found-step string row r rows false same found rest = inr (rest found)
+
+found-among : (string : List ℕ) (row : List Element) (rows : MappedRows) → row_with string rows ≡ Some row → In rows (string, row)
+found-among string row [] found = cc
+found-among string row (r ∷ rows) found = found-step string row r rows (bytes_eq string r.0) refl found (found-among string row rows)
+
+-- and where no string stands twice, each row is found by its string
+at-place : (rows : MappedRows) (row : List ℕ × List Element) → In rows row → (k : ℕ) × (slice_get rows k ≡ Some row)
+at-place [] row i = absurd i
+at-place (r ∷ rows) row (inl here) = (0, ap Some here)
+at-place (r ∷ rows) row (inr later) = let rest = at-place rows row later in (suc rest.0, rest.1)
+
+none-parts : (b : Bool) (row : List Element) (rest : Option (List Element)) → cond b (Some row) rest ≡ None → (b ≡ false) × (rest ≡ None)
+none-parts true row rest h = cc
+none-parts false row rest h = (refl, h)
+
+among-found : (rows : MappedRows) → AreStringsDistinct rows → (row : List ℕ × List Element) → In rows row → row_with row.0 rows ≡ Some row.1
+among-found [] distinct row i = absurd i
+among-found (r ∷ rows) distinct row (inl here) =
+    ap (λ (q : List ℕ × List Element). row_with q.0 (r ∷ rows)) (sym here)
+    ∙ ap (λ b. cond b (Some r.1) (row_with r.0 rows)) ((bytes_eq-Decides r.0 r.0).1 refl)
+    ∙ ap (λ (q : List ℕ × List Element). Some q.1) here
+among-found (r ∷ rows) distinct row (inr later) =
+    let at = at-place rows row later in
+    let other = none-parts (bytes_eq row.0 r.0) r.1 (row_with row.0 (take at.0 rows)) (distinct (suc at.0) row at.1) in
+    let rest : AreStringsDistinct rows = λ k q there. (none-parts (bytes_eq q.0 r.0) r.1 (row_with q.0 (take k rows)) (distinct (suc k) q there)).1 in
+    ap (λ b. cond b (Some r.1) (row_with row.0 rows)) other.0 ∙ among-found rows rest row later
+
+-- an implicit pair has a primary weight first
+weighs-some : (T : TableMap) (wf : IsWellFormed T) (cp : ℕ) (found : Option ImplicitRange) → find (is_in cp) T.ranges ≡ found → 0 < (implicit_weights_in T.ranges cp found).0
+weighs-some T wf cp (Some r) found = let base = range_base T wf (is_in cp) r found in omega (arith, base.0)
+weighs-some T wf cp None found = let base = base_between cp in omega (arith, base.0)
+
+implicit-primary : (T : TableMap) (wf : IsWellFormed T) (cp : ℕ) → begins_primary (implicit_pair T cp) ≡ true
+implicit-primary T wf cp = lt-ltb 0 (implicit_weights T cp).0 (weighs-some T wf cp (find (is_in cp) T.ranges) refl)
+
+module _ (T : TableMap) (wf : IsWellFormed T) (cp : ℕ) where
+  -- ---- where no row makes it unsafe
+
+  module _ (none : is_unsafe T cp ≡ false) where
+    not-by : (row : List ℕ × List Element) → In T.rows row → is_unsafe_by cp row ≡ false
+    not-by row i = false_from_ne_true (is_unsafe_by cp row) (λ h. false≢true (sym none ∙ in_any (is_unsafe_by cp) T.rows row i h))
+
+    none-behind-it : behind T cp ≡ false
+    none-behind-it =
+        false_from_ne_true (behind T cp) (λ some.
+        let a = any_in (is_behind_first cp) (strings T) some in
+        let row = in_map (λ (r : List ℕ × List Element). r.0) T.rows a.0 a.1 in
+        let here = ap (is_behind_first cp) row.2 ∙ a.2 in
+        false≢true (sym (not-by row.0 row.1) ∙ or_left (is_behind_first cp row.0.0) (begins_with cp row.0.0 && lacks_primary row.0.1) here))
+
+    primary-row : (string : List ℕ) (row : List Element) → In T.rows (string, row) → begins_with cp string ≡ true → begins_primary row ≡ true
+    primary-row string row i begins =
+        let parts = or_parts (is_behind_first cp string) (begins_with cp string && lacks_primary row) (not-by (string, row) i) in
+        lacks-false row (sym (ap (λ b. b && lacks_primary row) begins) ∙ parts.1)
+
+    primary-found : (string : List ℕ) (o : Option (List Element)) → row_of T string ≡ o → is_some o ≡ true → begins_with cp string ≡ true → begins_primary (unwrap_or o []) ≡ true
+    primary-found string None found some begins = absurd (false≢true some)
+    primary-found string (Some row) found some begins = primary-row string row (found-among string row T.rows found) begins
+
+    string-primary : (string : List ℕ) → In (strings T) string → (not (begins_with cp string) || is_primary T string) ≡ true
+    string-primary string i =
+        elim (cases_Bool (begins_with cp string)) [
+          | inl begins ↦ or_right (not (begins_with cp string)) (is_primary T string) (primary-found string (row_of T string) refl (in-mapped T string i) begins)
+          | inr other ↦ or_left (not (begins_with cp string)) (is_primary T string) (not_false (begins_with cp string) other)
         ]
 
-    not-behind : (string : List ℕ) → is_mapped T string ≡ true → is_behind_first cp string ≡ true → ⊥
-    not-behind [] mapped h = false≢true h
-    not-behind (first ∷ later) mapped h =
-        let s = split-behind later h in
-        false≢true (sym (continues first s.0 s.1) ∙ ap (λ (t : List ℕ). is_mapped T (first ∷ t)) (sym s.2) ∙ mapped)
+    alone-primary : (o : Option (List Element)) → row_of T (cp ∷ []) ≡ o → begins_primary (unwrap_or o (implicit_pair T cp)) ≡ true
+    alone-primary None found = implicit-primary T wf cp
+    alone-primary (Some row) found = primary-row (cp ∷ []) row (found-among (cp ∷ []) row T.rows found) (eq-eqb cp cp refl)
 
-    lone-behind : behind ≡ false
-    lone-behind =
-        false_from_ne_true behind (λ some. let a = any_in (is_behind_first cp) (strings T) some in not-behind a.0 (in-mapped T a.0 a.1) a.2)
+    safe-from : is_safe_code_point T cp ≡ true
+    safe-from =
+        let all = all-from (λ string. not (begins_with cp string) || is_primary T string) (strings T) string-primary in
+        and_from (not (behind T cp) && all_primary T cp) (begins_primary (alone T cp)) (and_from (not (behind T cp)) (all_primary T cp) (not_false (behind T cp) none-behind-it) all) (alone-primary (row_of T (cp ∷ [])) refl)
 
-    primary-cases : (o : Option (List Element)) → is_some o ≡ true → begins_primary (unwrap_or o (implicit_pair T cp)) ≡ true → begins_primary (unwrap_or o []) ≡ true
-    primary-cases None some h = absurd (false≢true some)
-    primary-cases (Some row) some h = h
+  -- ---- where one does
 
-    lone-string : (string : List ℕ) → begins_primary (alone T cp) ≡ true → is_mapped T string ≡ true → (not (begins_with cp string) || is_primary T string) ≡ true
-    lone-string [] h mapped = refl
-    lone-string (first ∷ []) h mapped =
-        elim (cases_Bool (first == cp)) [
-          | inl same ↦
-              let is = eqb-true first cp same in
-              let here = ap (λ n. is_some (row_of T (n ∷ []))) (sym is) ∙ mapped in
-              let primary = primary-cases (row_of T (cp ∷ [])) here h in
-              or_right (not (first == cp)) (is_primary T (first ∷ [])) (ap (λ n. is_primary T (n ∷ [])) is ∙ primary)
-          | inr other ↦ or_left (not (first == cp)) (is_primary T (first ∷ [])) (not_false (first == cp) other)
-        ]
-    lone-string (first ∷ next ∷ rest) h mapped =
-        elim (cases_Bool (first == cp)) [
-          | inl same ↦ absurd (false≢true (sym (begins next rest) ∙ ap (λ n. is_mapped T (n ∷ next ∷ rest)) (sym (eqb-true first cp same)) ∙ mapped))
-          | inr other ↦ or_left (not (first == cp)) (is_primary T (first ∷ next ∷ rest)) (not_false (first == cp) other)
-        ]
+  unsafe-from : is_unsafe T cp ≡ true → is_safe_code_point T cp ≡ true → ⊥
+  unsafe-from some safe =
+      let a = any_in (is_unsafe_by cp) T.rows some in
+      let row = a.0 in
+      let most = (and_parts (not (behind T cp) && all_primary T cp) (begins_primary (alone T cp)) safe).0 in
+      let both = and_parts (not (behind T cp)) (all_primary T cp) most in
+      let among = map_in (λ (r : List ℕ × List Element). r.0) T.rows row a.1 in
+      elim (cases_Bool (is_behind_first cp row.0)) [
+        | inl here ↦ false≢true (sym (not_true (behind T cp) both.0) ∙ in_any (is_behind_first cp) (strings T) row.0 among here)
+        | inr other ↦
+            let first = and_parts (begins_with cp row.0) (lacks_primary row.1) (sym (ap (λ b. b || (begins_with cp row.0 && lacks_primary row.1)) other) ∙ a.2) in
+            let test = all-in (λ string. not (begins_with cp string) || is_primary T string) (strings T) row.0 both.1 among in
+            let primary : is_primary T row.0 ≡ true = sym (ap (λ b. not b || is_primary T row.0) first.0) ∙ test in
+            let found = among-found T.rows wf.distinct row a.1 in
+            false≢true (sym (lacks-true row.1 first.1) ∙ ap (λ (o : Option (List Element)). begins_primary (unwrap_or o [])) (sym found) ∙ primary)
+      ]
 
-    lone-safe : begins_primary (alone T cp) ≡ true → is_safe_code_point T cp ≡ true
-    lone-safe h =
-        let all = all-from (λ string. not (begins_with cp string) || is_primary T string) (strings T) (λ string i. lone-string string h (in-mapped T string i)) in
-        and_from (not behind && all_primary) (begins_primary (alone T cp)) (and_from (not behind) all_primary (not_false behind lone-behind) all) h
+  -- so it is safe exactly where none does
+  pub safe-is : not (is_unsafe T cp) ≡ is_safe_code_point T cp
+  safe-is =
+      elim (cases_Bool (is_unsafe T cp)) [
+        | inl some ↦ ap not some ∙ sym (false_from_ne_true (is_safe_code_point T cp) (unsafe-from some))
+        | inr none ↦ ap not none ∙ sym (safe-from none)
+      ]
 
-    -- it is safe exactly where it has a primary weight first
-    pub safe-lone : is_safe_code_point T cp ≡ begins_primary (alone T cp)
-    safe-lone =
-        elim (cases_Bool (begins_primary (alone T cp))) [
-          | inl primary ↦ lone-safe primary ∙ sym primary
-          | inr none ↦ and_right (not behind && all_primary) (begins_primary (alone T cp)) none ∙ sym none
-        ]
+-- ---- characters
 
--- ---- tables without mapped strings of two or more
-
-longer-unmapped : (T : TableMap) (string : List ℕ) → longest_mapped T ≤ 1 → 2 ≤ length string → is_mapped T string ≡ false
-longer-unmapped T string short long = false_from_ne_true (is_mapped T string) (λ mapped. let h = length_mapped T string mapped in absurd (omega (arith, h)))
-
-pub begins-none : (T : TableMap) (cp : ℕ) → longest_mapped T ≤ 1 → BeginsNoLongerString T cp
-begins-none T cp short next rest = longer-unmapped T (cp ∷ next ∷ rest) short (omega arith)
-
-pub continues-none : (T : TableMap) (cp : ℕ) → longest_mapped T ≤ 1 → ContinuesNoString T cp
-continues-none T cp short first prefix rest =
-    longer-unmapped T (first ∷ (prefix ++ cp ∷ rest)) short (omega (arith, length-append prefix (cp ∷ rest)))
-
--- ---- in no contraction
-
-pub alone-safe : (T : TableMap) (cp : ℕ) → is_safe_alone_code_point T cp ≡ true → is_safe_code_point T cp ≡ true
-alone-safe T cp h =
-    let parts = and_parts (stands_alone T cp) (begins_primary (alone T cp)) h in
-    safe-lone T cp (alone-begins T cp parts.0) (alone-continues T cp parts.0) ∙ parts.1
-
-pub alone-known : (T : TableMap) (cp : ℕ) → longest_mapped T ≤ 1 → is_safe_alone_code_point T cp ≡ is_safe_code_point T cp
-alone-known T cp short =
-    let begins = begins-none T cp short in
-    let continues = continues-none T cp short in
-    ap (λ b. b && begins_primary (alone T cp)) (alone-from T cp begins continues) ∙ sym (safe-lone T cp begins continues)
-
-character-safe : (T : TableMap) (ps : List Point) → begins_safely_alone T ps ≡ true → begins_safely T ps ≡ true
-character-safe T [] h = h
-character-safe T (p ∷ ps) h =
-    let parts = and_parts (is_starter p) (is_safe_alone_code_point T p.cp) h in
-    and_from (is_starter p) (is_safe_code_point T p.cp) parts.0 (alone-safe T p.cp parts.1)
-
-character-known : (T : TableMap) (ps : List Point) → longest_mapped T ≤ 1 → begins_safely_alone T ps ≡ begins_safely T ps
-character-known T [] short = refl
-character-known T (p ∷ ps) short = ap (λ b. is_starter p && b) (alone-known T p.cp short)
-
-pub is_alone-safe : (T : TableMap) (c : ℕ) → is_safe_alone T c ≡ true → is_safe_character T c ≡ true
-is_alone-safe T c h = character-safe T (points_of 0 c) h
-
-pub is_alone-known : (T : TableMap) (c : ℕ) → longest_mapped T ≤ 1 → is_safe_alone T c ≡ is_safe_character T c
-is_alone-known T c short = character-known T (points_of 0 c) short
-
-pub offset-safe : (T : TableMap) (bytes : List ℕ) (at : ℕ) → IsSafeAloneOffset T bytes at → IsSafeOffset T bytes at
-offset-safe T bytes at o = record { character = o.character; whole = o.whole; safe = is_alone-safe T o.character o.safe }
-
-pub offset-known : (T : TableMap) (bytes : List ℕ) (at : ℕ) → longest_mapped T ≤ 1 → IsSafeOffset T bytes at → IsSafeAloneOffset T bytes at
-offset-known T bytes at short o = record { character = o.character; whole = o.whole; safe = is_alone-known T o.character short ∙ o.safe }
+-- the first point of a decomposition tells it, where that is a starter
+pub first-safe : (T : TableMap) (wf : IsWellFormed T) (ps : List Point) (d : Point) → 0 < length ps → (get_or ps 0 d).ccc ≡ 0 → not (is_unsafe T (get_or ps 0 d).cp) ≡ begins_safely T ps
+first-safe T wf [] d some starter = absurd (omega arith)
+first-safe T wf (p ∷ ps) d some starter = safe-is T wf p.cp ∙ sym (ap (λ b. b && is_safe_code_point T p.cp) (eq-eqb p.ccc 0 starter))

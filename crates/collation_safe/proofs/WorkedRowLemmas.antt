@@ -4,7 +4,7 @@ use Rattle.std.specs.Str.{chars}
 use Rattle.std.proofs.Common.{refl}
 use Rattle.unicode_normalization.proofs.Computing.{unicode_normalization}
 use Rattle.nfd_points.specs.Points.{byte_len, points_at, points_from, is_reorderable, is_in_order, sink, ordered}
-use Rattle.collation_safe.specs.WorkedRows.{CharactersThatStandAlone, CharactersWithoutRows, ContractionOfLetters, EachLetterContinuesAString, IgnorableString, MarksAndIgnorables, OffsetsOfText, VowelsBeforeConsonants}
+use Rattle.collation_safe.specs.WorkedRows.{CharactersWithoutRows, ContractionOfLetters, EachLetterContinuesAString, IgnorableString, MarksAndIgnorables, OffsetsOfText, VowelsBeforeConsonants}
 
 -- `unfolding rows` lets `refl` compute a row
 unfoldable rows : Unit {0}
@@ -14,10 +14,6 @@ rows = tt
 pub contraction_of_letters_lem : ContractionOfLetters
 unfolding rows
 contraction_of_letters_lem = record { first = refl; letter = refl; blank = refl; second = refl }
-
-pub characters_that_stand_alone_lem : CharactersThatStandAlone
-unfolding rows
-characters_that_stand_alone_lem = record { letter = refl; first = refl; second = refl; acute = refl }
 
 pub marks_and_ignorables_lem : MarksAndIgnorables
 unfolding rows

@@ -1,9 +1,9 @@
 -- Small rows: characters of a small table, and whether they are safe.
-use Rattle.std.specs.Prelude.{◌≡◌, ℕ, true, false, List, [], ◌∷◌, ◌++◌, map, codes}
+use Rattle.std.specs.Prelude.{◌≡◌, true, false, [], ◌∷◌, map, codes}
 use Rattle.collation_table.specs.Table.{TableMap}
 use Rattle.collation_elements.specs.Boundaries.{boundaries}
 use Rattle.collation_elements.specs.WorkedTable.{row, worked_table}
-use Rattle.collation_safe.specs.Safe.{is_safe_alone, is_safe_character, IsSafeOffset}
+use Rattle.collation_safe.specs.Safe.{is_safe_character, IsSafeOffset}
 
 -- `c` and `a` are safe, and a blank, which is variable; `h` may be the second letter of `ch`
 pub record ContractionOfLetters : Type 0 where
@@ -11,13 +11,6 @@ pub record ContractionOfLetters : Type 0 where
   pub letter : is_safe_character worked_table 0x61 ≡ true
   pub blank : is_safe_character worked_table 0x20 ≡ true
   pub second : is_safe_character worked_table 0x68 ≡ false
-
--- `a` stands in no contraction; `c` begins `ch`, and `h` ends it; a mark has no primary weight
-pub record CharactersThatStandAlone : Type 0 where
-  pub letter : is_safe_alone worked_table 0x61 ≡ true
-  pub first : is_safe_alone worked_table 0x63 ≡ false
-  pub second : is_safe_alone worked_table 0x68 ≡ false
-  pub acute : is_safe_alone worked_table 0x301 ≡ false
 
 -- no mark is safe, and no ignorable character; a letter with a mark is as the letter is
 pub record MarksAndIgnorables : Type 0 where

@@ -1,26 +1,22 @@
 //! The nearest safe offset, forth and back.
 ghost use Rattle.std.specs.Prelude.{◌≡◌, ℕ, ◌<◌, ◌≤◌, true, length, IfSome};
-ghost use Rattle.collation_table.specs.Table.{longest_mapped};
-ghost use Rattle.collation_safe.specs.Safe.{IsSafeAloneOffset, IsSafeOffset};
+ghost use Rattle.collation_safe.specs.Safe.{IsSafeOffset};
 ghost use Rattle.collation_safe.specs.Found.{IsFoundFrom, IsFoundUpTo};
 
 use crate::character::is_safe;
 use collation_table::Strings;
 use utf8_cut::first_character;
 
-/// The nearest safe offset of these bytes at `from` or behind it of which the character stands in no contraction ([`is_safe`]); `None` where
-/// there is none before their end. `from` may lie within a character. Bytes that are ill-formed are passed over: of a text that has them from there on
+/// The nearest safe offset of these bytes at `from` or behind it, where a character stands that is safe ([`is_safe`]); `None` where there is
+/// none before their end. `from` may lie within a character. Bytes that are ill-formed are passed over: of a text that has them from there on
 /// a search says that they are a fault.
 ///
 /// It looks at the bytes from `from` on up to the character that stands there.
 pub fn next_safe<W: Strings>(table: &W, bytes: &[u8], from: usize) -> Option<usize>
     ensures safe { IfSome result (λ at. IsSafeOffset (W.table table.now) bytes.now at) }
-    ensures found { IfSome result (λ at. IsSafeAloneOffset (W.table table.now) bytes.now at) }
     ensures behind { IfSome result (λ at. from ≤ at) }
-    ensures alone { (at : ℕ) → from ≤ at → IsSafeAloneOffset (W.table table.now) bytes.now at
+    ensures nearest { (at : ℕ) → from ≤ at → IsSafeOffset (W.table table.now) bytes.now at
         → IsFoundUpTo at result }
-    ensures nearest { longest_mapped (W.table table.now) ≤ 1 → (at : ℕ) → from ≤ at
-        → IsSafeOffset (W.table table.now) bytes.now at → IsFoundUpTo at result }
 {
     for at in from..bytes.len() {
         if is_safe_at(table, bytes, at) {
@@ -30,18 +26,15 @@ pub fn next_safe<W: Strings>(table: &W, bytes: &[u8], from: usize) -> Option<usi
     None
 }
 
-/// The nearest safe offset of these bytes before `before` of which the character stands in no contraction ([`is_safe`]); `None` where there
-/// is none. `before` may lie within a character, or behind the end.
+/// The nearest safe offset of these bytes before `before`; `None` where there is none. `before` may lie within a character, or behind the
+/// end.
 ///
 /// It looks at the bytes before `before` down to the character that stands there, and at the rest of a character in which `before` lies.
 pub fn previous_safe<W: Strings>(table: &W, bytes: &[u8], before: usize) -> Option<usize>
     ensures safe { IfSome result (λ at. IsSafeOffset (W.table table.now) bytes.now at) }
-    ensures found { IfSome result (λ at. IsSafeAloneOffset (W.table table.now) bytes.now at) }
     ensures before { IfSome result (λ at. at < before) }
-    ensures alone { (at : ℕ) → at < before → IsSafeAloneOffset (W.table table.now) bytes.now at
+    ensures nearest { (at : ℕ) → at < before → IsSafeOffset (W.table table.now) bytes.now at
         → IsFoundFrom at result }
-    ensures nearest { longest_mapped (W.table table.now) ≤ 1 → (at : ℕ) → at < before
-        → IsSafeOffset (W.table table.now) bytes.now at → IsFoundFrom at result }
 {
     let mut end = before.min(bytes.len());
     while end > 0 {
@@ -53,12 +46,12 @@ pub fn previous_safe<W: Strings>(table: &W, bytes: &[u8], before: usize) -> Opti
     None
 }
 
-/// Whether a whole character that is safe stands at an offset of these bytes, where it stands in no contraction.
+/// Whether a whole character that is safe stands at an offset of these bytes.
 #[inline]
 fn is_safe_at<W: Strings>(table: &W, bytes: &[u8], at: usize) -> bool
     requires { at ≤ length bytes.now }
-    ensures alone { result ≡ true → IsSafeAloneOffset (W.table table.now) bytes.now at }
-    ensures known { IsSafeAloneOffset (W.table table.now) bytes.now at → result ≡ true }
+    ensures safe { result ≡ true → IsSafeOffset (W.table table.now) bytes.now at }
+    ensures known { IsSafeOffset (W.table table.now) bytes.now at → result ≡ true }
 {
     let (_, rest) = bytes.split_at(at);
     match first_character(rest) {

@@ -1,15 +1,10 @@
 //! Worked rows: characters of small tables, and whether they are safe, one row a function, proved by computing.
 
-ghost use Rattle.collation_safe.specs.WorkedRows.{CharactersThatStandAlone, CharactersWithoutRows, ContractionOfLetters, EachLetterContinuesAString, IgnorableString, MarksAndIgnorables, OffsetsOfText, VowelsBeforeConsonants};
+ghost use Rattle.collation_safe.specs.WorkedRows.{CharactersWithoutRows, ContractionOfLetters, EachLetterContinuesAString, IgnorableString, MarksAndIgnorables, OffsetsOfText, VowelsBeforeConsonants};
 
 /// `c` is safe, and `h`, the second letter of the contraction `ch`, is not.
 pub fn contraction_of_letters()
     ensures { ContractionOfLetters }
-{}
-
-/// `a` stands in no contraction, and `c`, which is safe, in `ch`.
-pub fn characters_that_stand_alone()
-    ensures { CharactersThatStandAlone }
 {}
 
 /// No mark is safe, and no ignorable character.

@@ -1,4 +1,3 @@
-pub mod AloneLemmas
 pub mod Cuts
 pub mod ElementLemmas
 pub mod FileFaults
@@ -6,7 +5,6 @@ pub mod FrontElements
 pub mod IndexLemmas
 pub mod LineForms
 pub mod LinesOfFile
-pub mod MarkLemmas
 pub mod OverlayLemmas
 pub mod PageLemmas
 pub mod Parsed
@@ -16,5 +14,6 @@ pub mod RowLemmas
 pub mod StarterLemmas
 pub mod TableLemmas
 pub mod TrieLemmas
+pub mod UnsafeLemmas
 pub mod Words
 pub mod WorkedTables

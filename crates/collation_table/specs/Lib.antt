@@ -8,5 +8,6 @@ pub mod Reading
 pub mod Spelling
 pub mod Table
 pub mod Trie
+pub mod Unsafe
 pub mod WellFormed
 pub mod WorkedTables

@@ -1,8 +1,7 @@
 -- A collation element table as a finite map from lists of code points to lists of collation elements, with the ranges
 -- of implicit weights (UTS #10, sections 3 and 10.1.3).
-use Rattle.std.specs.Prelude.{◌≡◌, ℕ, zero, suc, ◌+◌, ◌-◌, ◌/◌, ◌%◌, ◌≤◌, min, max, Bool, false, not, nat_lt, ◌&&◌, ◌||◌, ◌==◌, if◌then◌else◌, List, [], ◌∷◌, ◌++◌, length, take, map, find, Option, Some, None, is_some, bytes_eq}
+use Rattle.std.specs.Prelude.{◌≡◌, ℕ, zero, suc, ◌+◌, ◌-◌, ◌/◌, ◌%◌, ◌≤◌, min, max, Bool, false, ◌&&◌, ◌||◌, ◌==◌, if◌then◌else◌, List, [], ◌∷◌, ◌++◌, length, take, map, find, Option, Some, None, is_some, bytes_eq}
 use Rattle.std.specs.Int.{is_in_range}
-use Rattle.std.specs.List.{list_any}
 use Rattle.unicode_normalization.specs.Forms.{nfd}
 use Rattle.unicode_normalization.specs.Lookups.{canonical_combining_class}
 use Rattle.collation_table.specs.declared.limits.TheConstants.{MOST_STRING_POINTS, MOST_ROW_ELEMENTS}
@@ -47,14 +46,6 @@ ContinuesNoString T cp = (first : ℕ) (prefix rest : List ℕ) → is_mapped T 
 -- no mapped string that is longer than `string` begins with it
 abbrev pub GoesOnInNoString : TableMap → List ℕ → Type 0
 GoesOnInNoString T string = (next : ℕ) (rest : List ℕ) → is_mapped T (string ++ next ∷ rest) ≡ false
-
--- the string has two code points or more, and this one is among them
-abbrev pub is_in_longer : ℕ → List ℕ → Bool
-is_in_longer cp string = nat_lt 1 (length string) && list_any (λ c. c == cp) string
-
--- the code point stands in no mapped string of two or more
-abbrev pub stands_alone : TableMap → ℕ → Bool
-stands_alone T cp = not (list_any (λ row. is_in_longer cp row.0) T.rows)
 
 -- ---- implicit weights (UTS #10, section 10.1.3)
 

@@ -1,6 +1,6 @@
 -- How the paged index of a table finds a mapped string: the first code point by pages, each further one by a step from a node
 -- of a trie. Node 0 is the root.
-use Rattle.std.specs.Prelude.{◌≡◌, ◌⊎◌, ℕ, zero, suc, ◌/◌, ◌%◌, ◌<◌, ◌≤◌, Bool, true, false, List, [], ◌∷◌, ◌++◌, Option, Some, None, is_some, Vec, slice_get, get_or, length}
+use Rattle.std.specs.Prelude.{◌≡◌, ℕ, zero, suc, ◌/◌, ◌%◌, ◌<◌, ◌≤◌, Bool, false, List, [], ◌∷◌, ◌++◌, Option, Some, None, Vec, slice_get, get_or, length}
 use Rattle.std.specs.declared.cmp.Ordering.{Ordering}
 use Rattle.std.specs.Ordering.{nat_cmp, ordering_then}
 use Rattle.std.specs.BTreeMap.{BTreeMap, get}
@@ -98,55 +98,6 @@ pub record IsTrie (t : Trie) : Type 0 where
   pub steps : IsTrieOf (at t) t.nodes
   pub marked : IsMarked t
   pub firsts : HasFirst t
-
--- the code point stands in the string behind the first place
-pub record StandsBehind (cp : ℕ) (string : List ℕ) : Type 0 where
-  pub first : ℕ
-  pub between : List ℕ
-  pub rest : List ℕ
-  pub parts : string ≡ first ∷ (between ++ cp ∷ rest)
-
--- the string begins with the code point
-pub record BeginsWith (cp : ℕ) (string : List ℕ) : Type 0 where
-  pub rest : List ℕ
-  pub parts : string ≡ cp ∷ rest
-
--- the string begins with the code point and has others
-pub record BeginsLonger (cp : ℕ) (string : List ℕ) : Type 0 where
-  pub next : ℕ
-  pub rest : List ℕ
-  pub parts : string ≡ cp ∷ next ∷ rest
-
--- a code point leads on from the root
-abbrev pub leads_on : Trie → ℕ → Bool
-leads_on t cp = is_some (at t 0 cp).node
-
-abbrev pub is_placed : Trie → List ℕ → Bool
-is_placed t string = is_some (place_of t string)
-
--- Each mark is one of a mapped string: a code point that continues one stands in it behind the first place, and from the root only one leads
--- on that begins a mapped string of two or more.
-pub record IsTold (t : Trie) : Type 0 where
-  pub behind : (cp : ℕ) → continues t cp ≡ true → (string : List ℕ) × StandsBehind cp string × (is_placed t string ≡ true)
-  pub begun : (cp : ℕ) → leads_on t cp ≡ true → (string : List ℕ) × BeginsLonger cp string × (is_placed t string ≡ true)
-
--- an index of whole strings
-pub record IsIndex (t : Trie) : Type 0 where
-  pub trie : IsTrie t
-  pub told : IsTold t
-
--- of a step after a node with a code point, what it marks
-abbrev pub MarksStep : Trie → Trie → ℕ → ℕ → Type 0
-MarksStep old new node cp = (q : ℕ) → continues new q ≡ true → (continues old q ≡ true) ⊎ ((0 < node) × (q ≡ cp))
-
--- and what leads on from the root then
-abbrev pub LeadsStep : Trie → Trie → ℕ → ℕ → Type 0
-LeadsStep old new node cp = (q : ℕ) → leads_on new q ≡ true → (leads_on old q ≡ true) ⊎ ((node ≡ 0) × (q ≡ cp))
-
--- what the way along a string marks, and what leads on from the root then
-pub record MarksWay (old new : Trie) (string : List ℕ) : Type 0 where
-  pub behind : (q : ℕ) → continues new q ≡ true → (continues old q ≡ true) ⊎ StandsBehind q string
-  pub begun : (q : ℕ) → leads_on new q ≡ true → (leads_on old q ≡ true) ⊎ BeginsWith q string
 
 -- F has e at the step with c after s, and all else as E
 pub record IsSet (E F : ℕ → ℕ → Entry) (s c : ℕ) (e : Entry) : Type 0 where

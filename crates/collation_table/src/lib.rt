@@ -24,6 +24,7 @@ mod pages;
 mod pieces;
 mod plain_index;
 mod plain_table;
+mod point_set;
 mod ranges;
 mod reader;
 mod row_index;

@@ -1,6 +1,7 @@
 //! What the rest of the library asks a collation element table.
 ghost use Rattle.std.specs.Prelude.{◌≡◌, [], ◌∷◌, false, ◌<◌, ◌≤◌, length, option_copied, IfSome, OnSome};
-ghost use Rattle.collation_table.specs.Table.{TableMap, BeginsNoLongerString, ContinuesNoString, GoesOnInNoString, HasSizes, row_of, longest_prefix, implicit_pair, longest_mapped, most_elements, stands_alone as stands_alone_in};
+ghost use Rattle.collation_table.specs.Table.{TableMap, BeginsNoLongerString, ContinuesNoString, GoesOnInNoString, HasSizes, row_of, longest_prefix, implicit_pair, longest_mapped, most_elements};
+ghost use Rattle.collation_table.specs.Unsafe.{is_unsafe as is_unsafe_in};
 ghost use Rattle.collation_table.specs.WellFormed.{IsWellFormed};
 
 use crate::elements::Element;
@@ -77,9 +78,9 @@ pub trait Weights {
     ghost sizes: { (t : Self) → HasSizes (table t) };
 }
 
-/// A table that knows exactly in which of its strings a code point stands. The call takes no memory.
+/// A table that knows exactly which code points are unsafe, where a search may not begin. The call takes no memory.
 pub trait Strings: Weights {
-    /// Whether `cp` stands in no mapped string of two or more code points.
-    fn stands_alone(&self, cp: u32) -> bool
-        ensures { result ≡ stands_alone_in (Self.table self.now) cp };
+    /// Whether `cp` stands in a mapped string behind the first place, or one begins with it whose first element has no primary weight.
+    fn is_unsafe(&self, cp: u32) -> bool
+        ensures { result ≡ is_unsafe_in (Self.table self.now) cp };
 }

@@ -87,7 +87,8 @@ impl Weights for PlainTable {
 }
 
 impl Strings for PlainTable {
-    fn stands_alone(&self, cp: u32) -> bool {
-        !self.rows.has_in_longer(cp)
+    #[inline(always)]
+    fn is_unsafe(&self, cp: u32) -> bool {
+        self.rows.is_unsafe(cp)
     }
 }

@@ -1,12 +1,14 @@
 //! The rows and the implicit ranges of a table, as the lines of its file give them one by one.
-ghost use Rattle.std.specs.Prelude.{◌≡◌, ℕ, List, [], ◌∷◌, ◌++◌, false, length, take, slice_get, is_some, None, Some, IfSome, OnOk, OnSome, option_copied, ◌<◌, ◌≤◌};
-ghost use Rattle.collation_table.specs.Table.{TableMap, BeginsNoLongerString, ContinuesNoString, row_of, row_with, is_mapped, is_in_longer as is_in_longer_string, longest_mapped, most_elements, stands_alone};
+ghost use Rattle.std.specs.Prelude.{◌≡◌, ℕ, List, [], ◌∷◌, ◌++◌, false, ◌==◌, ◌||◌, length, take, slice_get, is_some, None, Some, IfSome, OnOk, OnSome, option_copied, ◌<◌, ◌≤◌};
+ghost use Rattle.collation_table.specs.Table.{TableMap, BeginsNoLongerString, ContinuesNoString, row_of, row_with, is_mapped, longest_mapped, most_elements};
+ghost use Rattle.collation_table.specs.Unsafe.{has_point, is_unsafe, is_unsafe_by, lacks_primary};
 ghost use Rattle.std.specs.List.{list_any};
 ghost use Rattle.collation_table.specs.Entries.{part, after, rows_at, IsIndexed};
 ghost use Rattle.collation_table.specs.WellFormed.{IsRowSound, breaks_ranges, AreLinesSound};
 
 use crate::elements::Element;
 use crate::pages::Place;
+use crate::point_set::PointSet;
 use crate::ranges::{self, ImplicitRange};
 use crate::row_index::RowIndex;
 use crate::trie::Trie;
@@ -24,14 +26,15 @@ pub(crate) struct RowPlaces {
 }
 
 /// Rows in the order in which they were inserted, with an index of their mapped strings, and ranges of implicit weights. All
-/// elements lie in one vector, and so do the code points of all mapped strings. Each row and each range is known to meet the
-/// conditions on it; those on the whole table are decided by `fault`.
+/// elements lie in one vector, and so do the code points of all mapped strings. The code points that the rows make unsafe are kept. Each
+/// row and each range is known to meet the conditions on it; those on the whole table are decided by `fault`.
 #[derive(Drop)]
 pub(crate) struct Rows<I: RowIndex> {
     points: Vec<u32>,
     elements: Vec<Element>,
     places: Vec<RowPlaces>,
     index: I,
+    unsafe_points: PointSet,
     ranges: Vec<ImplicitRange>,
     longest: usize,
     largest: usize,
@@ -52,7 +55,9 @@ impl<I: RowIndex> Model for Rows<I> {
         })
         × IsIndexed a.points.items a.elements.items a.places.items
         (I.finds a.index) a.longest a.largest
-        × I.is_whole a.index };
+        × I.is_whole a.index
+        × ((cp : ℕ) → has_point a.unsafe_points cp
+        ≡ list_any (is_unsafe_by cp) (rows_at a.points.items a.elements.items a.places.items)) };
 }
 
 /// The elements at a place.
@@ -84,13 +89,51 @@ fn append<T: Copy>(items: &mut Vec<T>, list: &[T]) -> Result<(), AllocError>
     Ok(())
 }
 
-/// Puts a row after those in the vectors and into the index. Where memory is refused, it may be in some of them.
+/// Whether the first of these elements has no primary weight.
+fn lacks_primary(row: &[Element]) -> bool
+    ensures { result ≡ lacks_primary row.now }
+{
+    match row {
+        [] => true,
+        [first, ..] => first.w1 == 0,
+    }
+}
+
+/// Puts code points into a set.
+fn put_all(points: &mut PointSet, cps: &[u32]) -> Result<(), AllocError>
+    ensures { OnOk result ((q : ℕ) → has_point points.new q
+        ≡ (has_point points.old q || list_any (λ c. c == q) cps.now)) }
+{
+    for cp in cps {
+        points.insert(*cp)?;
+    }
+    Ok(())
+}
+
+/// Puts the code points that a row makes unsafe into a set. Where memory is refused, some of them may be in it.
+fn put_unsafe(points: &mut PointSet, string: &[u32], row: &[Element]) -> Result<(), AllocError>
+    ensures { OnOk result ((cp : ℕ) → has_point points.new cp
+        ≡ (has_point points.old cp || is_unsafe_by cp (string.now, row.now))) }
+{
+    let [first, rest @ ..] = string else {
+        return Ok(());
+    };
+    put_all(points, rest)?;
+    if lacks_primary(row) {
+        points.insert(*first)?;
+    }
+    Ok(())
+}
+
+/// Puts a row after those in the vectors and into the index, and what it makes unsafe into the set. Where memory is refused, it may be in
+/// some of them.
 fn store<I: RowIndex>(
     alloc: Global,
     points: &mut Vec<u32>,
     elements: &mut Vec<Element>,
     places: &mut Vec<RowPlaces>,
     index: &mut I,
+    unsafe_points: &mut PointSet,
     string: &[u32],
     row: &[Element],
 ) -> Result<(), AllocError>
@@ -110,6 +153,8 @@ fn store<I: RowIndex>(
         (I.finds index.new string.now ≡ Some (after elements.old.items row.now)) }
     ensures others { OnOk result ((q : List ℕ) → ((q ≡ string.now) → ⊥)
         → I.finds index.new q ≡ I.finds index.old q) }
+    ensures unsafe_points { OnOk result ((cp : ℕ) → has_point unsafe_points.new cp
+        ≡ (has_point unsafe_points.old cp || is_unsafe_by cp (string.now, row.now))) }
 {
     let string_start = points.len();
     append(points, string)?;
@@ -127,14 +172,8 @@ fn store<I: RowIndex>(
         row: place,
     })?;
     index.insert(alloc, string, place)?;
+    put_unsafe(unsafe_points, string, row)?;
     Ok(())
-}
-
-/// Whether a string has two code points or more, and `cp` is among them.
-fn is_in_longer(string: &[u32], cp: u32) -> bool
-    ensures { result ≡ is_in_longer_string cp string.now }
-{
-    string.len() > 1 && string.contains(&cp)
 }
 
 impl<I: RowIndex> Rows<I> {
@@ -147,6 +186,7 @@ impl<I: RowIndex> Rows<I> {
             elements: Vec::new(alloc),
             places: Vec::new(alloc),
             index: I::new(alloc),
+            unsafe_points: PointSet::new(alloc),
             ranges: Vec::new(alloc),
             longest: 0,
             largest: 2,
@@ -198,6 +238,7 @@ impl<I: RowIndex> Rows<I> {
             &mut self.elements,
             &mut self.places,
             &mut self.index,
+            &mut self.unsafe_points,
             string,
             row,
         );
@@ -235,17 +276,12 @@ impl<I: RowIndex> Rows<I> {
         self.places.len()
     }
 
-    /// Whether `cp` stands in a mapped string of two or more code points, by a look at each.
-    pub fn has_in_longer(&self, cp: u32) -> bool
-        ensures { result ≡ list_any (λ row. is_in_longer_string cp row.0) self.now.rows }
+    /// Whether a row makes `cp` unsafe.
+    #[inline(always)]
+    pub fn is_unsafe(&self, cp: u32) -> bool
+        ensures { result ≡ is_unsafe self.now cp }
     {
-        for number in 0..self.row_count() {
-            let (string, _) = self.row_at(number);
-            if is_in_longer(string, cp) {
-                return true;
-            }
-        }
-        false
+        self.unsafe_points.contains(cp)
     }
 
     /// The number of code points of the longest mapped string.
@@ -290,8 +326,7 @@ impl<I: RowIndex> Rows<I> {
 impl Rows<Trie> {
     /// Whether a mapped string of two or more code points begins with `cp`.
     pub fn begins_longer_string(&self, cp: u32) -> bool
-        ensures none { result ≡ false → BeginsNoLongerString self.now cp }
-        ensures some { BeginsNoLongerString self.now cp → result ≡ false }
+        ensures { result ≡ false → BeginsNoLongerString self.now cp }
     {
         self.index.begins_longer_string(cp)
     }
@@ -312,16 +347,8 @@ impl Rows<Trie> {
 
     /// Whether `cp` stands after the first place in a mapped string.
     pub fn continues_string(&self, cp: u32) -> bool
-        ensures none { result ≡ false → ContinuesNoString self.now cp }
-        ensures some { ContinuesNoString self.now cp → result ≡ false }
+        ensures { result ≡ false → ContinuesNoString self.now cp }
     {
         self.index.continues_string(cp)
-    }
-
-    /// Whether `cp` stands in no mapped string of two or more code points.
-    pub fn stands_alone(&self, cp: u32) -> bool
-        ensures { result ≡ stands_alone self.now cp }
-    {
-        !self.begins_longer_string(cp) && !self.continues_string(cp)
     }
 }

@@ -81,7 +81,8 @@ impl Weights for Table {
 }
 
 impl Strings for Table {
-    fn stands_alone(&self, cp: u32) -> bool {
-        self.rows.stands_alone(cp)
+    #[inline(always)]
+    fn is_unsafe(&self, cp: u32) -> bool {
+        self.rows.is_unsafe(cp)
     }
 }

@@ -7,7 +7,7 @@
 //! steps is why the trie has this form; the time of a look-up is measured, and no clause speaks of it.
 ghost use Rattle.std.specs.Prelude.{◌≡◌, ℕ, ◌<◌, ◌≤◌, List, [], ◌∷◌, ◌++◌, false, length, is_some, None, Some, OnOk, IfOk, OnSome, IfSome};
 ghost use Rattle.collation_table.specs.Table.{TableMap, is_mapped, longest_prefix};
-ghost use Rattle.collation_table.specs.Trie.{at, place_of, seek, continues, leads_on, Leads, IsTrie, IsIndex, IsMarked, HasFirst, IsSet, MarksStep, LeadsStep, MarksWay};
+ghost use Rattle.collation_table.specs.Trie.{at, place_of, seek, continues, Leads, IsTrie, IsMarked, HasFirst, IsSet};
 
 use crate::first_steps::FirstSteps;
 use crate::pages::{EMPTY_ENTRY, Entry, PageEntry, Pages, Place};
@@ -68,7 +68,6 @@ impl Trie {
         requires marked { IsMarked self.old }
         requires firsts { HasFirst self.old }
         ensures set { OnOk result (IsSet (at self.old) (at self.new) node cp entry) }
-        ensures marks { OnOk result (MarksStep self.old self.new node cp) }
         ensures marked { OnOk result (IsMarked self.new) }
         ensures firsts { OnOk result (HasFirst self.new) }
         ensures nodes { OnOk result (self.new.nodes ≡ self.old.nodes) }
@@ -110,9 +109,7 @@ impl Trie {
         requires used { node < self.old.nodes }
         requires none { at self.old node cp ≡ record { place = place; node = None } }
         ensures trie { OnOk result (IsTrie self.new) }
-        ensures marks { OnOk result (MarksStep self.old self.new node cp) }
-        ensures leads_on { OnOk result (LeadsStep self.old self.new node cp) }
-        ensures used { IfOk result (λ next. (0 < next) × (next < self.new.nodes)) }
+        ensures used { IfOk result (λ next. next < self.new.nodes) }
         ensures same { OnOk result ((string : List ℕ)
             → place_of self.new string ≡ place_of self.old string) }
         ensures leads { IfOk result (λ next. (prefix : List ℕ) → Leads (at self.old) 0 prefix node
@@ -140,9 +137,7 @@ impl Trie {
         requires trie { IsTrie self.old }
         requires used { node < self.old.nodes }
         ensures trie { OnOk result (IsTrie self.new) }
-        ensures marks { OnOk result (MarksStep self.old self.new node cp) }
-        ensures leads_on { OnOk result (LeadsStep self.old self.new node cp) }
-        ensures used { IfOk result (λ next. (0 < next) × (next < self.new.nodes)) }
+        ensures used { IfOk result (λ next. next < self.new.nodes) }
         ensures same { OnOk result ((string : List ℕ)
             → place_of self.new string ≡ place_of self.old string) }
         ensures leads { IfOk result (λ next. (prefix : List ℕ) → Leads (at self.old) 0 prefix node
@@ -159,8 +154,6 @@ impl Trie {
     fn follow_all(&mut self, alloc: Global, cps: &[u32]) -> Result<u32, AllocError>
         requires trie { IsTrie self.old }
         ensures trie { OnOk result (IsTrie self.new) }
-        ensures marks { OnOk result (MarksWay self.old self.new cps.now) }
-        ensures root { IfOk result (λ node. length cps.now ≡ 0 → node ≡ 0) }
         ensures used { IfOk result (λ node. node < self.new.nodes) }
         ensures same { OnOk result ((string : List ℕ)
             → place_of self.new string ≡ place_of self.old string) }
@@ -186,7 +179,6 @@ impl Trie {
         ensures set { OnOk result
             (IsSet (at self.old) (at self.new) node cp
             (record (at self.old node cp) { place = Some place })) }
-        ensures marks { OnOk result (MarksStep self.old self.new node cp) }
         ensures marked { OnOk result (IsMarked self.new) }
         ensures firsts { OnOk result (HasFirst self.new) }
         ensures nodes { OnOk result (self.new.nodes ≡ self.old.nodes) }
@@ -275,9 +267,8 @@ impl Trie {
     /// Whether a mapped string of two or more code points begins with `cp`.
     pub fn begins_longer_string(&self, cp: u32) -> bool
         requires { IsTrie self.now }
-        ensures none { result ≡ false → (d : ℕ) (rest : List ℕ)
+        ensures { result ≡ false → (d : ℕ) (rest : List ℕ)
             → place_of self.now (cp ∷ d ∷ rest) ≡ None }
-        ensures some { result ≡ leads_on self.now cp }
     {
         self.pages.get(cp).entry.node.is_some()
     }
@@ -301,9 +292,8 @@ impl Trie {
     /// Whether `cp` stands after the first place in a mapped string.
     pub fn continues_string(&self, cp: u32) -> bool
         requires { IsTrie self.now }
-        ensures none { result ≡ false → (first : ℕ) (prefix rest : List ℕ)
+        ensures { result ≡ false → (first : ℕ) (prefix rest : List ℕ)
             → place_of self.now (first ∷ (prefix ++ cp ∷ rest)) ≡ None }
-        ensures some { result ≡ continues self.now cp }
     {
         self.pages.get(cp).continues
     }
@@ -312,7 +302,7 @@ impl Trie {
 impl RowIndex for Trie {
     ghost finds = { place_of };
 
-    ghost is_whole = { IsIndex };
+    ghost is_whole = { IsTrie };
 
     fn new(alloc: Global) -> Trie {
         Trie {

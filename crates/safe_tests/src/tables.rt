@@ -1,5 +1,5 @@
 //! Each table of some contractions of four letters: what is found in texts of these letters, beside the rule read letter by letter. A
-//! letter is told to be safe where it is in no contraction and has a primary weight.
+//! letter is safe where it has a primary weight, is the second one of no contraction, and each that begins with it has a primary weight.
 
 use crate::tests::same_at;
 use collation_safe::{next_safe, previous_safe};
@@ -43,20 +43,23 @@ fn has(bits: u32, bit: usize) -> bool {
     bits.wrapping_shr((bit % 32) as u32) & 1 == 1
 }
 
-/// Whether a letter is in one of these contractions, one for each bit that is set.
-fn is_in_contraction(bits: u32, letter: u8) -> bool {
+/// The contraction without a primary weight.
+const IGNORABLE: usize = 6;
+
+/// Whether one of these contractions, one for each bit that is set, makes a letter unsafe.
+fn is_unsafe(bits: u32, letter: u8) -> bool {
     for (bit, contraction) in CONTRACTIONS.iter().enumerate() {
         let (first, second, _line) = *contraction;
-        if has(bits, bit) && (first == letter || second == letter) {
+        if has(bits, bit) && (second == letter || bit == IGNORABLE && first == letter) {
             return true;
         }
     }
     false
 }
 
-/// Whether a byte is a letter that is told to be safe.
-fn is_told(bits: u32, byte: u8) -> bool {
-    byte < 0x80 && byte != b'd' && !is_in_contraction(bits, byte)
+/// Whether a byte is a letter that is safe.
+fn is_safe(bits: u32, byte: u8) -> bool {
+    byte < 0x80 && byte != b'd' && !is_unsafe(bits, byte)
 }
 
 /// The lines of the table of these contractions.
@@ -78,7 +81,7 @@ fn compare<W: Strings>(rt: &impl Abort, table: &W, bits: u32, text: &[u8]) {
     for (at, byte) in text.iter().enumerate() {
         same_at(rt, &previous_safe(table, text, at), &last, at);
         let is_here = next_safe(table, text, at) == Some(at);
-        same_at(rt, &is_here, &is_told(bits, *byte), at);
+        same_at(rt, &is_here, &is_safe(bits, *byte), at);
         if is_here {
             last = Some(at);
         }

@@ -10,7 +10,7 @@ returns-in-Some-clause-next c = (
   c.next_safe-found.result,
   c.place_with.ensures,
   next_told _ _ _ c.args.bytes.now c.args.from _ c.in-Some.ensures.taken (c.table_under.ensures ∙ ap table_under c.deref.ensures)
-      (record { safe = c.next_safe-found.ensures.safe; told = c.next_safe-found.ensures.found; behind = c.next_safe-found.ensures.behind; alone = c.next_safe-found.ensures.alone; nearest = c.next_safe-found.ensures.nearest }),
+      (record { safe = c.next_safe-found.ensures.safe; behind = c.next_safe-found.ensures.behind; nearest = c.next_safe-found.ensures.nearest }),
 )
 
 pub returns-in-None-clause-next : goal.returns-in-None-clause-next

@@ -10,7 +10,7 @@ returns-in-Some-clause-previous c = (
   c.previous_safe-found.result,
   c.place_with.ensures,
   previous_told _ _ _ c.args.bytes.now c.args.before _ c.in-Some.ensures.taken (c.table_under.ensures ∙ ap table_under c.deref.ensures)
-      (record { safe = c.previous_safe-found.ensures.safe; told = c.previous_safe-found.ensures.found; earlier = c.previous_safe-found.ensures.before; alone = c.previous_safe-found.ensures.alone; nearest = c.previous_safe-found.ensures.nearest }),
+      (record { safe = c.previous_safe-found.ensures.safe; earlier = c.previous_safe-found.ensures.before; nearest = c.previous_safe-found.ensures.nearest }),
 )
 
 pub returns-in-None-clause-previous : goal.returns-in-None-clause-previous

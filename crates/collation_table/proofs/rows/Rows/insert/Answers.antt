@@ -1,10 +1,13 @@
-use Rattle.std.proofs.Common.{◌≡◌, ◌∙◌, ◌∷◌, ◌++◌, [], ap, refl}
+use Rattle.std.proofs.Common.{◌≡◌, ◌∙◌, ◌∷◌, ◌++◌, ◌||◌, ℕ, [], ap, sym, refl}
+use Rattle.std.specs.List.{list_any}
 use Rattle.collation_table.specs.declared.rows.RowPlaces.{RowPlaces}
 use Rattle.collation_table.specs.Entries.{rows_at, after}
 use Rattle.collation_table.specs.Table.{TableMap}
+use Rattle.collation_table.specs.Unsafe.{has_point, is_unsafe_by}
 use Rattle.collation_table.specs.WellFormed.{AreLinesSound}
 use Rattle.collation_table.proofs.RowLemmas.{AllByRecursion-push, AreStringsDistinct-push}
 use Rattle.collation_table.proofs.IndexLemmas.{IsIndexed-push, rows_at-push}
+use Rattle.collation_table.proofs.UnsafeLemmas.{any-push}
 use Rattle.collation_table.proofs.rows.Rows.insert.Goals as goal
 
 pub invariant_of-self : goal.invariant_of-self
@@ -19,7 +22,10 @@ invariant_of-self g c =
     c.in-Ok.ensures.here c.in-Ok.ensures.others in
     let sound : AreLinesSound (record { rows = rows_at (a.points.items ++ string) (a.elements.items ++ row) (a.places.items ++ r ∷ []); ranges = a.ranges.items }) =
     rw rows (record { rows = AllByRecursion-push _ _ _ c.self.invariant.0.rows c.requires.sound; distinct = AreStringsDistinct-push _ string row c.self.invariant.0.distinct absent; ranges = c.self.invariant.0.ranges }) in
-    rw (c.in-Ok.ensures.points, c.in-Ok.ensures.elements, c.in-Ok.ensures.places, c.max-self-inside.ensures, c.max-self-inside-in-Ok.ensures) (sound, indexed, c.in-Ok.ensures.whole)
+    let before = rows_at a.points.items a.elements.items a.places.items in
+    let marked : (cp : ℕ) → has_point c.store-stored.new.unsafe_points cp ≡ list_any (is_unsafe_by cp) (rows_at (a.points.items ++ string) (a.elements.items ++ row) (a.places.items ++ r ∷ [])) = λ cp.
+    c.in-Ok.ensures.unsafe_points cp ∙ ap (λ b. b || is_unsafe_by cp (string, row)) (c.self.invariant.3 cp) ∙ sym (any-push (is_unsafe_by cp) before (string, row)) ∙ ap (list_any (is_unsafe_by cp)) (sym rows) in
+    rw (c.in-Ok.ensures.points, c.in-Ok.ensures.elements, c.in-Ok.ensures.places, c.max-self-inside.ensures, c.max-self-inside-in-Ok.ensures) (sound, indexed, c.in-Ok.ensures.whole, marked)
 
 pub returns-in-Ok : goal.returns-in-Ok
 returns-in-Ok g c =

@@ -2,7 +2,6 @@ use Rattle.std.proofs.Common.{◌≡◌, ◌+◌, sym, ap, refl, arith, rules, s
 use Rattle.collation_table.specs.declared.pages.Entry.{Entry}
 use Rattle.collation_table.specs.Trie.{at, IsTrieOf}
 use Rattle.collation_table.proofs.TrieLemmas.{IsTrieOf-add, place_from-add, add_keeps, Leads-kept, Leads-end}
-use Rattle.collation_table.proofs.MarkLemmas.{leads_step}
 use Rattle.collation_table.proofs.trie.Trie.add_node.Goals as goal
 
 pub returns-clause-trie : goal.returns-clause-trie
@@ -25,6 +24,3 @@ returns-clause-leads c = λ prefix leads.
     Leads-end (at c.set_step.new.self) 0 prefix c.args.node c.args.cp c.args.self.now.nodes
     (Leads-kept (at c.args.self.now) (at c.set_step.new.self) (add_keeps (at c.args.self.now) (at c.set_step.new.self) c.args.node c.args.cp _ set (ap (λ (e : Entry). e.node) c.requires.none)) 0 prefix c.args.node leads)
     (ap (λ (e : Entry). e.node) set.hit)
-
-pub returns-clause-leads_on : goal.returns-clause-leads_on
-returns-clause-leads_on c = leads_step (at c.args.self.now) (at c.set_step.new.self) c.args.node c.args.cp _ c.in_ok-set_step.ensures.set

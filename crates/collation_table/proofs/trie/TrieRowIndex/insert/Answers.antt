@@ -1,7 +1,6 @@
-use Rattle.std.proofs.Common.{inl, inr, ◌-◌, ◌∙◌, sym, ap, subst, refl, arith, length, take, get_or, is_some}
+use Rattle.std.proofs.Common.{◌-◌, ◌∙◌, sym, ap, subst, refl, arith, length, take, get_or}
 use Rattle.collation_table.specs.Trie.{at, place_of, IsTrieOf}
-use Rattle.collation_table.proofs.MarkLemmas.{told_insert, zero_or}
-use Rattle.collation_table.proofs.TrieLemmas.{IsTrieOf-put, place_from-put_here, place_from-put_other, put_node, split_last}
+use Rattle.collation_table.proofs.TrieLemmas.{IsTrieOf-put, place_from-put_here, place_from-put_other, split_last}
 use Rattle.collation_table.proofs.trie.TrieRowIndex.insert.Goals as goal
 
 pub returns-clause-here : goal.returns-clause-here
@@ -19,21 +18,8 @@ returns-clause-others c = λ q other.
     q (λ h. other (h ∙ sym whole)) ∙ c.in_ok-node.ensures.same q
 
 pub returns-clause-whole : goal.returns-clause-whole
-returns-clause-whole c =
-    let string = c.args.string.now in
-    let n = length string - 1 in
-    record {
-      trie = record {
-        steps = subst (λ n. IsTrieOf (at c.set_place.new.self) n) (sym c.in_ok-set_place.ensures.nodes) (IsTrieOf-put (at c.follow_all.new.self) (at c.set_place.new.self) c.in_ok-node.node _ _ c.follow_all.new.self.nodes c.in_ok-set_place.ensures.set refl c.in_ok-node.ensures.used c.in_ok-node.ensures.trie.steps);
-        marked = c.in_ok-set_place.ensures.marked;
-        firsts = c.in_ok-set_place.ensures.firsts;
-      };
-      told = told_insert c.args.self.now c.follow_all.new.self c.set_place.new.self string (take n string) c.in_ok-node.node (get_or string n 0) _ (split_last string n (omega arith)) (returns-clause-here c) (returns-clause-others c)
-          c.in_ok-node.ensures.marks c.in_ok-set_place.ensures.marks
-          (λ q. ap is_some (put_node (at c.follow_all.new.self) (at c.set_place.new.self) c.in_ok-node.node (get_or string n 0) _ c.in_ok-set_place.ensures.set refl 0 q))
-          (λ some. elim (zero_or (length (take n string))) [
-            | inl none ↦ absurd (omega (arith, some, c.in_ok-node.ensures.root none))
-            | inr more ↦ more
-          ])
-          c.requires.whole.told;
-    }
+returns-clause-whole c = record {
+  steps = subst (λ n. IsTrieOf (at c.set_place.new.self) n) (sym c.in_ok-set_place.ensures.nodes) (IsTrieOf-put (at c.follow_all.new.self) (at c.set_place.new.self) c.in_ok-node.node _ _ c.follow_all.new.self.nodes c.in_ok-set_place.ensures.set refl c.in_ok-node.ensures.used c.in_ok-node.ensures.trie.steps);
+  marked = c.in_ok-set_place.ensures.marked;
+  firsts = c.in_ok-set_place.ensures.firsts;
+}
