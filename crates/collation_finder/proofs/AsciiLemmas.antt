@@ -1,11 +1,12 @@
 -- Characters of ASCII behind the letters of a piece: each is one byte and one point, and a reorderer in which none waits gives it.
-use Rattle.std.specs.Char.{len_utf8}
+use Rattle.std.specs.Char.{is_ascii, len_utf8}
 use Rattle.std.specs.Str.{IsAscii}
 use Rattle.std.specs.List.{All}
 use Rattle.std.proofs.Common.{◌≡◌, ◌∙◌, ℕ, zero, suc, ◌+◌, ◌<◌, ◌≤◌, Option, None, Some, List, [], ◌∷◌, ◌++◌, length, take, get_or, slice_get, false, true, not, ◌==◌, eq-eqb, refl, sym, ap, subst, arith, append_assoc}
 use Rattle.std.proofs.lemmas.List.{append-nil, length-take-le}
 use Rattle.std.proofs.lemmas.Str.{encode_ascii, len_utf8_ascii, IsAscii-append}
 use Rattle.std.proofs.Math.Seq.{take-suc}
+use Rattle.utf8_cut.specs.Characters.{ascii_prefix_len}
 use Rattle.utf8_cut.specs.Sequences.{SpellsCharacter}
 use Rattle.unicode_normalization.specs.Order.{is_nonstarter}
 use Rattle.unicode_normalization.specs.StreamSafe.{has_short_runs}
@@ -30,6 +31,12 @@ ascii-len (b ∷ bs) ascii = let one = len_utf8_ascii b (ascii 0) in let rest = 
 pub ascii-one : (b : ℕ) → b < 128 → IsAscii (b ∷ [])
 ascii-one b less zero = less
 ascii-one b less (suc i) = omega arith
+
+-- where the first byte is ASCII, some is counted
+pub ascii-some : (piece : List ℕ) (most : ℕ) → 0 < most → 0 < length piece → get_or piece 0 0 < 128 → 0 < ascii_prefix_len (take most piece)
+ascii-some [] most room some low = absurd (omega (arith, some))
+ascii-some (b ∷ bs) zero room some low = absurd (omega (arith, room))
+ascii-some (b ∷ bs) (suc m) room some low = let first : is_ascii b ≡ true = grind arith in rw first (omega arith)
 
 -- one byte more
 pub ascii-more : (piece : List ℕ) (n : ℕ) → n < length piece → IsAscii (take n piece) → get_or piece n 0 < 128 → IsAscii (take (n + 1) piece)

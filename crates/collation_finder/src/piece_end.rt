@@ -17,6 +17,7 @@ use collation_table::Weights;
 use collation_walk::{Found, Query};
 use nfd_points::laws::{laws_of_decompositions, laws_of_points, laws_of_reordering, laws_of_runs};
 use nfd_points::{MOST_GIVEN, Point};
+use utf8_cut::ascii_len;
 
 /// Puts the points of the characters of ASCII at the front of a piece, which stands at a byte
 /// offset, into `points`: as many as there is room for. `points` is emptied before. It answers how
@@ -39,8 +40,9 @@ fn ascii_points(piece: &[u8], offset: u64, points: &mut ArrayVec<Point, MOST_GIV
     laws_of_runs();
     points.clear();
     let most = piece.len().min(MOST_GIVEN);
+    let count = ascii_len(&piece[..most]);
     let mut len = 0;
-    while len < most && piece[len].is_ascii() {
+    while len < count {
         points.push(Point {
             cp: u32::from(piece[len]),
             ccc: 0,
@@ -57,7 +59,7 @@ impl Finder {
     /// there is room for, and none where a point waits. It puts the ranges that became known into
     /// `found`, which is emptied before, and answers how many characters it took. It may also go on
     /// behind a pause.
-    pub(crate) fn take_ascii<W: Weights>(
+    pub fn take_ascii<W: Weights>(
         &mut self,
         query: &Query<'_, W>,
         piece: &[u8],
@@ -68,6 +70,7 @@ impl Finder {
         requires fits { offset + length piece.now ≤ most_bytes }
         ensures within { result ≤ length piece.now }
         ensures text { IsUtf8 (take result piece.now) }
+        ensures ascii { IsAscii (take result piece.now) }
         ensures taken { TakesBehind (W.table query.now.table.now) query.now.pattern.now
             self.old self.new (slice_get (take result piece.now) 0)
             offset (chars (take result piece.now)) found.new.items }

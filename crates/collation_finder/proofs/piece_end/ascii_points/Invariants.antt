@@ -8,7 +8,7 @@ use Rattle.collation_finder.proofs.piece_end.ascii_points.Given as goal
 
 abbrev pub invariant-loop-len : goal.invariant-loop-len
 invariant-loop-len l = record {
-  within : l.len ≤ l.most;
+  within : l.len ≤ l.count;
   count : length l.points.items ≡ l.len;
   ascii : IsAscii (take l.len l.piece);
   points : l.points.items ≡ points_from l.offset (take l.len l.piece);
@@ -18,4 +18,4 @@ invariant-loop-len l = record {
 }
 
 abbrev pub decreases-loop-len : goal.decreases-loop-len
-decreases-loop-len l = l.most - l.len
+decreases-loop-len l = l.count - l.len
