@@ -161,9 +161,9 @@ colfind_first colfind_begins(colfind_handle *handle, const uint8_t *text, size_t
 colfind_first colfind_last_before(colfind_handle *pattern, const uint8_t *text, size_t n, size_t at);
 
 /* The shortest match that ends where the text ends: `range` is from its start to `n`. Ignorable characters behind it belong to it. It goes
- * back from the end as colfind_last_before, but no further than to where the rest has no range and more keys than the pattern: a fault in
- * front of that may not be told. Memory is asked for at each call; where it is refused, 36 at 0, but without room to count keys it only goes
- * further back. */
+ * back from the end as colfind_last_before, but no further than to where the rest has no range and more keys than the pattern. A fault is
+ * told where what stands behind it does not decide: it is the last one, and from the next safe offset behind it on no match ends there, and
+ * there are no more keys than the pattern has. Memory is asked for at each call; where it is refused, 36 at 0. */
 colfind_first colfind_ends(colfind_handle *pattern, const uint8_t *text, size_t n);
 
 /* An offset, if `is_found` is 1; else both are 0. */

@@ -259,6 +259,17 @@ static colfind_first met_first(colfind_handle *search, const uint8_t *text, size
     }
 }
 
+/* What is told of a text where the last fault is met and no match ends behind it: that fault, or nothing, as behind a bad byte alone. */
+static colfind_first told_behind(colfind_handle *search, colfind_handle *pattern, const uint8_t *text, size_t n, colfind_first fault) {
+    uint8_t behind[MOST + 1] = {0xff};
+    colfind_place next = colfind_next_safe(search, text, n, fault.status.at + 1);
+    size_t from = next.is_found ? next.at : n;
+    memcpy(behind + 1, text + from, n - from);
+    colfind_first told = colfind_ends(pattern, behind, n - from + 1);
+    assert(!told.is_found && (!told.status.kind || is(told.status, COLFIND_TEXT_ILL_FORMED, 0)));
+    return told.status.kind ? fault : told;
+}
+
 /* The last range before some offsets, and the match that ends where the text ends. Without a fault that is the range, up to a letter that
  * stands nowhere else, of the pattern before this letter. */
 static void going_back(colfind_handle *table, colfind_handle *pattern, const char *word, int strength, int shifted, const uint8_t *text,
@@ -283,6 +294,7 @@ static void going_back(colfind_handle *table, colfind_handle *pattern, const cha
     if (wanted.status.kind) {
         wanted = met_first(&search, text, n, n);
         if (wanted.is_found && !colfind_equal(pattern, text + wanted.range.start, n - wanted.range.start).is_equal) wanted = (colfind_first){0};
+        if (wanted.status.kind) wanted = told_behind(&search, pattern, text, n, wanted);
     }
     if (wanted.is_found) wanted.range.end = n;
     assert(same_told(first, wanted));
@@ -553,6 +565,8 @@ static void rows(colfind_handle *table) {
     ROW(colfind_ends(&c, BYTES("ac")), 1, 1, 2);
     ROW(colfind_ends(&c, BYTES("ach")), 0, 0, 0);
     FAULT(colfind_ends(&aa, BYTES("aa\377")), 2);
+    FAULT(colfind_ends(&aa, BYTES("\377bb")), 0);
+    ROW(colfind_ends(&aa, BYTES("\377bbb")), 0, 0, 0);
     ROW(colfind_ends(&aa, BYTES("\377 aa")), 1, 2, 4);
     assert(colfind_search(&aa, &search, COLFIND_ALL).kind == 0);
     assert(is(colfind_search_part(&search, BYTES("aaaa"), 0, 2), COLFIND_GOOD, 0) && colfind_pending(&search) == 2);

@@ -241,6 +241,9 @@ class Tests(unittest.TestCase):
         self.assertEqual(pattern.ends(b"\xff\xffaa"), (2, 4))
         for text in "aa\ud800", b"aa\xff":
             self.assertEqual(answer(lambda: pattern.ends(text)), (Kind.TEXT_ILL_FORMED, 2, "fault"))
+        for count in 2, 3, 900, 5_000:
+            for text in b"\xff" + b"b" * count, "\ud800" + "b" * count:
+                self.assertEqual(answer(lambda: pattern.ends(text)), (Kind.TEXT_ILL_FORMED, 0, "fault") if count == 2 else None)
 
     def test_ends_reads_what_stands_there(self) -> None:
         """A str in parts is told as its bytes are, and no more of it is encoded than the end."""

@@ -324,23 +324,21 @@ class Back:
         said = (said_up_to(at, *self.rest(place)) for place in self.places if place < at or not place)
         return next(filter(None, said), None)
 
-    def is_decided_by(self, place, more):
-        """From a place on there is neither a range nor a fault, but more keys than the pattern has, with `more` that stand there too: then no
-        match ends with the text, whatever stands in front."""
-        of = [len(keys(*self.settings, good_front(data)[0])) for data in (self.pattern, self.data[place:])]
-        return self.rest(place) == ([], None) and of[0] < of[1] + more
-
-    def ends(self):
-        """The match with the greatest start, minimal or not, that ends where the text ends, or what else is met there."""
-        met, length = self.last_before(len(self.data)), len(self.data)
-        if not met or met[0] == "fault":
-            return met
-        first = min(place for place in self.places if not self.rest(place)[1])
-        characters = good_front(self.data[first:])[0]
+    def ends(self, more):
+        """The match with the greatest start, minimal or not, that ends where the text ends, or None; or the last fault, where what stands
+        behind it has no more keys than the pattern. From a place on `more` says how many keys the text has beside those here."""
+        fault = next(filter(None, (self.rest(place)[1] for place in self.places)), None)
+        first = min((place for place in self.places if not fault or fault[1] < place), default=None)
+        if first is None:
+            return "fault", *fault
+        characters, length = good_front(self.data[first:])[0], len(self.data) - first
         key = sort_key(*self.settings, good_front(self.pattern)[0])
-        starts = [start for start in boundaries(self.settings[0], characters, length - first)
-                  if sort_key(*self.settings, part(characters, start, length - first)) == key]
-        return (first + starts[-1], length) if starts else None
+        starts = [start for start in boundaries(self.settings[0], characters, length)
+                  if sort_key(*self.settings, part(characters, start, length)) == key]
+        if starts:
+            return first + starts[-1], len(self.data)
+        wanted, found = (len(keys(*self.settings, good_front(data)[0])) for data in (self.pattern, self.data[first:]))
+        return ("fault", *fault) if fault and found + more(first) <= wanted else None
 
 
 def pattern_fault(table, strength, is_shifted, pattern):

@@ -3,13 +3,14 @@
 
 use crate::asking::{Start, Told, begin, compile, read, same_at};
 use collation_anchored::equal;
-use collation_elements::{Strength, Variable};
+use collation_elements::{Item, Strength, Variable, items_of_text};
 use collation_pattern::Pattern;
 use collation_safe::next_safe;
 use collation_search::{Found, Search, TextFault};
 use collation_table::{Strings, Table};
 use std::alloc::{AllocError, Global};
 use std::process::Abort;
+use std::str::from_utf8;
 
 /// Parts of which texts are made.
 const PARTS: [&[u8]; 20] = [
@@ -201,24 +202,58 @@ fn is_equal_from<W: Strings>(
     }
 }
 
-/// The greatest start of a range, wherever that ends, from which on the text is equal; or the fault that is met first.
+/// How many keys a text has, or none where memory was refused.
+fn keys_in<W: Strings>(alloc: Global, table: &W, pattern: &Pattern, text: &[u8]) -> Option<usize> {
+    let text = from_utf8(text).ok()?;
+    let items = items_of_text(alloc, table, text, pattern.strength(), pattern.variable()).ok()?;
+    let mut keys = 0usize;
+    for item in &items {
+        if let Item::Element(_) = item {
+            keys = keys.saturating_add(1);
+        }
+    }
+    Some(keys)
+}
+
+/// The greatest start of a range of the last of these searches, wherever that ends, from which on the text is equal. Without one the fault in
+/// front of it, if it has no more keys than the pattern. Nothing where memory was refused.
 fn start_of_equal<W: Strings>(
     alloc: Global,
     table: &W,
     pattern: &Pattern,
     text: &[u8],
     rests: &[Rest],
-) -> Start {
-    told(rests, text.len())?;
+) -> Option<Start> {
+    let mut before = None;
     let mut start = None;
-    if let Some(rest) = rests.last() {
-        for range in &rest.ranges {
-            if is_equal_from(alloc, table, pattern, text, range.0) {
-                start = Some(range.0);
+    let mut from = 0;
+    for rest in rests {
+        from = rest.from;
+        match rest.fault {
+            Some(fault) => before = Some((fault, true)),
+            None => {
+                before = before.map(|(fault, _)| (fault, false));
+                for range in &rest.ranges {
+                    if is_equal_from(alloc, table, pattern, text, range.0) {
+                        start = Some(range.0);
+                    }
+                }
             }
         }
     }
-    Ok(start)
+    match (before, start) {
+        (Some((fault, true)), _) => Some(Err(fault)),
+        (Some((fault, false)), None) => {
+            let (_, rest) = text.split_at(from.min(text.len()));
+            let keys = keys_in(alloc, table, pattern, rest)?;
+            Some(if keys > pattern.len() {
+                Ok(None)
+            } else {
+                Err(fault)
+            })
+        }
+        _ => Some(Ok(start)),
+    }
 }
 
 /// Goes back from offsets of a text, each so many bytes from the one before.
@@ -249,14 +284,6 @@ fn compare<W: Strings>(
     }
 }
 
-/// A fault stands so far before the end of a text that the rest may have more keys than the pattern, so that it is not met.
-fn is_far_back(wanted: &Start, end: usize) -> bool {
-    match wanted {
-        Err(fault) => (fault.offset as usize).saturating_add(1_024) < end,
-        Ok(_) => false,
-    }
-}
-
 /// What is told of the match that ends with a text, and with beginnings of it, each so many bytes longer than the one before.
 fn compare_ends<W: Strings>(
     rt: &impl Abort,
@@ -272,10 +299,8 @@ fn compare_ends<W: Strings>(
         if wait == 0 || end == text.len() {
             let (front, _) = text.split_at(end.min(text.len()));
             if let Ok(searched) = rests(alloc, table, pattern, front) {
-                let got = backward.ends(front);
-                let wanted = start_of_equal(alloc, table, pattern, front, &searched);
-                if !(got == Ok(None) && is_far_back(&wanted, end)) {
-                    same_at(rt, &got, &wanted, end);
+                if let Some(wanted) = start_of_equal(alloc, table, pattern, front, &searched) {
+                    same_at(rt, &backward.ends(front), &wanted, end);
                 }
             }
             wait = stride;

@@ -73,7 +73,7 @@ type End<'a> = (&'a str, Strength, Variable, &'a [u8], Start);
 
 const KEPT: Variable = Variable::NonIgnorable;
 
-const ENDS: [End; 16] = [
+const ENDS: [End; 20] = [
     ("aa", Strength::Three, KEPT, b"aaa", Ok(Some(1))),
     ("ab", Strength::Three, KEPT, b"aba", Ok(None)),
     ("a", Strength::Three, KEPT, b"", Ok(None)),
@@ -107,12 +107,30 @@ const ENDS: [End; 16] = [
     ("a", Strength::Three, KEPT, b"a\xffba", Ok(Some(3))),
     // behind the fault is a match, and the text goes on behind it
     ("a", Strength::Three, KEPT, b"a\xffab", Ok(None)),
+    // behind the fault stand more keys than the pattern has, as many, and none that is read by itself
+    ("a", Strength::Three, KEPT, b"a\xffbb", Ok(None)),
+    ("ab", Strength::Three, KEPT, b"a\xffbb", Err(FIRST_FAULT)),
+    ("a", Strength::Three, KEPT, b"a\xffhh", Err(FIRST_FAULT)),
+    // the first fault stands in front of the last one
+    (
+        "ab",
+        Strength::Three,
+        KEPT,
+        b"\xffbb\xe4\xb8b",
+        Err(LATER_FAULT),
+    ),
 ];
 
 /// An ill-formed sequence behind the first letter.
 const FIRST_FAULT: TextFault = TextFault {
     kind: TextFault::ILL_FORMED,
     offset: 1,
+};
+
+/// One behind two letters and another fault.
+const LATER_FAULT: TextFault = TextFault {
+    kind: TextFault::ILL_FORMED,
+    offset: 3,
 };
 
 fn compare<W: Strings>(rt: &impl Abort, alloc: Global, table: &W) {
@@ -162,6 +180,34 @@ fn ends(rt: HostRuntime) {
             row,
         );
         row = row.saturating_add(1);
+    }
+}
+
+/// Behind a bad byte letters, as many as the pattern has and more: what is told depends on no more than that.
+#[test]
+fn letters_behind_a_fault(rt: HostRuntime) {
+    let alloc = rt.alloc();
+    let table = read(&rt, alloc);
+    let pattern = compile(
+        &rt,
+        alloc,
+        &table,
+        "a",
+        Strength::Three,
+        Variable::NonIgnorable,
+    );
+    let mut backward = begin(&rt, alloc, &table, &pattern);
+    for (count, wanted) in [
+        (1, Err(ill_formed(0))),
+        (2, Ok(None)),
+        (900, Ok(None)),
+        (5_000, Ok(None)),
+    ] {
+        let mut text = Vec::new(alloc);
+        let made = text.push(0xff).is_ok() && text.resize(count.saturating_add(1), b'b').is_ok();
+        if made {
+            same_at(&rt, &backward.ends(&text), &wanted, count);
+        }
     }
 }
 

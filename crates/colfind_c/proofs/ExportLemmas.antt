@@ -26,7 +26,8 @@ use Rattle.collation_matches.specs.declared.select.Select.{Select}
 use Rattle.collation_matches.specs.declared.select.Select.TheVariants.{All}
 use Rattle.collation_matches.specs.GoodPrefix.{fault as fault_in, most_bytes}
 use Rattle.collation_matches.specs.Sought.{IsCompiledFrom, answer_to, seeking}
-use Rattle.collation_backward.specs.Backward.{is_fault_before, last_up_to, IsToldBefore, IsNothingBehind, IsStartTold}
+use Rattle.collation_backward.specs.Backward.{is_fault_before, last_up_to, IsToldBefore, IsNothingBehind}
+use Rattle.collation_backward.specs.Ending.{ends_answer}
 use Rattle.collation_matches.specs.Offsets.{answer_from}
 use Rattle.collation_search.specs.Indexing.{IsFirstOf}
 use Rattle.collation_search.specs.Resuming.{IsRefused}
@@ -265,11 +266,9 @@ last_seen q t text at result e good told behind = subst (λ s. IsLastBefore s te
 pub end_seen : (q : Query) (t : Table) (text : List ℕ) (result : Result (Option ℕ) TextFault) → t ≡ arc_value q.table
     → ((p : List ℕ) → IsCompiledFrom (seeking (weights.table t) q.pattern All) p → fault_in text ≡ None
     → (result ≡ Err no_memory) ⊎ (result ≡ Ok (ends (weights.table t) q.pattern.strength q.pattern.variable p text)))
-    → ((p : List ℕ) → IsCompiledFrom (seeking (weights.table t) q.pattern All) p → (result ≡ Err no_memory) ⊎ IsStartTold (seeking (weights.table t) q.pattern All) p text result)
-    → ((p : List ℕ) → IsCompiledFrom (seeking (weights.table t) q.pattern All) p → length text ≤ most_bytes
-    → (result ≡ Err no_memory) ⊎ IfErr result (IsNothingBehind (seeking (weights.table t) q.pattern All) p text (length text)))
+    → ((p : List ℕ) → IsCompiledFrom (seeking (weights.table t) q.pattern All) p → length text ≤ most_bytes → (result ≡ Err no_memory) ⊎ (result ≡ ends_answer (weights.table t) q.pattern p text))
     → IsEndedBy (sought_with q All) text result
-end_seen q t text result e good told behind = subst (λ s. IsEndedBy s text result) (seen_with q q t All refl e) (record { good = good; told = told; behind = behind })
+end_seen q t text result e good answer = subst (λ s. IsEndedBy s text result) (seen_with q q t All refl e) (record { good = good; answer = answer })
 
 -- a safe offset that was found under the table of a handle, and one that was asked of no table
 pub next_told : (value : Option Owned) (owned : Owned) (seen : TableMap) (bytes : List ℕ) (from : ℕ) (found : Option ℕ) → value ≡ Some owned → seen ≡ table_under owned

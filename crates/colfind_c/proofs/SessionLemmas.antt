@@ -89,7 +89,7 @@ module _ (old new : Session) (eq : new.query ≡ old.query) (es : new.select ≡
   pub same_sought : sought_of new ≡ sought_of old
   same_sought = ap (λ x. sought_with (arc_value x) new.select) eq ∙ ap (λ x. sought_with (arc_value old.query) x) es
 
-  pub still_fed : new.parked ≡ old.parked → (new.queue.lost ≡ old.queue.lost) × (waiting new.queue ≡ waiting old.queue)
+  still_fed : new.parked ≡ old.parked → (new.queue.lost ≡ old.queue.lost) × (waiting new.queue ≡ waiting old.queue)
       → (u : List ℕ) (given : List (ℕ × ℕ)) → HasFed old u given → HasFed new u given
   still_fed ep kept u given h = record {
     parked = h.parked;
@@ -98,14 +98,17 @@ module _ (old new : Session) (eq : new.query ≡ old.query) (es : new.select ≡
     stands = subst (λ z. HasParked z h.parked u (given ++ waiting new.queue)) (sym same_sought) (subst (λ xs. HasParked (sought_of old) h.parked u (given ++ xs)) (sym kept.1) h.stands);
   }
 
+  pub still_kept : new.parked ≡ old.parked → (new.queue.lost ≡ old.queue.lost) × (waiting new.queue ≡ waiting old.queue) → KeepsFed old new
+  still_kept ep kept = record { fed = still_fed ep kept; met = λ f m. (m.0, ep ∙ m.1, m.2) }
+
   pub finish_refused : new.parked ≡ old.parked → (new.queue.lost ≡ old.queue.lost) × (waiting new.queue ≡ waiting old.queue) → FinishesSession old NoMemory new
-  finish_refused ep kept = record { finished = still_fed ep kept; again = λ f m. (tt, kept.1); same = same_sought }
+  finish_refused ep kept = record { finished = still_kept ep kept; again = λ f m. (tt, kept.1); same = same_sought }
 
   pub stop_refused : new.parked ≡ old.parked → (new.queue.lost ≡ old.queue.lost) × (waiting new.queue ≡ waiting old.queue) → StopsSession old NoMemory new
-  stop_refused ep kept = record { stopped = still_fed ep kept; same = same_sought }
+  stop_refused ep kept = record { stopped = still_kept ep kept; again = λ f m. kept.1; same = same_sought }
 
   pub part_refused : (part : List ℕ) (before : ℕ) → new.parked ≡ old.parked → (new.queue.lost ≡ old.queue.lost) × (waiting new.queue ≡ waiting old.queue) → FeedsPart old part before (Partly before) new
-  part_refused part before ep kept = record { fed = (refl, still_fed ep kept); again = λ f m. (refl, (m.0, ep ∙ m.1, m.2), kept.1); met = tt; same = same_sought }
+  part_refused part before ep kept = record { fed = (refl, still_kept ep kept); again = λ f m. (refl, (m.0, ep ∙ m.1, m.2), kept.1); met = tt; same = same_sought }
 
   -- ranges were taken from the front of its queue
   pub taken : (room count : ℕ) (out : List Range) → new.parked ≡ old.parked → new.queue.lost ≡ old.queue.lost → count ≡ min room (length (waiting old.queue))
@@ -120,6 +123,7 @@ module _ (old new : Session) (eq : new.query ≡ old.query) (es : new.select ≡
       stands = subst (λ z. HasParked z h.parked u ((given ++ pairs (take count out)) ++ waiting new.queue)) (sym same_sought)
           (subst (λ xs. HasParked (sought_of old) h.parked u xs) (ap (λ xs. given ++ xs) oldest ∙ sym (append_assoc given (pairs (take count out)) (waiting new.queue))) h.stands);
     };
+    met = λ f m. (m.0, ep ∙ m.1, m.2);
     begins = λ b. let stands = subst (λ z. HasParked z b.parked [] []) (sym same_sought) b.stands in (
       record { parked = b.parked; held = ep ∙ b.held; kept = lost ∙ b.kept; stands = stands },
       λ none. (record { parked = b.parked; held = ep ∙ b.held; kept = lost ∙ b.kept; stands = subst (λ xs. HasParked (sought_of new) b.parked [] xs) (sym none) stands }, none),
@@ -271,8 +275,9 @@ module _ (s : Session) (p : Parked) (q : Query) (t : Table) (is : s.parked ≡ S
 
       pub session_stopped : (new : Session)
           → ((text u : List ℕ) (handed : List (ℕ × ℕ)) → IsCompiledFrom seen text → HasParked seen p u handed → handed ++ found ≡ settled_in seen text (whole u))
+          → ((f : TextFault) → parked_fault p ≡ Some f → found ≡ [])
           → new.query ≡ s.query → new.select ≡ s.select → new.parked ≡ None → new.queue ≡ queue2 → StopsSession s Good new
-      session_stopped new done eq es ep e2 = record {
+      session_stopped new done none eq es ep e2 = record {
         stopped = (
           ep,
           λ text u given compiled h.
@@ -280,6 +285,7 @@ module _ (s : Session) (p : Parked) (q : Query) (t : Table) (is : s.parked ≡ S
               (subst (λ xs. xs ≡ settled_in seen text (whole u)) (waits_after given ∙ ap (λ x. given ++ waiting x) (sym e2))
               (done text u (given ++ waiting s.queue) (subst (λ z. IsCompiledFrom z text) (sym seen_is) compiled) (parked_has u given h))),
         );
+        again = λ f met. ap waiting e2 ∙ waits_same (none f (fault_at f met));
         same = same_sought s new eq es;
       }
 
@@ -331,33 +337,36 @@ module _ (s : Session) (p : Parked) (q : Query) (t : Table) (is : s.parked ≡ S
     )
 
   -- a search that was saved has parked what it had
-  pub session_saved : (p2 : Parked) (new : Session)
-      → ((u : List ℕ) (handed : List (ℕ × ℕ)) → HasParked seen p u handed → HasParked seen p2 u handed)
+  session_saved : (p2 : Parked) (new : Session)
+      → ((u : List ℕ) (handed : List (ℕ × ℕ)) → HasParked seen p u handed → HasParked seen p2 u handed) → parked_fault p2 ≡ parked_fault p
       → new.query ≡ s.query → new.select ≡ s.select → new.parked ≡ Some p2 → new.queue ≡ s.queue → KeepsFed s new
-  session_saved p2 new kept eq es ep e2 u given h = record {
-    parked = p2;
-    held = ep;
-    kept = ap (λ x. x.lost) e2 ∙ h.kept;
-    stands = subst (λ z. HasParked z p2 u (given ++ waiting new.queue)) (seen_is ∙ sym (same_sought s new eq es))
-        (subst (λ x. HasParked seen p2 u (given ++ waiting x)) (sym e2) (kept u (given ++ waiting s.queue) (parked_has u given h)));
+  session_saved p2 new kept reported eq es ep e2 = record {
+    fed = λ u given h. record {
+      parked = p2;
+      held = ep;
+      kept = ap (λ x. x.lost) e2 ∙ h.kept;
+      stands = subst (λ z. HasParked z p2 u (given ++ waiting new.queue)) (seen_is ∙ sym (same_sought s new eq es))
+          (subst (λ x. HasParked seen p2 u (given ++ waiting x)) (sym e2) (kept u (given ++ waiting s.queue) (parked_has u given h)));
+    };
+    met = λ f met. (p2, ep, reported ∙ fault_at f met);
   }
 
   pub session_words : (words : List ℕ) → words ≡ parked_words seen p → (parked : Parked) → s.parked ≡ Some parked → words ≡ parked_words (sought_of s) parked
   session_words words e parked held = e ∙ ap (λ z. parked_words z p) seen_is ∙ ap (λ x. parked_words (sought_of s) x) (same_value p parked (sym is ∙ held))
 
   pub session_saves : (words : List ℕ) (p2 : Parked) (new : Session) → words ≡ parked_words seen p → HasRecords (parked_words seen p) (most_records seen)
-      → ((u : List ℕ) (handed : List (ℕ × ℕ)) → HasParked seen p u handed → HasParked seen p2 u handed)
+      → ((u : List ℕ) (handed : List (ℕ × ℕ)) → HasParked seen p u handed → HasParked seen p2 u handed) → parked_fault p2 ≡ parked_fault p
       → new.query ≡ s.query → new.select ≡ s.select → new.parked ≡ Some p2 → new.queue ≡ s.queue → SavesSession s Good words new
-  session_saves words p2 new e few kept eq es ep e2 = record {
-    saved = (session_words words e, session_saved p2 new kept eq es ep e2);
+  session_saves words p2 new e few kept reported eq es ep e2 = record {
+    saved = (session_words words e, session_saved p2 new kept reported eq es ep e2);
     few = subst (λ z. HasRecords words (most_records z)) seen_is (subst (λ xs. HasRecords xs (most_records seen)) (sym e) few);
     same = same_sought s new eq es;
   }
 
   pub save_refused : (words : List ℕ) (p2 : Parked) (new : Session)
-      → ((u : List ℕ) (handed : List (ℕ × ℕ)) → HasParked seen p u handed → HasParked seen p2 u handed)
+      → ((u : List ℕ) (handed : List (ℕ × ℕ)) → HasParked seen p u handed → HasParked seen p2 u handed) → parked_fault p2 ≡ parked_fault p
       → new.query ≡ s.query → new.select ≡ s.select → new.parked ≡ Some p2 → new.queue ≡ s.queue → SavesSession s NoMemory words new
-  save_refused words p2 new kept eq es ep e2 = record { saved = session_saved p2 new kept eq es ep e2; few = tt; same = same_sought s new eq es }
+  save_refused words p2 new kept reported eq es ep e2 = record { saved = session_saved p2 new kept reported eq es ep e2; few = tt; same = same_sought s new eq es }
 
 -- ---- the parts of a piece
 
@@ -395,7 +404,7 @@ module _ (old here : Session) (piece : List ℕ) (at : ℕ) (begun : HasBegun ol
     same = fed.same ∙ begun.same;
   }
   part_failed part rest e (Partly n) new fed bad = record {
-    fed = λ u given h. subst (λ k. HasFed new (u ++ take k piece) given) (sym fed.fed.0) (fed.fed.1 (u ++ take at piece) given (begun.fed u given h));
+    fed = λ u given h. subst (λ k. HasFed new (u ++ take k piece) given) (sym fed.fed.0) (fed.fed.1.fed (u ++ take at piece) given (begun.fed u given h));
     again = λ g m. let b = begun.again g m in let a = fed.again g b.1 in (a.0 ∙ b.0, a.1, a.2 ∙ b.2);
     met = tt;
     same = fed.same ∙ begun.same;

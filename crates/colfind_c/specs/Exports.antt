@@ -22,7 +22,8 @@ use Rattle.collation_matches.specs.Sought.{Sought, IsCompiledFrom, answer_to}
 use Rattle.collation_matches.specs.Offsets.{answer_from}
 use Rattle.collation_anchored.specs.Anchored.{ends}
 use Rattle.collation_anchored.specs.Answers.{equal_answer, begins_answer, no_memory}
-use Rattle.collation_backward.specs.Backward.{is_fault_before, last_up_to, IsToldBefore, IsNothingBehind, IsStartTold}
+use Rattle.collation_backward.specs.Backward.{is_fault_before, last_up_to, IsToldBefore, IsNothingBehind}
+use Rattle.collation_backward.specs.Ending.{ends_answer}
 use Rattle.collation_safe.specs.Safe.{IsSafeOffset}
 use Rattle.collation_safe.specs.Found.{IsFoundFrom, IsFoundUpTo}
 use Rattle.collation_search.specs.Indexing.{IsFirstOf}
@@ -274,16 +275,13 @@ AnswersLastBefore q text at range (Text f) = (range ≡ None) × IsLastBefore (s
 AnswersLastBefore q text at range NoMemory = range ≡ None
 AnswersLastBefore q text at range _ = ⊥
 
--- What is told is where the shortest match begins that ends where the text ends (`ends` of `collation_backward`), unless memory was refused.
---   good: it is that of a text without a fault
---   told, behind: with faults it is made of what going back from the end meets first; that there is none may also be said by a rest of the
---   text that has more keys than the pattern
+-- What is told is where the shortest match begins that ends where the text ends, unless memory was refused: of a text without a fault, and of
+-- any other what stands behind its last fault says, or that fault (`ends_answer` of `collation_backward`).
 pub record IsEndedBy (s : Sought) (text : List ℕ) (result : Result (Option ℕ) TextFault) : Type 0 where
   pub good : (p : List ℕ) → IsCompiledFrom s p → fault text ≡ None
       → (result ≡ Err no_memory) ⊎ (result ≡ Ok (ends s.table s.pattern.strength s.pattern.variable p text))
-  pub told : (p : List ℕ) → IsCompiledFrom s p → (result ≡ Err no_memory) ⊎ IsStartTold s p text result
-  pub behind : (p : List ℕ) → IsCompiledFrom s p → length text ≤ most_bytes
-      → (result ≡ Err no_memory) ⊎ IfErr result (IsNothingBehind s p text (length text))
+  pub answer : (p : List ℕ) → IsCompiledFrom s p → length text ≤ most_bytes
+      → (result ≡ Err no_memory) ⊎ (result ≡ ends_answer s.table s.pattern p text)
 
 -- the range from there to an offset
 abbrev pub up_from : ℕ → Option ℕ → Option (ℕ × ℕ)

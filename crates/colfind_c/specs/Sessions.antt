@@ -9,8 +9,10 @@ use Rattle.collation_matches.specs.GoodPrefix.{whole}
 use Rattle.collation_search.specs.declared.parking.Parked.{Parked}
 use Rattle.collation_search.specs.declared.search.Search.{Search}
 use Rattle.collation_search.specs.Parking.{HasParked, parked_fault, parked_words}
-use Rattle.collation_search.specs.Resuming.{AreSaved}
+use Rattle.collation_search.specs.Resuming.{AreSaved, AreSavedAfter}
 use Rattle.collation_search.specs.Saving.{HasRecords, most_records}
+use Rattle.collation_search.specs.State.{sizes_of}
+use Rattle.collation_states.specs.StateTests.{state_fault}
 use Rattle.collation_matches.specs.Answer.{Answer}
 use Rattle.collation_parts.specs.Parts.{part_answer}
 use Rattle.colfind_c.specs.declared.owned.Session.{Session}
@@ -31,9 +33,18 @@ pub record HasFed (s : Session) (bytes : List ℕ) (given : List (ℕ × ℕ)) :
   pub kept : s.queue.lost ≡ false
   pub stands : HasParked (sought_of s) parked bytes (given ++ waiting s.queue)
 
--- all that was fed and given stays
-abbrev pub KeepsFed : Session → Session → Type 0
-KeepsFed old new = (u : List ℕ) (given : List (ℕ × ℕ)) → HasFed old u given → HasFed new u given
+-- the search has reported this fault
+abbrev pub HasMet : Session → TextFault → Type 0
+HasMet s f = (parked : Parked) × (s.parked ≡ Some parked) × (parked_fault parked ≡ Some f)
+
+-- a fault that was met stays met
+abbrev pub KeepsMet : Session → Session → Type 0
+KeepsMet old new = (f : TextFault) → HasMet old f → HasMet new f
+
+-- all that was fed and given stays, or the fault that was met
+pub record KeepsFed (old new : Session) : Type 0 where
+  pub fed : (u : List ℕ) (given : List (ℕ × ℕ)) → HasFed old u given → HasFed new u given
+  pub met : KeepsMet old new
 
 -- the ranges that were given and those that wait are this answer to the bytes, whatever the search was fed before `piece`
 abbrev pub IsAnswered : Session → List ℕ → Option TextFault → Session → Type 0
@@ -84,10 +95,6 @@ IsSaved old _ words new = ⊥
 
 -- ---- after a fault
 
--- the search has reported this fault
-abbrev pub HasMet : Session → TextFault → Type 0
-HasMet s f = (parked : Parked) × (s.parked ≡ Some parked) × (parked_fault parked ≡ Some f)
-
 -- the fault is reported once more, unless memory was refused, and then nothing was taken
 abbrev pub TellsAgain : TextFault → Outcome → Type 0
 TellsAgain f (Text g) = g ≡ f
@@ -117,8 +124,10 @@ pub record FinishesSession (old : Session) (outcome : Outcome) (new : Session) :
   pub again : (f : TextFault) → HasMet old f → TellsAgain f outcome × (waiting new.queue ≡ waiting old.queue)
   pub same : sought_of new ≡ sought_of old
 
+-- After a fault that was met nothing more is handed out.
 pub record StopsSession (old : Session) (outcome : Outcome) (new : Session) : Type 0 where
   pub stopped : IsStopped old outcome new
+  pub again : (f : TextFault) → HasMet old f → waiting new.queue ≡ waiting old.queue
   pub same : sought_of new ≡ sought_of old
 
 -- The words are few, whatever the search was fed.
@@ -147,9 +156,12 @@ pub record FeedsPart (old : Session) (part : List ℕ) (before : ℕ) (outcome :
   pub met : MeetsFault outcome new
   pub same : sought_of new ≡ sought_of old
 
--- The search goes on from the words: it has done what any search had done of which they were saved.
+-- The search goes on from the words, which pass the tests of a state: it has done what any search had done of which they were saved, and
+-- has met the fault that any search had reported of which they were.
 pub record ResumesSession (s : Sought) (words : List ℕ) (new : Session) : Type 0 where
+  pub accepted : state_fault (sizes_of s) words ≡ None
   pub stands : (saved : Search Table weights) (u : List ℕ) (handed : List (ℕ × ℕ)) → AreSaved saved s words u handed → HasFed new u handed
+  pub reported : (saved : Search Table weights) (f : TextFault) → AreSavedAfter saved s words f → HasMet new f
   pub same : sought_of new ≡ s
 
 -- The search is at the beginning of a text; ranges that wait are not of this text.
@@ -163,12 +175,13 @@ pub record IsAtBeginning (s : Session) : Type 0 where
 abbrev pub HasBegunAgain : Session → Type 0
 HasBegunAgain new = HasFed new [] [] × (waiting new.queue ≡ [])
 
--- The oldest ranges that wait were taken, as many as there is room for. They are given from now on, and the others wait. A search at the
--- beginning of a text stays there, and has begun again once no range waits.
+-- The oldest ranges that wait were taken, as many as there is room for. They are given from now on, and the others wait. A fault that was
+-- met stays met. A search at the beginning of a text stays there, and has begun again once no range waits.
 pub record TakesRanges (old : Session) (room : ℕ) (count : ℕ) (out : List Range) (new : Session) : Type 0 where
   pub most : count ≡ min room (length (waiting old.queue))
   pub oldest : waiting old.queue ≡ pairs (take count out) ++ waiting new.queue
   pub given : (u : List ℕ) (given : List (ℕ × ℕ)) → HasFed old u given → HasFed new u (given ++ pairs (take count out))
+  pub met : KeepsMet old new
   pub begins : IsAtBeginning old → IsAtBeginning new × (waiting new.queue ≡ [] → HasBegunAgain new)
   pub same : sought_of new ≡ sought_of old
 

@@ -1,12 +1,13 @@
 //! Calls of a search that is put away before and after them.
 
 ghost use Rattle.std.specs.Prelude.{◌≡◌, ℕ, ◌+◌, ◌≤◌, List, [], ◌∷◌, ◌++◌, length, None, Some, OnOk};
+ghost use Rattle.collation_matches.specs.declared.faults.TextFault.{TextFault};
 ghost use Rattle.collation_matches.specs.Sought.{IsCompiledFrom, answer_to, seeking, settled_in};
 ghost use Rattle.collation_matches.specs.GoodPrefix.{whole};
 ghost use Rattle.collation_walk.specs.declared.matching.TheConstants.{MOST_FOUND};
 ghost use Rattle.collation_search.specs.Feeding.{Feeds};
 ghost use Rattle.collation_search.specs.Saving.{HasRecords, most_records};
-ghost use Rattle.collation_search.specs.Parking.{IsFor, HasParked, parked_select, parked_words};
+ghost use Rattle.collation_search.specs.Parking.{IsFor, HasParked, parked_fault, parked_select, parked_words};
 ghost use Rattle.collation_search.specs.Search.{HasSearched, sought};
 ghost use Rattle.colfind_c.specs.Parkings.{FeedsParked, FinishesParked, IsFirstFrom, FeedsInParts, SearchesPart};
 ghost use Rattle.colfind_c.specs.Queues.{Gets};
@@ -236,6 +237,7 @@ pub(crate) fn stop_parked<W: Weights>(
         → handed ++ found
         ≡ settled_in
         (seeking (W.table table.now) pattern.now (parked_select parked)) text (whole u))
+        × ((f : TextFault) → parked_fault parked ≡ Some f → found ≡ [])
         × Gets queue.old found queue.new × (length found ≤ MOST_FOUND) }
 {
     let search = parked.unpark(table, pattern);
@@ -264,6 +266,7 @@ pub(crate) fn save_parked<W: Weights>(
     ensures kept { (u : List ℕ) (handed : List (ℕ × ℕ))
         → HasParked (seeking (W.table table.now) pattern.now (parked_select parked)) parked u handed
         → HasParked (seeking (W.table table.now) pattern.now (parked_select parked)) result.1 u handed }
+    ensures reported { parked_fault result.1 ≡ parked_fault parked }
 {
     let search = parked.unpark(table, pattern);
     let saved = search.save(words);

@@ -347,14 +347,14 @@ impl Session {
             (λ f. IsRefused (sizes_of (sought_with (arc_value query) select)) words.now f.kind) }
     {
         let looked_for = &*query;
-        let search = Search::resume_with(
+        let resumed = Search::resume_with(
             alloc,
             &*looked_for.table,
             &looked_for.pattern,
             select,
             words,
         )?;
-        let parked = search.park();
+        let parked = resumed.park();
         Ok(Session {
             query,
             select,

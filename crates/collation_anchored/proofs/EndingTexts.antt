@@ -1,6 +1,6 @@
 -- A match that ends where a text ends: the greatest start is where the last minimal match begins, or there is none.
 use Rattle.std.specs.Str.{IsUtf8}
-use Rattle.std.proofs.Common.{◌≡◌, ◌∙◌, ◌⊎◌, ℕ, zero, suc, ◌+◌, ◌-◌, ◌<◌, ◌≤◌, ◌==◌, Bool, true, false, List, [], ◌∷◌, ◌++◌, length, take, drop, filter, bytes_eq, Option, Some, None, refl, sym, ap, subst, arith, inl, inr, length-append, length-drop, ltb-true, nat_lt}
+use Rattle.std.proofs.Common.{◌≡◌, ◌∙◌, ℕ, zero, suc, ◌+◌, ◌-◌, ◌<◌, ◌≤◌, ◌==◌, Bool, true, false, List, [], ◌∷◌, ◌++◌, length, take, drop, filter, bytes_eq, Option, Some, None, refl, sym, ap, subst, arith, inl, inr, length-append, length-drop, ltb-true, nat_lt}
 use Rattle.std.specs.List.{list_any}
 use Rattle.std.specs.Option.{option_map}
 use Rattle.std.proofs.lemmas.Bool.{cases_Bool, cond-true, cond-false, eqb-true, eqb-false, eq-eqb, ltb-false}
@@ -16,7 +16,7 @@ use Rattle.collation_elements.specs.Context.{BoundariesAreStarts, PartsHaveTheKe
 use Rattle.collation_pattern.specs.KeyLaw.{KeyLaw}
 use Rattle.collation_pattern.specs.Levels.{text_keys}
 use Rattle.collation_pattern.specs.SortKey.{text_sort_key}
-use Rattle.collation_matches.specs.Matches.{ranges_among, part, minimal, is_within, matches}
+use Rattle.collation_matches.specs.Matches.{ranges_among, part, minimal, is_within}
 use Rattle.collation_matches.proofs.BridgeLists.{In, Rising, in_filter, filter_in, rising_filter, any_in, in_any}
 use Rattle.collation_matches.proofs.BridgeRanges.{Below, Before, in_ranges, ranges_in, rising_ranges, rising_minimal, is_within-true, in_minimal, minimal_in}
 use Rattle.collation_matches.proofs.BridgeClusters.{bound, prefix, in_bounds, bound_in, bound_rises, prefix_grows}

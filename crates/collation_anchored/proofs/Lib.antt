@@ -1,6 +1,8 @@
 pub mod BegunKeys
 pub mod CompletedKeys
 pub mod KeysSoFar
+pub mod CountedKeys
+pub mod CountedTexts
 pub mod EqualTexts
 pub mod BeginningTexts
 pub mod ComparedTexts

@@ -37,6 +37,10 @@ begins_answer table pattern p bytes =
     let end = begins table pattern.strength pattern.variable p good in
     unless_fault (begun_by table pattern bytes && not (ends_before (length good) end)) (fault bytes) end
 
+-- a text has more keys than the pattern
+abbrev pub has_more_keys : TableMap → Compiled → List ℕ → Bool
+has_more_keys table pattern text = nat_lt (length pattern.keys) (length (text_keys table pattern.strength pattern.variable text))
+
 -- memory was refused
 abbrev pub no_memory : TextFault
 no_memory = record { kind = 36; offset = 0 }

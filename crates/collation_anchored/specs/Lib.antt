@@ -3,5 +3,6 @@ pub mod Answers
 pub mod Laws
 pub mod Comparing
 pub mod Compared
+pub mod Counted
 pub mod Parking
 pub mod WorkedRows

@@ -13,7 +13,7 @@ use collation_pattern::laws::key_law;
 use collation_table::Weights;
 use nfd_points::laws::laws_of_faults;
 use std::alloc::{AllocError, Global};
-use utf8_cut::whole_characters_are_the_longest_text;
+use utf8_cut::{front, whole_characters_are_the_longest_text};
 
 /// Whether a whole text is a match of a pattern, as [`Anchored::equals`] says. The pattern was compiled with this table.
 ///
@@ -77,9 +77,10 @@ pub struct Anchored<'a, W: Weights> {
 }
 
 impl<'a, W: Weights> Anchored<'a, W> {
-    ghost use Rattle.std.specs.Prelude.{◌≡◌, ℕ, List, IfOk};
+    ghost use Rattle.std.specs.Prelude.{◌≡◌, ℕ, List, IfOk, None};
     ghost use Rattle.collation_pattern.specs.Compiled.{IsCompiledWith};
-    ghost use Rattle.collation_anchored.specs.Answers.{equal_answer, begins_answer};
+    ghost use Rattle.collation_matches.specs.GoodPrefix.{fault as fault_of};
+    ghost use Rattle.collation_anchored.specs.Answers.{equal_answer, begins_answer, has_more_keys};
 
     /// Lends a table and a pattern that was compiled with it.
     ///
@@ -174,6 +175,25 @@ impl<'a, W: Weights> Anchored<'a, W> {
                     }
                 }
             }
+        }
+    }
+
+    /// Whether a text has more keys than the pattern. It counts them up to one more than these, and no memory is taken. Of a text with a
+    /// fault nothing is said.
+    pub fn has_more_keys(&mut self, text: &[u8]) -> bool
+        ensures more { fault_of text.now ≡ None
+            → result ≡ has_more_keys (W.table self.old.table.now) self.old.pattern.now text.now }
+        ensures table { self.new.table.now ≡ self.old.table.now }
+        ensures pattern { self.new.pattern.now ≡ self.old.pattern.now }
+    {
+        laws_of_faults();
+        whole_characters_are_the_longest_text();
+        match front(text) {
+            (text, None) => {
+                self.comparison
+                    .has_more_keys(self.table, self.pattern, text, text.len())
+            }
+            (_, Some(_)) => false,
         }
     }
 }

@@ -48,8 +48,8 @@ pub(crate) struct Comparison {
     /// The number of code points of the table's longest key.
     pub(crate) longest_key: usize,
     /// What the reorderer gave last, and the items of the last unit. Their room is used again and again.
-    given: ArrayVec<Point, MOST_GIVEN>,
-    items: Box<ArrayVec<Item, MOST_ITEMS>>,
+    pub(crate) given: ArrayVec<Point, MOST_GIVEN>,
+    pub(crate) items: Box<ArrayVec<Item, MOST_ITEMS>>,
     ghost capacity: { window.capacity ≡ longest_key + MOST_GIVEN },
     ghost undecided: { length window.points ≤ longest_key },
     ghost closed: { is_closed window.points ≡ true },
@@ -70,6 +70,7 @@ impl Comparison {
     ghost use Rattle.collation_anchored.specs.Answers.{begun_by};
     ghost use Rattle.collation_anchored.specs.Compared.{completed};
     ghost use Rattle.collation_anchored.specs.Comparing.{HasCompared, HasComparedBytes};
+    ghost use Rattle.collation_anchored.specs.Counted.{HasCounted};
     ghost use Rattle.collation_matches.specs.declared.faults.TextFault.{TextFault};
     ghost use Rattle.collation_anchored.specs.declared.comparison.Asked.TheVariants.{Whole};
     ghost use Rattle.collation_anchored.specs.declared.comparison.Reading.TheVariants.{Decided, Ended};
@@ -97,8 +98,9 @@ impl Comparison {
     }
 
     /// Goes to the beginning of a text.
-    fn begin(&mut self, pattern: &Pattern)
+    pub(crate) fn begin(&mut self, pattern: &Pattern)
         ensures taken { (table : TableMap) → HasComparedBytes table pattern.now self.new [] }
+        ensures counted { (table : TableMap) → HasCounted table pattern.now self.new 0 [] }
         ensures longest { self.new.longest_key ≡ self.old.longest_key }
     {
         self.cut = Cut::new();

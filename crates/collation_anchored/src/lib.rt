@@ -6,6 +6,7 @@
 
 mod anchored;
 mod comparison;
+mod counting;
 mod cutting;
 mod keys;
 pub mod laws;

@@ -27,7 +27,7 @@ Said = Result (Option (ℕ × ℕ)) TextFault
 abbrev nothing : Said
 nothing = Ok None
 
-moved-nothing : (by : ℕ) (said : Said) → first_moved by said ≡ nothing → said ≡ nothing
+pub moved-nothing : (by : ℕ) (said : Said) → first_moved by said ≡ nothing → said ≡ nothing
 moved-nothing by (Ok None) h = refl
 moved-nothing by (Ok (Some range)) h = cc
 moved-nothing by (Err f) h = cc

@@ -1,8 +1,10 @@
 -- Where the rest of a text from a safe offset on has no range and more keys than the pattern, no match ends where the text ends.
-use Rattle.std.proofs.Common.{◌≡◌, ◌∙◌, ◌⊎◌, ℕ, ◌<◌, ◌≤◌, ◌-◌, nat_le, true, false, Contains, List, [], ◌∷◌, length, drop, filter, Option, Some, None, Result, Ok, Err, refl, sym, ap, subst, arith, inl, inr, length-append}
-use Rattle.std.specs.Str.{IsUtf8}
-use Rattle.std.proofs.lemmas.Bool.{cases_Bool, cond-false, leb-false, le-leb}
-use Rattle.std.proofs.lemmas.List.{take_all, length-drop}
+use Rattle.std.proofs.Common.{◌≡◌, ◌∙◌, ◌⊎◌, ℕ, ◌+◌, ◌<◌, ◌≤◌, ◌-◌, nat_le, bytes_eq, ◌++◌, true, false, Contains, List, [], ◌∷◌, length, drop, filter, Option, Some, None, Result, Ok, Err, refl, sym, ap, subst, arith, inl, inr, length-append}
+use Rattle.std.specs.Str.{IsUtf8, IsCharBoundary}
+use Rattle.std.proofs.lemmas.Str.{IsUtf8-take, IsCharBoundary-start, IsCharBoundary-from_rest}
+use Rattle.std.proofs.lemmas.Bool.{cases_Bool, cases_lt, cond-false, leb-false, le-leb, lt-ltb, ltb-true, false≢true}
+use Rattle.std.proofs.lemmas.Slice.Eq.{bytes_eq-Decides}
+use Rattle.std.proofs.lemmas.List.{take_all, drop-drop, length-drop, append-nil, nil_from_length}
 use Rattle.std.proofs.lemmas.Option.{none-some}
 use Rattle.collation_table.specs.Table.{TableMap}
 use Rattle.collation_elements.specs.declared.keys.Key.{Key}
@@ -14,28 +16,32 @@ use Rattle.collation_elements.specs.Parts.{part_between}
 use Rattle.collation_pattern.specs.Compiled.{Compiled}
 use Rattle.collation_pattern.specs.KeyLaw.{KeyLaw}
 use Rattle.collation_pattern.specs.Levels.{text_keys}
+use Rattle.collation_pattern.specs.SortKey.{text_sort_key}
 use Rattle.collation_matches.specs.declared.faults.TextFault.{TextFault}
 use Rattle.collation_matches.specs.declared.select.Select.TheVariants.{All}
 use Rattle.collation_matches.specs.Answer.{Answer}
 use Rattle.collation_matches.specs.GoodPrefix.{fault, prefix_at}
-use Rattle.collation_matches.specs.Matches.{matches}
+use Rattle.collation_matches.specs.Matches.{matches, part, ranges_among, ranges_with_sort_key}
 use Rattle.collation_matches.specs.Offsets.{fault_moved, answer_from}
 use Rattle.collation_matches.specs.OffsetLaws.{AnswersFromBoundaries, RangesMayBeGoneOnFrom, ranges_from}
-use Rattle.collation_matches.specs.Sought.{Sought, IsCompiledFrom, answer_to, seeking}
-use Rattle.collation_matches.proofs.BridgeLists.{In, filter_in}
+use Rattle.collation_matches.specs.Sought.{Sought, IsCompiledFrom, answer_to}
+use Rattle.collation_matches.proofs.BridgeLists.{In, filter_in, in_filter}
+use Rattle.collation_matches.proofs.BridgeRanges.{in_minimal}
 use Rattle.collation_matches.proofs.LagLaw.{in-contains}
 use Rattle.collation_matches.proofs.LagTexts.{TextLaws, no_fault_text}
 use Rattle.collation_matches.proofs.OffsetBounds.{matches-within}
 use Rattle.collation_safe.specs.Laws.{AnswersFromSafeOffsets, SafeOffsetsAreBoundaries}
 use Rattle.collation_safe.specs.Safe.{IsSafeOffset}
+use Rattle.collation_safe.proofs.Strings.{offset-safe}
 use Rattle.collation_anchored.specs.Anchored.{ends, is_equal, last_of}
 use Rattle.collation_anchored.specs.Laws.{EndsByLastRange, start_of_equal}
-use Rattle.collation_anchored.proofs.EqualAnswers.{keys_of_equal}
-use Rattle.collation_anchored.proofs.EqualTexts.{end_is_boundary}
-use Rattle.collation_backward.specs.Backward.{last_up_to, is_fault_before, said_up_to, start_told, HasMoreKeys, IsToldBefore, IsToldFrom, IsToldOfEnd}
+use Rattle.collation_anchored.proofs.CountedTexts.{few-bytes}
+use Rattle.collation_anchored.proofs.EqualAnswers.{keys_of_equal, equal_of_keys}
+use Rattle.collation_anchored.proofs.EqualTexts.{start_is_boundary, end_is_boundary}
+use Rattle.collation_backward.specs.Backward.{last_up_to, is_fault_before, said_up_to, start_told, HasMoreKeys, IsPlaceBefore, IsToldBefore, IsToldOfEnd}
 use Rattle.collation_backward.proofs.Behind.{ok-none}
 use Rattle.collation_backward.proofs.Ranges.{up_to, last-in, last-some}
-use Rattle.collation_backward.proofs.StartTold.{few-bytes, ranges-are, start-good, unmoved}
+use Rattle.collation_backward.proofs.StartTold.{ranges-are, start-good, unmoved}
 use Rattle.collation_backward.proofs.Told.{answer_of, fault-is, no-fault-said, rest-answers, told-good}
 
 -- ---- ranges that begin before a place
@@ -59,7 +65,7 @@ part-to-end : (text : List ℕ) (from : ℕ) → part_between text from (length 
 part-to-end text from = take_all (length text - from) (drop from text) (omega (arith, length-drop from text))
 
 -- the rest from a boundary on has no more keys than that from a boundary before it
-fewer-keys : KeysAreJoined → (table : TableMap) (strength : Strength) (variable : Variable) (text : List ℕ) (from place : ℕ) → IsUtf8 text →
+pub fewer-keys : KeysAreJoined → (table : TableMap) (strength : Strength) (variable : Variable) (text : List ℕ) (from place : ℕ) → IsUtf8 text →
     Contains (boundaries table text) from → Contains (boundaries table text) place → from ≤ place → place ≤ length text →
     length (text_keys table strength variable (drop place text)) ≤ length (text_keys table strength variable (drop from text))
 fewer-keys join table strength variable text from place utf8 starts stands le within =
@@ -72,6 +78,16 @@ fewer-keys join table strength variable text from place utf8 starts stands le wi
     let rest = ap (λ (t : List ℕ). length (keys t)) (part-to-end text place) in
     omega (arith, joined, whole, rest)
 
+-- where the rest from a boundary on has more keys than the pattern, so has the whole text
+pub more-than-keys : KeysAreJoined → (s : Sought) (text : List ℕ) (place : ℕ) → IsUtf8 text → Contains (boundaries s.table text) place → place ≤ length text → HasMoreKeys s (drop place text) →
+    HasMoreKeys s text
+more-than-keys join s text place utf8 stands within more =
+    let keys : List ℕ → List Key = λ t. text_keys s.table s.pattern.strength s.pattern.variable t in
+    let starts = in-contains (boundaries s.table text) 0 (start_is_boundary s.table text) in
+    let fewer = fewer-keys join s.table s.pattern.strength s.pattern.variable text 0 place utf8 starts stands (omega arith) within in
+    let less = ltb-true (length s.pattern.keys) (length (keys (drop place text))) more in
+    lt-ltb (length s.pattern.keys) (length (keys text)) (omega (arith, fewer, less))
+
 -- ---- what is told of the end
 
 -- there is none, by the keys of the rest from a safe offset on
@@ -83,18 +99,22 @@ pub record IsCounted (s : Sought) (p text : List ℕ) (said : Result (Option (�
   pub says : said ≡ said_up_to (length text) (answer_from s p text place)
   pub more : HasMoreKeys s (drop place text)
 
+placed : (s : Sought) (text : List ℕ) (place : ℕ) → (place ≡ 0) ⊎ (IsSafeOffset s.table text place × (place < length text)) → IsPlaceBefore s.table text (length text) place
+placed s text place (inl zero) = inl zero
+placed s text place (inr at) = inr (offset-safe s.table text place at.0, at.1)
+
 of-end : (s : Sought) (p text : List ℕ) (said : Result (Option (ℕ × ℕ)) TextFault) → IsToldOfEnd s p text said → IsToldBefore s p text (length text) said ⊎ IsCounted s p text said
 of-end s p text (Ok None) t =
-    let whole : t.place ≡ 0 → IsToldBefore s p text (length text) (Ok None) = λ zero. record { place = t.place; begins = t.begins; says = t.says; none = λ e. zero } in
+    let whole : t.place ≡ 0 → IsToldBefore s p text (length text) (Ok None) = λ zero. record { place = t.place; begins = placed s text t.place t.begins; says = t.says; none = λ e. zero } in
     elim (t.none refl) [
       | inl zero ↦ inl (whole zero)
       | inr more ↦ elim t.begins [
         | inl zero ↦ inl (whole zero)
-        | inr at ↦ inr (record { place = t.place; safe = at.0; before = at.1; none = refl; says = t.says; more = more })
+        | inr at ↦ inr (record { place = t.place; safe = offset-safe s.table text t.place at.0; before = at.1; none = refl; says = t.says; more = more })
       ]
     ]
-of-end s p text (Ok (Some range)) t = inl (record { place = t.place; begins = t.begins; says = t.says; none = λ e. absurd cc })
-of-end s p text (Err f) t = inl (record { place = t.place; begins = t.begins; says = t.says; none = λ e. absurd cc })
+of-end s p text (Ok (Some range)) t = inl (record { place = t.place; begins = placed s text t.place t.begins; says = t.says; none = λ e. absurd cc })
+of-end s p text (Err f) t = inl (record { place = t.place; begins = placed s text t.place t.begins; says = t.says; none = λ e. absurd cc })
 
 module _ (laws : TextLaws) (rests : AnswersFromBoundaries) (ends_of_ranges : RangesMayBeGoneOnFrom) (answers : AnswersFromSafeOffsets) (safe : SafeOffsetsAreBoundaries)
     (join : KeysAreJoined) (s : Sought) (law : KeyLaw s.table) (last_law : EndsByLastRange s.table) (all : s.select ≡ All)
@@ -125,6 +145,61 @@ module _ (laws : TextLaws) (rests : AnswersFromBoundaries) (ends_of_ranges : Ran
           is_text = no_fault_text laws rest (unmoved r.0 (fault rest) moved);
         }
 
+    -- and ends at one
+    ends-there : (r : ℕ × ℕ) → In whole.ranges r → Contains (boundaries s.table text) r.1 × IsUtf8 (drop r.1 text)
+    ends-there r there =
+        let rest = drop r.1 text in
+        let may = (ends_of_ranges s p text r (few-bytes text good) (in-contains whole.ranges r there)).1 in
+        let same = ap (λ (a : Answer). a.fault) (rests s p text r.1 all may) in
+        let moved : fault_moved r.1 (fault rest) ≡ None = ap (fault_moved r.1) (sym (fault-is s p rest)) ∙ same ∙ fault-is s p text ∙ good in (
+          subst (λ (t : List ℕ). Contains (boundaries s.table t) r.1) (ap (prefix_at text) good) may.boundary,
+          no_fault_text laws rest (unmoved r.1 (fault rest) moved),
+        )
+
+    -- a range from which on the text is not equal stands in a text of more keys
+    pub range-more : (r : ℕ × ℕ) → In whole.ranges r → is_equal s.table s.pattern.strength s.pattern.variable p (drop r.0 text) ≡ false → HasMoreKeys s text
+    range-more r there other =
+        let keys : List ℕ → List Key = λ t. text_keys s.table s.pattern.strength s.pattern.variable t in
+        let key : List ℕ → List ℕ = λ t. text_sort_key s.table s.pattern.strength s.pattern.variable t in
+        let bs = boundaries s.table text in
+        let len = length text in
+        let among = subst (λ (rs : List (ℕ × ℕ)). In rs r) (ranges-are s p text all good) there in
+        let within = matches-within s.table s.pattern.strength s.pattern.variable p text r among in
+        let order = within.0 in
+        let upto = within.1 in
+        let kept = in_filter (λ (range : ℕ × ℕ). bytes_eq (key (part text range)) (key p)) (ranges_among bs) r
+        (in_minimal (ranges_with_sort_key s.table s.pattern.strength s.pattern.variable (key p) text) r among).0 in
+        let b = begins-there r there in
+        let e = ends-there r there in
+        let rest = drop r.0 text in
+        let by = r.1 - r.0 in
+        let inner = part text r in
+        let sum : r.0 + by ≡ r.1 = omega (arith, order) in
+        let later : drop by rest ≡ drop r.1 text = drop-drop by r.0 text ∙ ap (λ n. drop n text) sum in
+        let inside = length-drop r.0 text in
+        let zero : by + 0 ≡ by = omega arith in
+        let cut = subst (IsCharBoundary rest) zero (IsCharBoundary-from_rest rest by 0 (omega (arith, order, upto, inside)) (IsCharBoundary-start (drop by rest) (subst IsUtf8 (sym later) e.1))) in
+        let utf8_inner : IsUtf8 inner = IsUtf8-take rest by b.is_text cut in
+        let same = (bytes_eq-Decides (key inner) (key p)).0 kept.1 in
+        let equal : keys inner ≡ keys p = (law s.pattern.strength s.pattern.variable inner p utf8_inner compiled.text).0 same in
+        let last = in-contains bs len (end_is_boundary s.table text) in
+        let parts : keys rest ≡ keys p ++ keys (drop r.1 text) =
+        ap keys (sym (part-to-end text r.0))
+        ∙ join s.table s.pattern.strength s.pattern.variable text r.0 r.1 len utf8 b.boundary e.0 last order upto
+        ∙ ap (λ (ks : List Key). ks ++ keys (part_between text r.1 len)) equal
+        ∙ ap (λ (t : List ℕ). keys p ++ keys t) (part-to-end text r.1) in
+        let starts = in-contains bs 0 (start_is_boundary s.table text) in
+        let fewer = fewer-keys join s.table s.pattern.strength s.pattern.variable text 0 r.0 utf8 starts b.boundary (omega arith) (omega (arith, order, upto)) in
+        let count = ap (λ (ks : List Key). length ks) parts ∙ length-append (keys p) (keys (drop r.1 text)) in
+        let known = ap (λ (ks : List Key). length ks) compiled.keys in
+        elim (cases_lt 0 (length (keys (drop r.1 text)))) [
+          | inl some ↦ lt-ltb (length s.pattern.keys) (length (keys text)) (omega (arith, some, count, known, fewer))
+          | inr none ↦
+              let nil : keys (drop r.1 text) ≡ [] = nil_from_length (keys (drop r.1 text)) (omega (arith, none)) in
+              let whole_keys : keys p ≡ keys rest = sym (parts ∙ ap (λ (ks : List Key). keys p ++ ks) nil ∙ append-nil (keys p)) in
+              absurd (false≢true (sym other ∙ equal_of_keys s.table law s.pattern.strength s.pattern.variable p rest compiled.text b.is_text whole_keys))
+        ]
+
     module _ (t : IsCounted s p text said) where
       nothing : last_up_to (length text) (ranges_from t.place whole.ranges) ≡ None
       nothing =
@@ -138,7 +213,7 @@ module _ (laws : TextLaws) (rests : AnswersFromBoundaries) (ends_of_ranges : Ran
           let b = begins-there r there in
           let less = begins-before (length text) t.place whole.ranges r nothing there le in
           let before = t.before in
-          let more = t.more in
+          let more = ltb-true (length s.pattern.keys) (length (text_keys s.table s.pattern.strength s.pattern.variable (drop t.place text))) t.more in
           let stands = safe s.table text t.place utf8 t.safe in
           let fewer = fewer-keys join s.table s.pattern.strength s.pattern.variable text r.0 t.place utf8 b.boundary stands (omega (arith, less)) (omega (arith, before)) in
           let same = ap (λ (ks : List Key). length ks)
@@ -174,21 +249,3 @@ module _ (laws : TextLaws) (rests : AnswersFromBoundaries) (ends_of_ranges : Ran
           (λ few clean. told-good answers laws.text laws.within s p text (length text) said all few clean before) is
       | inr counted ↦ is ∙ ap (start_told s p text) counted.none ∙ sym (ap ok_of (none-ends counted))
     ]
-
--- ---- what is told going back
-
--- by the rest from a place on, which is the beginning, or has more keys than the pattern where nothing is told
-pub told-of-end : (s : Sought) (p text : List ℕ) (first : ℕ) (said : Result (Option (ℕ × ℕ)) TextFault) → IsToldFrom s p text first (length text) said →
-    (said ≡ Ok None → (first ≡ 0) ⊎ HasMoreKeys s (drop first text)) → IsToldOfEnd s p text said
-told-of-end s p text first said t none = record {
-  place = t.place;
-  begins = t.begins;
-  says = t.says;
-  none = λ e. subst (λ n. (n ≡ 0) ⊎ HasMoreKeys s (drop n text)) (sym (t.none e)) (none e);
-}
-
-pub more-keys-of : (s : Sought) (table : TableMap) (pattern : Compiled) (rest left : List ℕ) → s.table ≡ table → s.pattern ≡ pattern → rest ≡ left →
-    HasMoreKeys (seeking table pattern All) rest → HasMoreKeys s left
-more-keys-of s table pattern rest left same_table same_pattern same_rest more =
-    subst (λ (t : TableMap). HasMoreKeys (seeking t s.pattern All) left) (sym same_table)
-    (subst (λ (q : Compiled). HasMoreKeys (seeking table q All) left) (sym same_pattern) (subst (HasMoreKeys (seeking table pattern All)) same_rest more))

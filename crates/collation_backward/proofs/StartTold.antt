@@ -1,6 +1,5 @@
 -- What is told of the match that ends where a text ends, where a range is told up to there.
 use Rattle.std.proofs.Common.{◌≡◌, ◌∙◌, ℕ, ◌+◌, ◌<◌, ◌≤◌, Bool, true, false, ◌&&◌, nat_lt, nat_le, List, [], ◌∷◌, length, drop, map, filter, Option, Some, None, Result, Ok, Err, if◌then◌else◌, refl, sym, ap, ap₂, subst, arith, inl, inr}
-use Rattle.std.specs.Prelude.{IfErr}
 use Rattle.std.specs.Str.{chars, IsUtf8}
 use Rattle.std.proofs.lemmas.Bool.{cases_Bool, and_parts, cond-true, ltb-true, ltb-false, le-leb}
 use Rattle.std.proofs.lemmas.List.{take_all, drop_all, length-take, length-drop, drop-drop}
@@ -16,7 +15,7 @@ use Rattle.collation_matches.specs.declared.select.Select.TheVariants.{All}
 use Rattle.collation_matches.specs.Answer.{Answer, answer, answer_at}
 use Rattle.collation_matches.specs.GoodPrefix.{most_bytes, seen, whole, byte_fault, first_of, fault, good_prefix, prefix_at}
 use Rattle.collation_matches.specs.Matches.{matches}
-use Rattle.collation_matches.specs.Offsets.{range_moved, fault_moved}
+use Rattle.collation_matches.specs.Offsets.{range_moved, fault_moved, answer_from}
 use Rattle.collation_matches.specs.OffsetLaws.{AnswersFromBoundaries, RangesMayBeGoneOnFrom}
 use Rattle.collation_matches.specs.Selecting.{selected}
 use Rattle.collation_matches.specs.Sought.{Sought, IsCompiledFrom, answer_to}
@@ -29,8 +28,9 @@ use Rattle.collation_matches.proofs.TextCheckLemmas.{fault_by_code, seen_short}
 use Rattle.collation_anchored.specs.Anchored.{ends, is_equal, last_of}
 use Rattle.collation_anchored.specs.Answers.{begun_by, equal_answer, unless_fault}
 use Rattle.collation_anchored.specs.Laws.{EndsByLastRange}
+use Rattle.collation_anchored.proofs.CountedTexts.{few-bytes}
 use Rattle.collation_anchored.proofs.EqualAnswers.{whole_answers}
-use Rattle.collation_backward.specs.Backward.{last_up_to, is_fault_before, start_told, IsToldOfEnd}
+use Rattle.collation_backward.specs.Backward.{last_up_to, is_fault_before, said_up_to, start_told, IsToldOfEnd}
 use Rattle.collation_backward.proofs.Ranges.{up-to-in}
 use Rattle.collation_backward.proofs.Told.{fault-is}
 
@@ -88,40 +88,6 @@ module _ (laws : TextLaws) (bytes : List ℕ) where
             omega (arith, offset, before, short)
       ]
 
--- ---- a text without a fault has few bytes
-
-not-first : (a b : Bool) → (a && b) ≡ false → b ≡ true → a ≡ false
-not-first true b h e = absurd cc
-not-first false b h e = refl
-
-few-by-bytes : (bytes : List ℕ) → byte_fault bytes ≡ None → length bytes ≤ most_bytes
-few-by-bytes bytes h =
-    let here = seen bytes in
-    let n = characters_end here in
-    elim (cases_Bool (nat_lt most_bytes (length bytes) && is_utf8_prefix here)) [
-      | inl e ↦
-          let too_long : TextFault = record { kind = TOO_LONG; offset = n } in
-          let some : Some too_long ≡ None = rw e at h in
-          absurd (none-some too_long (sym some))
-      | inr e ↦ elim (cases_Bool (nat_lt n (length here))) [
-        | inl f ↦
-            let ill_formed : TextFault = record { kind = ILL_FORMED; offset = n } in
-            let some : Some ill_formed ≡ None = rw (e, f) at h in
-            absurd (none-some ill_formed (sym some))
-        | inr f ↦
-            let prefix : is_utf8_prefix here ≡ true = ap is_incomplete_or_empty (drop_all n here (ltb-false n (length here) f)) in
-            ltb-false most_bytes (length bytes) (not-first (nat_lt most_bytes (length bytes)) (is_utf8_prefix here) e prefix)
-      ]
-    ]
-
-pub few-bytes : (bytes : List ℕ) → fault bytes ≡ None → length bytes ≤ most_bytes
-few-bytes bytes h = elim (either (point_fault (chars (whole (seen bytes))))) [
-  | inl none ↦ few-by-bytes bytes (sym (ap (λ o. first_of o (byte_fault bytes)) none) ∙ h)
-  | inr some ↦
-      let at : TextFault = record { kind = some.0.1; offset = some.0.0 } in
-      absurd (none-some at (sym h ∙ fault_by_code bytes some.0 some.1))
-]
-
 -- ---- the rest from the range on
 
 -- the range is said by the rest from a place on, which has no fault
@@ -132,33 +98,42 @@ record IsOfRest (s : Sought) (p text : List ℕ) (range : ℕ × ℕ) : Type 0 w
   there : In (answer_to s p (drop place text)).ranges inner
   start : place + inner.0 ≡ range.0
 
-said-range : (to : ℕ) (at : Option TextFault) (found : Option (ℕ × ℕ)) (range : ℕ × ℕ) (b : Bool) → is_fault_before to at ≡ b → Ok (Some range) ≡ unless_fault b at found →
-    (is_fault_before to at ≡ false) × (found ≡ Some range)
-said-range to None found range true e h = cc
-said-range to (Some f) found range true e h = cc
-said-range to at found range false e h = (e, cc)
+pub said-found : (to : ℕ) (at : Option TextFault) (last found : Option (ℕ × ℕ)) (b : Bool) → is_fault_before to at ≡ b → Ok found ≡ unless_fault b at last → (is_fault_before to at ≡ false) × (last ≡ found)
+said-found to None last found true e h = cc
+said-found to (Some f) last found true e h = cc
+said-found to at last found false e h = (e, cc)
+
+-- a rest that says no fault has none, and this is its last range
+pub rest-said : TextLaws → (s : Sought) (p text : List ℕ) (place : ℕ) (found : Option (ℕ × ℕ)) → place ≤ length text → Ok found ≡ said_up_to (length text) (answer_from s p text place) →
+    (fault (drop place text) ≡ None) × (last_up_to (length text) (answer_from s p text place).ranges ≡ found)
+rest-said laws s p text place found within says =
+    let len = length text in
+    let rest = drop place text in
+    let a = answer_to s p rest in
+    let left = length-drop place text in
+    let parts = said-found len (fault_moved place a.fault) (last_up_to len (map (range_moved place) a.ranges)) found (is_fault_before len (fault_moved place a.fault)) refl says in
+    let clean : is_fault_before len (fault_moved place (fault rest)) ≡ false = ap (λ o. is_fault_before len (fault_moved place o)) (sym (fault-is s p rest)) ∙ parts.0 in (
+      elim (either (fault rest)) [
+        | inl none ↦ none
+        | inr some ↦
+            let f = some.0 in
+            let behind : is_fault_before len (fault_moved place (Some f)) ≡ false = ap (λ o. is_fault_before len (fault_moved place o)) (sym some.1) ∙ clean in
+            let late = ltb-false (place + f.offset) len behind in
+            let before = before-end laws rest f some.1 in
+            absurd (omega (arith, late, before, left, within))
+      ],
+      parts.1,
+    )
 
 is-of-rest : TextLaws → (s : Sought) (p text : List ℕ) (range : ℕ × ℕ) → IsToldOfEnd s p text (Ok (Some range)) → IsOfRest s p text range
 is-of-rest laws s p text range t =
     let place = t.place in
     let len = length text in
-    let rest = drop place text in
-    let a = answer_to s p rest in
+    let a = answer_to s p (drop place text) in
     let within : place ≤ len = elim t.begins [ inl zero ↦ omega (arith, zero) | inr safe ↦ let less = safe.1 in omega (arith, less) ] in
-    let left = length-drop place text in
-    let parts = said-range len (fault_moved place a.fault) (last_up_to len (map (range_moved place) a.ranges)) range (is_fault_before len (fault_moved place a.fault)) refl t.says in
-    let clean : is_fault_before len (fault_moved place (fault rest)) ≡ false = ap (λ o. is_fault_before len (fault_moved place o)) (sym (fault-is s p rest)) ∙ parts.0 in
-    let none : fault rest ≡ None = elim (either (fault rest)) [
-      | inl none ↦ none
-      | inr some ↦
-          let f = some.0 in
-          let behind : is_fault_before len (fault_moved place (Some f)) ≡ false = ap (λ o. is_fault_before len (fault_moved place o)) (sym some.1) ∙ clean in
-          let late = ltb-false (place + f.offset) len behind in
-          let before = before-end laws rest f some.1 in
-          absurd (omega (arith, late, before, left, within))
-    ] in
-    let one = in_map (range_moved place) a.ranges range (up-to-in len (map (range_moved place) a.ranges) range parts.1).0 in
-    record { place = place; inner = one.0; good = none; there = one.1; start = ap (λ (r : ℕ × ℕ). r.0) one.2 }
+    let said = rest-said laws s p text place (Some range) within t.says in
+    let one = in_map (range_moved place) a.ranges range (up-to-in len (map (range_moved place) a.ranges) range said.1).0 in
+    record { place = place; inner = one.0; good = said.0; there = one.1; start = ap (λ (r : ℕ × ℕ). r.0) one.2 }
 
 pub unmoved : (by : ℕ) (at : Option TextFault) → fault_moved by at ≡ None → at ≡ None
 unmoved by None h = refl
@@ -238,8 +213,3 @@ pub start-good : TextLaws → (s : Sought) → EndsByLastRange s.table → (p te
     told ≡ Ok (ends s.table s.pattern.strength s.pattern.variable p text)
 start-good laws s law p text utf8 all none said told good is =
     is ∙ ap (start_told s p text) (good (few-bytes text none) (ap (is_fault_before (length text)) none)) ∙ start-of-match laws s law p text utf8 all none
-
--- where a range is said no fault is told
-pub told-no-fault : (s : Sought) (p text : List ℕ) (said : Result (Option (ℕ × ℕ)) TextFault) (found : Option (ℕ × ℕ)) (told : Result (Option ℕ) TextFault) (P : TextFault → Type 0) →
-    said ≡ Ok found → told ≡ start_told s p text said → IfErr told P
-told-no-fault s p text said found told P is e = subst (λ (r : Result (Option ℕ) TextFault). IfErr r P) (sym (e ∙ ap (start_told s p text) is)) tt

@@ -7,7 +7,7 @@ use Rattle.unicode_normalization.specs.StreamSafe.{has_short_runs}
 use Rattle.unicode_normalization.proofs.Computing.{unicode_normalization}
 use Rattle.nfd_points.specs.Points.{byte_len, points_at, points_from, is_reorderable, is_in_order, sink, ordered}
 use Rattle.nfd_points.specs.PointFaults.{run_after, fault_of_code_point, fault_from}
-use Rattle.collation_backward.specs.WorkedRows.{AccentBehind, ContractionBehind, EndsOfLetters, FaultBehind, HyphensBehind, LastRanges, RangesBeforeAFault, RangesBackward}
+use Rattle.collation_backward.specs.WorkedRows.{AccentBehind, ContractionBehind, EndsOfLetters, FaultBehind, FaultInFront, HyphensBehind, LastRanges, RangesBeforeAFault, RangesBackward}
 
 -- `unfolding rows` lets `refl` compute a row
 unfoldable rows : Unit {0}
@@ -45,3 +45,7 @@ contraction_behind_lem = record { first = refl; second = refl; both = refl }
 pub fault_behind_lem : FaultBehind
 unfolding rows
 fault_behind_lem = record { bad = refl; cut = refl }
+
+pub fault_in_front_lem : FaultInFront
+unfolding rows
+fault_in_front_lem = record { match = refl; more = refl; few = refl; last = refl; unsafe_letter = refl }

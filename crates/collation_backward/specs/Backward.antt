@@ -1,14 +1,14 @@
 -- What a text says up to an offset, and what is told going back from there: the range or the fault that is met first.
-use Rattle.std.specs.Prelude.{◌≡◌, ◌⊎◌, ℕ, ◌<◌, Bool, false, nat_le, nat_lt, List, length, drop, filter, Option, None, Some, Result, Ok, Err}
+use Rattle.std.specs.Prelude.{◌≡◌, ◌⊎◌, ℕ, ◌<◌, Bool, true, false, nat_le, nat_lt, List, length, drop, filter, Option, None, Some, Result, Ok, Err}
 use Rattle.collation_table.specs.Table.{TableMap}
-use Rattle.collation_pattern.specs.Levels.{text_keys}
 use Rattle.collation_matches.specs.declared.faults.TextFault.{TextFault}
 use Rattle.collation_matches.specs.Answer.{Answer}
-use Rattle.collation_matches.specs.Offsets.{answer_from}
+use Rattle.collation_matches.specs.GoodPrefix.{fault}
+use Rattle.collation_matches.specs.Offsets.{answer_from, fault_moved}
 use Rattle.collation_matches.specs.Sought.{Sought}
 use Rattle.collation_safe.specs.Safe.{IsSafeOffset}
 use Rattle.collation_anchored.specs.Anchored.{last_of}
-use Rattle.collation_anchored.specs.Answers.{unless_fault}
+use Rattle.collation_anchored.specs.Answers.{has_more_keys, unless_fault}
 use Rattle.collation_anchored.specs.Laws.{start_of_equal}
 
 -- of some ranges, the last one that ends at an offset or before it
@@ -54,18 +54,18 @@ start_told s p text (Err fault) = Err fault
 
 -- a text has more keys than the pattern
 abbrev pub HasMoreKeys : Sought → List ℕ → Type 0
-HasMoreKeys s text = length s.pattern.keys < length (text_keys s.table s.pattern.strength s.pattern.variable text)
+HasMoreKeys s text = has_more_keys s.table s.pattern text ≡ true
 
 -- What is told going back from the end is what the rest of the text from such a place on says up to the end; that there is none is said from
 -- the beginning, or by a rest that has more keys than the pattern.
 pub record IsToldOfEnd (s : Sought) (p text : List ℕ) (result : Result (Option (ℕ × ℕ)) TextFault) : Type 0 where
   pub place : ℕ
-  pub begins : IsPlaceBefore s.table text (length text) place
+  pub begins : (place ≡ 0) ⊎ (IsSafeOffset s.table text place × (place < length text))
   pub says : result ≡ said_up_to (length text) (answer_from s p text place)
   pub none : result ≡ Ok None → (place ≡ 0) ⊎ HasMoreKeys s (drop place text)
 
--- the start is told so of it
-pub record IsStartTold (s : Sought) (p text : List ℕ) (result : Result (Option ℕ) TextFault) : Type 0 where
-  pub said : Result (Option (ℕ × ℕ)) TextFault
-  pub told : IsToldOfEnd s p text said
-  pub is : result ≡ start_told s p text said
+-- the fault is that of the rest from a place on
+pub record IsFaultFrom (table : TableMap) (text : List ℕ) (at : TextFault) : Type 0 where
+  pub place : ℕ
+  pub begins : (place ≡ 0) ⊎ IsSafeOffset table text place
+  pub is : fault_moved place (fault (drop place text)) ≡ Some at

@@ -13,6 +13,7 @@ use Rattle.collation_matches.specs.WorkedRows.{acute, worked_sought}
 use Rattle.collation_anchored.specs.Anchored.{ends}
 use Rattle.collation_anchored.specs.WorkedRows.{worked_pattern}
 use Rattle.collation_backward.specs.Backward.{said_up_to, start_told}
+use Rattle.collation_backward.specs.Ending.{ends_answer}
 use Rattle.collation_backward.specs.Laws.{found_backward}
 
 -- the answer to a text, of a pattern at strength three, non-ignorable
@@ -65,7 +66,21 @@ pub record ContractionBehind : Type 0 where
   pub second : worked_ends Three NonIgnorable (codes "h") (codes "ach") ≡ (Ok None, None)
   pub both : worked_ends Three NonIgnorable (codes "ch") (codes "ach") ≡ (Ok (Some 1), Some 1)
 
--- `a` in `a` and the byte ff, and in `a` and two bytes of three
+-- ---- the same of bytes at fault
+
+abbrev pub worked_answer_of_end : List ℕ → List ℕ → Result (Option ℕ) TextFault
+worked_answer_of_end pattern text = ends_answer worked_table (worked_pattern Three NonIgnorable pattern) pattern text
+
+-- a fault that ends a text is told: in `a` and the byte ff, and in `a` and two bytes of three
 pub record FaultBehind : Type 0 where
-  pub bad : (worked_ends Three NonIgnorable (codes "a") (codes "a" ++ 0xFF ∷ [])).0 ≡ Err (record { kind = 31; offset = 1 })
-  pub cut : (worked_ends Three NonIgnorable (codes "a") (codes "a" ++ 0xE4 ∷ 0xB8 ∷ [])).0 ≡ Err (record { kind = 31; offset = 1 })
+  pub bad : worked_answer_of_end (codes "a") (codes "a" ++ 0xFF ∷ []) ≡ Err (record { kind = 31; offset = 1 })
+  pub cut : worked_answer_of_end (codes "a") (codes "a" ++ 0xE4 ∷ 0xB8 ∷ []) ≡ Err (record { kind = 31; offset = 1 })
+
+-- a fault in front: what stands behind it decides where it ends with a match, or has more keys than the pattern; of two faults the last one
+-- is told; `h`, which may end a contraction, is no place to read from
+pub record FaultInFront : Type 0 where
+  pub match : worked_answer_of_end (codes "a") (codes "a" ++ 0xFF ∷ codes "ba") ≡ Ok (Some 3)
+  pub more : worked_answer_of_end (codes "a") (0xFF ∷ codes "bb") ≡ Ok None
+  pub few : worked_answer_of_end (codes "ab") (0xFF ∷ codes "bb") ≡ Err (record { kind = 31; offset = 0 })
+  pub last : worked_answer_of_end (codes "ab") (0xFF ∷ codes "b" ++ 0xFF ∷ codes "b") ≡ Err (record { kind = 31; offset = 2 })
+  pub unsafe_letter : worked_answer_of_end (codes "a") (0xFF ∷ codes "hb") ≡ Err (record { kind = 31; offset = 0 })

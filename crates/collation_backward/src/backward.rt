@@ -6,9 +6,9 @@ ghost use Rattle.collation_matches.specs.Sought.{IsCompiledFrom, answer_to, seek
 ghost use Rattle.collation_search.specs.Search.{sought};
 ghost use Rattle.collation_anchored.specs.Anchored.{ends as ends_of};
 ghost use Rattle.collation_anchored.specs.Answers.{no_memory};
-ghost use Rattle.collation_backward.specs.Backward.{is_fault_before, last_up_to, IsNothingBehind, IsStartTold, IsToldBefore};
+ghost use Rattle.collation_backward.specs.Backward.{is_fault_before, last_up_to, IsNothingBehind, IsToldBefore};
+ghost use Rattle.collation_backward.specs.Ending.{ends_answer};
 
-use crate::counting::has_more_keys;
 use crate::places::{place_before, place_behind};
 use crate::reading::said_from;
 use collation_anchored::Anchored;
@@ -20,7 +20,7 @@ use collation_pattern::laws::key_law;
 use collation_safe::{answers_from_safe_offsets, safe_offsets_are_boundaries};
 use collation_search::{Search, TextFault};
 use collation_table::Strings;
-use nfd_points::laws::laws_of_faults;
+use nfd_points::laws::{laws_of_decompositions, laws_of_faults};
 use std::alloc::{AllocError, Global};
 use utf8_cut::whole_characters_are_the_longest_text;
 
@@ -85,17 +85,11 @@ pub fn ends<W: Strings>(
         → (result ≡ Err no_memory)
         ⊎ (result
         ≡ Ok (ends_of (W.table table.now) pattern.now.strength pattern.now.variable p text.now)) }
-    ensures told { (p : List ℕ)
-        → IsCompiledFrom (seeking (W.table table.now) pattern.now All) p
-        → (result ≡ Err no_memory)
-        ⊎ IsStartTold (seeking (W.table table.now) pattern.now All) p text.now result }
-    ensures behind { (p : List ℕ)
+    ensures answer { (p : List ℕ)
         → IsCompiledFrom (seeking (W.table table.now) pattern.now All) p
         → length text.now ≤ most_bytes
         → (result ≡ Err no_memory)
-        ⊎ IfErr result
-        (IsNothingBehind (seeking (W.table table.now) pattern.now All) p text.now
-        (length text.now)) }
+        ⊎ (result ≡ ends_answer (W.table table.now) pattern.now p text.now) }
 {
     let Ok(mut backward) = Backward::new(alloc, table, pattern) else {
         return Err(TextFault {
@@ -109,24 +103,23 @@ pub fn ends<W: Strings>(
 /// Goes back through texts in memory, one text after the other.
 #[derive(Drop)]
 pub struct Backward<'a, W: Strings> {
-    alloc: Global,
     table: &'a W,
-    pattern: &'a Pattern,
     search: Search<'a, W>,
     anchored: Anchored<'a, W>,
     ghost table_same: { (sought search).table ≡ W.table table.now },
-    ghost pattern_same: { (sought search).pattern ≡ pattern.now },
     ghost all: { (sought search).select ≡ All },
     ghost anchored_table: { W.table anchored.table.now ≡ (sought search).table },
     ghost anchored_pattern: { anchored.pattern.now ≡ (sought search).pattern },
 }
 
 impl<'a, W: Strings> Backward<'a, W> {
-    ghost use Rattle.std.specs.Prelude.{◌≡◌, ℕ, ◌≤◌, List, length, drop, false, true, None, Some, Ok, IfOk, IfErr};
+    ghost use Rattle.std.specs.Prelude.{◌≡◌, ℕ, ◌≤◌, ◌<◌, List, length, drop, not, false, true, None, Some, Ok, IfOk, IfErr};
     ghost use Rattle.collation_matches.specs.GoodPrefix.{fault as fault_of, most_bytes};
     ghost use Rattle.collation_matches.specs.Sought.{IsCompiledFrom, answer_to, seeking};
     ghost use Rattle.collation_anchored.specs.Anchored.{ends as ends_of};
-    ghost use Rattle.collation_backward.specs.Backward.{is_fault_before, last_up_to, HasMoreKeys, IsNothingBehind, IsPlaceBefore, IsStartTold, IsToldBefore, IsToldFrom, IsToldOfEnd, start_told};
+    ghost use Rattle.collation_anchored.specs.Answers.{has_more_keys, unless_fault};
+    ghost use Rattle.collation_backward.specs.Backward.{is_fault_before, last_up_to, IsFaultFrom, IsNothingBehind, IsPlaceBefore, IsToldBefore, IsToldFrom, IsToldOfEnd, start_told};
+    ghost use Rattle.collation_backward.specs.Ending.{ends_answer};
     ghost use Rattle.collation_backward.specs.Going.{sought_by};
 
     /// Lends a table and a pattern that was compiled with it.
@@ -139,9 +132,7 @@ impl<'a, W: Strings> Backward<'a, W> {
             (λ made. sought_by made ≡ seeking (W.table table.now) pattern.now All) }
     {
         Ok(Backward {
-            alloc,
             table,
-            pattern,
             search: Search::new(alloc, table, pattern)?,
             anchored: Anchored::new(alloc, table, pattern)?,
         })
@@ -189,23 +180,20 @@ impl<'a, W: Strings> Backward<'a, W> {
     /// the rest of the text has no range and more keys than the pattern, no match ends at the end, and it goes no further back. So it
     /// reads what stands at the end, where safe offsets are found, and goes far back only where what stands there has few keys.
     ///
-    /// Memory is asked for as by [`Search::feed`], and to count the keys of a rest: room for one item for each byte of it. Where that is
-    /// refused it goes on as if there were no more keys than the pattern's. So of a text without a fault the answer is the same.
+    /// Memory is asked for as by [`Search::feed`], and the answer is the same where it is refused.
     ///
     /// # Errors
     ///
-    /// Those of [`Backward::last_before`] from the end of the text: where a fault stands there, and no range behind it. A fault in front of
-    /// a rest that has no range and more keys than the pattern may not be met.
+    /// The last fault of the text, where what stands behind it, from the first safe offset on, does not decide: no match ends there, and it
+    /// has no more keys than the pattern.
     pub fn ends(&mut self, text: &[u8]) -> Result<Option<u64>, TextFault>
         ensures good { (p : List ℕ) → IsCompiledFrom (sought_by self.old) p
             → fault_of text.now ≡ None
             → result
             ≡ Ok (ends_of (sought_by self.old).table (sought_by self.old).pattern.strength (sought_by self.old).pattern.variable p text.now) }
-        ensures told { (p : List ℕ) → IsCompiledFrom (sought_by self.old) p
-            → IsStartTold (sought_by self.old) p text.now result }
-        ensures behind { (p : List ℕ) → IsCompiledFrom (sought_by self.old) p
+        ensures answer { (p : List ℕ) → IsCompiledFrom (sought_by self.old) p
             → length text.now ≤ most_bytes
-            → IfErr result (IsNothingBehind (sought_by self.old) p text.now (length text.now)) }
+            → result ≡ ends_answer (sought_by self.old).table (sought_by self.old).pattern p text.now }
         ensures sought { sought_by self.new ≡ sought_by self.old }
     {
         matches_from_a_boundary();
@@ -214,42 +202,96 @@ impl<'a, W: Strings> Backward<'a, W> {
         parts_join();
         key_law(self.table);
         ends_by_last_range(self.table);
+        laws_of_decompositions();
         laws_of_faults();
         whole_characters_are_the_longest_text();
         match self.said_of_end(text) {
             Ok(Some((start, _))) => self.start_of_equal(text, start),
             Ok(None) => Ok(None),
-            Err(fault) => Err(fault),
+            Err(fault) => self.start_behind(text, fault),
         }
     }
 
-    /// What is said going back from the end of a text, up to the last range, the beginning, or a place from which on the text has more
-    /// keys than the pattern.
+    /// What is said going back from the end of a text, up to the last range, the beginning, a fault, or a place from which on the text has
+    /// more keys than the pattern.
     fn said_of_end(&mut self, text: &[u8]) -> Result<Option<(u64, u64)>, TextFault>
         ensures told { (p : List ℕ) → IsCompiledFrom (sought_by self.old) p
             → IsToldOfEnd (sought_by self.old) p text.now result }
-        ensures behind { (p : List ℕ) → IsCompiledFrom (sought_by self.old) p
-            → length text.now ≤ most_bytes
-            → IfErr result (IsNothingBehind (sought_by self.old) p text.now (length text.now)) }
+        ensures before { IfErr result (λ f. f.offset < length text.now) }
         ensures sought { sought_by self.new ≡ sought_by self.old }
     {
+        laws_of_faults();
+        whole_characters_are_the_longest_text();
         let end = text.len();
         let mut place = place_before(self.table, text, end, FIRST_BLOCK);
-        let mut said = self.said_behind(text, place, end);
+        let mut said = said_from(&mut self.search, text, place, end);
         while place > 0 && is_none(&said) && !self.has_more_keys(text, place) {
             let len = end.saturating_sub(place).saturating_mul(2);
             place = place_before(self.table, text, end, len);
-            said = self.said_behind(text, place, end);
+            said = said_from(&mut self.search, text, place, end);
         }
         said
     }
 
-    /// Whether the rest of a text from a place on has more keys than the pattern. `false` tells nothing.
-    fn has_more_keys(&self, text: &[u8], place: usize) -> bool
-        ensures more { result ≡ true → HasMoreKeys (sought_by self.now) (drop place text.now) }
+    /// The same behind a fault of the rest from a place on: by what stands behind the last fault, if it decides, and else that fault.
+    fn start_behind(&mut self, text: &[u8], first: TextFault) -> Result<Option<u64>, TextFault>
+        requires { first.offset < length text.now }
+        ensures answer { (p : List ℕ) → IsCompiledFrom (sought_by self.old) p
+            → length text.now ≤ most_bytes
+            → IsFaultFrom (sought_by self.old).table text.now first
+            → result ≡ ends_answer (sought_by self.old).table (sought_by self.old).pattern p text.now }
+        ensures sought { sought_by self.new ≡ sought_by self.old }
+    {
+        matches_from_a_boundary();
+        safe_offsets_are_boundaries();
+        answers_from_safe_offsets();
+        parts_join();
+        key_law(self.table);
+        ends_by_last_range(self.table);
+        laws_of_decompositions();
+        laws_of_faults();
+        whole_characters_are_the_longest_text();
+        let end = text.len();
+        let mut fault = first;
+        while let Some(next) = place_behind(self.table, text, fault.offset, end) {
+            match said_from(&mut self.search, text, next, end) {
+                Ok(Some((start, _))) => return self.start_of_equal(text, start),
+                Ok(None) => return self.none_from(text, next, fault),
+                Err(later) => fault = later,
+            }
+        }
+        Err(fault)
+    }
+
+    /// What is told where the rest of a text from a place on has no range: that there is none, if the rest has more keys than the pattern,
+    /// and else the fault in front of it.
+    fn none_from(
+        &mut self,
+        text: &[u8],
+        place: usize,
+        fault: TextFault,
+    ) -> Result<Option<u64>, TextFault>
+        ensures told { fault_of (drop place text.now) ≡ None
+            → result
+            ≡ unless_fault (not (has_more_keys (sought_by self.old).table (sought_by self.old).pattern (drop place text.now))) (Some fault) None }
+        ensures sought { sought_by self.new ≡ sought_by self.old }
+    {
+        if self.has_more_keys(text, place) {
+            Ok(None)
+        } else {
+            Err(fault)
+        }
+    }
+
+    /// Whether the rest of a text from a place on has more keys than the pattern. Of a rest with a fault nothing is said.
+    fn has_more_keys(&mut self, text: &[u8], place: usize) -> bool
+        ensures more { fault_of (drop place text.now) ≡ None
+            → result
+            ≡ has_more_keys (sought_by self.old).table (sought_by self.old).pattern (drop place text.now) }
+        ensures sought { sought_by self.new ≡ sought_by self.old }
     {
         let (_, rest) = text.split_at(place.min(text.len()));
-        has_more_keys(self.alloc, self.table, self.pattern, rest)
+        self.anchored.has_more_keys(rest)
     }
 
     /// Where a range starts, if the text from there on is equal.

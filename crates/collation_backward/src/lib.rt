@@ -7,7 +7,6 @@
 #![tactic(auto)]
 
 mod backward;
-mod counting;
 mod laws;
 mod places;
 mod reading;

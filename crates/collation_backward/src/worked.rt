@@ -1,6 +1,6 @@
 //! Worked rows: what is told going back through small texts, one row a function, proved by computing.
 
-ghost use Rattle.collation_backward.specs.WorkedRows.{AccentBehind, ContractionBehind, EndsOfLetters, FaultBehind, HyphensBehind, LastRanges, RangesBackward, RangesBeforeAFault};
+ghost use Rattle.collation_backward.specs.WorkedRows.{AccentBehind, ContractionBehind, EndsOfLetters, FaultBehind, FaultInFront, HyphensBehind, LastRanges, RangesBackward, RangesBeforeAFault};
 
 /// `aa` in `aaa`, from each offset.
 pub fn last_ranges()
@@ -40,4 +40,9 @@ pub fn contraction_behind()
 /// At a fault that ends a text the fault is told.
 pub fn fault_behind()
     ensures { FaultBehind }
+{}
+
+/// Behind a fault the text is read by itself.
+pub fn fault_in_front()
+    ensures { FaultInFront }
 {}

@@ -14,6 +14,9 @@ pub returns-clause-kept : goal.returns-clause-kept
 returns-clause-kept g c = λ u handed h. subst (λ z. HasParked z c.park.result u handed) c.unpark-search.ensures.sought
     (c.park.ensures.stands u handed (taken_up _ c.args.parked c.unpark-search.result c.unpark-search.ensures.sought c.unpark-search.ensures.stands u handed h))
 
+pub returns-clause-reported : goal.returns-clause-reported
+returns-clause-reported g c = c.park.ensures.reported ∙ c.unpark-search.ensures.reported
+
 pub returns-clause-few : goal.returns-clause-few
 returns-clause-few g c = subst (λ z. HasRecords (parked_words z c.args.parked) (most_records z)) c.unpark-search.ensures.sought
     (subst (λ xs. HasRecords xs (most_records (sought c.unpark-search.result))) c.unpark-search.ensures.words c.save-saved.ensures.few)

@@ -11,7 +11,7 @@ stop_parked-requires c = record { fits = fits_at c.args.self.now c.in-Some.parke
 
 pub returns : goal.returns
 returns c = record {
-  stopped = session_stopped c.args.self.now c.in-Some.parked c.deref-query.result.now c.deref.result.now (search rules) c.deref-query.ensures c.deref.ensures c.reserve.new.self c.stop_parked.new.queue c.stop_parked.ensures.settled.0 c.reserve.ensures.same c.stop_parked.ensures.settled.2
-      (all_kept c.args.self.now c.in-Some.parked c.deref-query.result.now c.deref.result.now (search rules) c.deref-query.ensures c.deref.ensures c.reserve.new.self c.stop_parked.new.queue c.stop_parked.ensures.settled.0 c.reserve.ensures.same c.stop_parked.ensures.settled.2 MOST_FOUND (when_ok c.reserve.result (search rules) c.reserve.ensures.room) c.stop_parked.ensures.settled.3)
-      _ c.stop_parked.ensures.settled.1 refl refl (search rules) refl;
+  stopped = session_stopped c.args.self.now c.in-Some.parked c.deref-query.result.now c.deref.result.now (search rules) c.deref-query.ensures c.deref.ensures c.reserve.new.self c.stop_parked.new.queue c.stop_parked.ensures.settled.0 c.reserve.ensures.same c.stop_parked.ensures.settled.3
+      (all_kept c.args.self.now c.in-Some.parked c.deref-query.result.now c.deref.result.now (search rules) c.deref-query.ensures c.deref.ensures c.reserve.new.self c.stop_parked.new.queue c.stop_parked.ensures.settled.0 c.reserve.ensures.same c.stop_parked.ensures.settled.3 MOST_FOUND (when_ok c.reserve.result (search rules) c.reserve.ensures.room) c.stop_parked.ensures.settled.4)
+      _ c.stop_parked.ensures.settled.1 c.stop_parked.ensures.settled.2 refl refl (search rules) refl;
 }

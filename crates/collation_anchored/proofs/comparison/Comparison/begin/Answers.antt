@@ -1,4 +1,4 @@
-use Rattle.std.proofs.Common.{◌∙◌, [], length, take, rules, sym, ap, arith}
+use Rattle.std.proofs.Common.{◌∙◌, [], length, take, refl, rules, sym, ap, arith}
 use Rattle.std.proofs.lemmas.Str.{chars-nil}
 use Rattle.nfd_points.proofs.ReorderingLemmas.{HasReordered-nil}
 use Rattle.nfd_points.specs.Reordering.{is_closed}
@@ -39,3 +39,18 @@ returns-clause-taken c = λ table.
       };
       open_bytes = search (rules, chars-nil);
     }
+
+pub returns-clause-counted : goal.returns-clause-counted
+returns-clause-counted c = λ table. record {
+  points = [];
+  reordered = HasReordered-nil _ c.finish.ensures.held;
+  counted = record {
+    units = [];
+    items = [];
+    cut = c.clear.ensures.stands table;
+    weighed = c.new-self-2.ensures.stands table;
+    strength = ap (λ w. w.strength) c.new-self-2.ensures.value ∙ c.strength.ensures;
+    variable = ap (λ w. w.variable) c.new-self-2.ensures.value ∙ c.variable.ensures;
+    keys = refl;
+  };
+}
