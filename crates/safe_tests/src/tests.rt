@@ -84,10 +84,7 @@ const FIRST_LETTER_ROWS: [(&str, &[usize]); 6] = [
     ("al\u{b7}la", &[0, 1, 4, 5]),
     ("\u{438}\u{438}\u{439}\u{438}", &[0, 2, 4, 6]),
     // Arabic: alef, a blank, alef with madda, yeh, yeh with a hamza above it
-    (
-        "\u{627} \u{622}\u{64a}\u{626}",
-        &[0, 2, 3, 5, 7],
-    ),
+    ("\u{627} \u{622}\u{64a}\u{626}", &[0, 2, 3, 5, 7]),
     // Thai and Lao: a vowel, its consonant, a blank, a consonant that no vowel stands before
     ("\u{e44}\u{e01} \u{e01}", &[0, 6]),
     ("\u{ec3}\u{e81} \u{e81}", &[0, 6]),
@@ -196,7 +193,12 @@ fn no_contractions(rt: HostRuntime) {
 #[test]
 fn characters(rt: HostRuntime) {
     let table = read(&rt, rt.alloc(), TABLE);
-    compare_characters(&rt, &table, "abce \u{e9}\u{ac01}\u{4e00}\u{e32}\u{e40}", true);
+    compare_characters(
+        &rt,
+        &table,
+        "abce \u{e9}\u{ac01}\u{4e00}\u{e32}\u{e40}",
+        true,
+    );
     compare_characters(&rt, &table, "h\u{301}\u{ad}\u{e01}", false);
 }
 
