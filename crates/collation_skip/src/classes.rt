@@ -61,11 +61,12 @@ pub(crate) fn classes_for<W: Weights>(
     }
     let there = if is_alone { ascii_of(text) } else { ALL };
     find_letters(table, pattern, letters, &there);
-    let mut best = if is_alone {
-        classes_at(pattern, letters, 0)
+    let place = if is_alone {
+        0
     } else {
-        best_classes(pattern, letters, text)
+        best_place(pattern, letters, text)
     };
+    let mut best = classes_at(pattern, letters, place, &ALL);
     best.clean = clean_bytes(pattern, letters, best.place);
     if are_right(pattern, letters, &best) {
         return Some(best);
@@ -73,20 +74,19 @@ pub(crate) fn classes_for<W: Weights>(
     None
 }
 
-/// The classes for the place of the pattern at which the fewest stops are expected, by a text, without the bytes behind which a text may be
-/// left.
-fn best_classes(pattern: &Pattern, letters: &Letters, text: &[u8]) -> Classes
+/// The place of the pattern at which the fewest stops are expected, by a text: as far as the bytes tell that stand at its front.
+fn best_place(pattern: &Pattern, letters: &Letters, text: &[u8]) -> usize
     requires { 0 < length pattern.now.keys }
-    ensures { result.place < length pattern.now.keys }
+    ensures { result < length pattern.now.keys }
 {
     let places = (pattern.keys().len() - 1).min(MOST_ASCII_PLACES);
-    let mut best = classes_at(pattern, letters, 0);
-    let mut fewest = stops(&best, text);
+    let there = ascii_of(&text[..text.len().min(SAMPLE + 16)]);
+    let mut best = 0;
+    let mut fewest = stops(&classes_at(pattern, letters, 0, &there), text);
     for place in 1..places {
-        let classes = classes_at(pattern, letters, place);
-        let expected = stops(&classes, text);
+        let expected = stops(&classes_at(pattern, letters, place, &there), text);
         if expected < fewest {
-            best = classes;
+            best = place;
             fewest = expected;
         }
     }
@@ -131,8 +131,9 @@ fn clean_bytes(pattern: &Pattern, letters: &Letters, place: usize) -> [u8; 16]
     clean
 }
 
-/// The classes for a place of the pattern, without the bytes behind which a text may be left. Nothing passes a byte whose letter is not known.
-fn classes_at(pattern: &Pattern, letters: &Letters, place: usize) -> Classes
+/// The classes of these bytes of ASCII for a place of the pattern, without those behind which a text may be left. Nothing passes a byte whose
+/// letter is not known.
+fn classes_at(pattern: &Pattern, letters: &Letters, place: usize, there: &[u8; 16]) -> Classes
     requires { place < length pattern.now.keys }
     ensures { result.place ≡ place }
 {
@@ -148,11 +149,13 @@ fn classes_at(pattern: &Pattern, letters: &Letters, place: usize) -> Classes
         clean: [0; 16],
     };
     for byte in 0..128u8 {
-        let kind = match letters.known(byte as char) {
-            Some(letter) => kind_of(pattern, &letter, place),
-            None => UNKNOWN_KIND,
-        };
-        add(&mut classes, byte, kind);
+        if in_ascii(there, byte) != 0 {
+            let kind = match letters.known(byte as char) {
+                Some(letter) => kind_of(pattern, &letter, place),
+                None => UNKNOWN_KIND,
+            };
+            add(&mut classes, byte, kind);
+        }
     }
     classes
 }

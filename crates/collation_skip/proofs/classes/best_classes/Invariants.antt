@@ -1,5 +1,0 @@
-use Rattle.std.specs.Prelude.{◌<◌, length}
-use Rattle.collation_skip.proofs.classes.best_classes.Given as goal
-
-abbrev pub invariant-loop-place : goal.invariant-loop-place
-invariant-loop-place l = l.best.place < length l.pattern.keys
