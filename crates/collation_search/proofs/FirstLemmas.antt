@@ -84,12 +84,12 @@ module _ {W : Type 0} {G : Ghosts W} where
       (takes-append old so_far now reach here reach (take at piece) (take n (drop at piece)) (Ok tt) [] found (λ some. omega arith) (λ some. let far = near some in omega (arith, far, long)) before
       (subst (λ (t : List ℕ). TakesPart so_far here (take n t) (Ok tt) found now) same step))
 
-  -- a byte behind them
-  pub byte-on : (old so_far now : Search W G) (reach at : ℕ) (piece : List ℕ) (answer : Result (Unit {0}) TextFault) (found : List (ℕ × ℕ)) → at < length piece →
-      TakesPart old reach (take at piece) (Ok tt) [] so_far → TakesPart so_far 0 (get_or piece at 0 ∷ []) answer found now → TakesPart old reach (take (at + 1) piece) answer found now
-  byte-on old so_far now reach at piece answer found here before step =
-      subst (λ (t : List ℕ). TakesPart old reach t answer found now) (sym (take_more piece at 0 here))
-      (takes-append old so_far now reach 0 reach (take at piece) (get_or piece at 0 ∷ []) answer [] found (λ some. omega arith) (λ some. absurd (omega (arith, some))) before step)
+  -- characters or a byte behind them
+  pub steps-on : (old so_far now : Search W G) (reach at n : ℕ) (piece : List ℕ) (answer : Result (Unit {0}) TextFault) (found : List (ℕ × ℕ)) →
+      TakesPart old reach (take at piece) (Ok tt) [] so_far → TakesPart so_far 0 (take n (drop at piece)) answer found now → TakesPart old reach (take (at + n) piece) answer found now
+  steps-on old so_far now reach at n piece answer found before step =
+      subst (λ (t : List ℕ). TakesPart old reach t answer found now) (sym (take-add at n piece))
+      (takes-append old so_far now reach 0 reach (take at piece) (take n (drop at piece)) answer [] found (λ some. omega arith) (λ some. absurd (omega (arith, some))) before step)
 
   -- the range, or the fault, that they gave is that of the text
   pub first-within : (old new : Search W G) (reach : ℕ) (p u piece later : List ℕ) (n : ℕ) (answer : Result (Unit {0}) TextFault) (found : List (ℕ × ℕ)) (range : ℕ × ℕ) →

@@ -3,6 +3,7 @@ pub mod SearchAnswers
 pub mod SearchBegins
 pub mod FeedLemmas
 pub mod FirstLemmas
+pub mod FrontLemmas
 pub mod PieceLemmas
 pub mod UnderWay
 pub mod WorkedStatesAfterLemmas

@@ -1,5 +1,5 @@
 //! A search that takes a piece of a text at once.
-ghost use Rattle.std.specs.Prelude.{◌≡◌, ℕ, suc, ◌+◌, ◌<◌, ◌≤◌, max, List, ◌++◌, length, take, true};
+ghost use Rattle.std.specs.Prelude.{◌≡◌, ℕ, suc, ◌+◌, ◌<◌, ◌≤◌, max, List, ◌++◌, drop, length, take, IfSome, true};
 ghost use Rattle.std.specs.Char.{len_utf8};
 ghost use Rattle.std.specs.Str.{chars};
 ghost use Rattle.utf8_cut.specs.Sequences.{SpellsCharacter};
@@ -65,8 +65,45 @@ fn starter_comes_first<W: Weights>(
     }
 }
 
+/// The character at the front of some bytes. They begin with what stands in `text` from `from` on, where this is given, and it is read there
+/// then.
+#[inline(always)]
+fn character_at(bytes: &[u8], text: Option<&str>, from: usize) -> Option<char>
+    requires { IfSome text (λ t. (n : ℕ) × (drop from t.now ≡ take n bytes.now)) }
+    ensures { IfSome result (λ c. (len_utf8 c ≤ length bytes.now)
+        × SpellsCharacter (take (len_utf8 c) bytes.now) c) }
+{
+    match text {
+        Some(whole) => character_of(whole, from),
+        None => first_character(bytes),
+    }
+}
+
+/// The character that begins at an offset of a text.
+#[inline(always)]
+fn character_of(text: &str, at: usize) -> Option<char>
+    ensures { IfSome result (λ c. (len_utf8 c ≤ length (drop at text.now))
+        × SpellsCharacter (take (len_utf8 c) (drop at text.now)) c) }
+{
+    if text.is_char_boundary(at) {
+        text[at..].chars().next()
+    } else {
+        None
+    }
+}
+
+/// How many characters of ASCII are taken at once at most behind the reach of letters.
+const MOST_ASCII: usize = 32;
+
+/// How many are taken at an offset of a piece: within the reach one, for letters may go on behind it.
+fn most_ascii(at: usize, reach: usize) -> usize
+    ensures { 0 < result }
+{
+    if at < reach { 1 } else { MOST_ASCII }
+}
+
 impl<'a, W: Weights> Search<'a, W> {
-    ghost use Rattle.std.specs.Prelude.{◌≡◌, ℕ, suc, ◌+◌, ◌-◌, ◌<◌, ◌≤◌, max, List, [], ◌++◌, length, take, None, Ok, Err, IfOk, IfErr, true};
+    ghost use Rattle.std.specs.Prelude.{◌≡◌, ℕ, suc, ◌+◌, ◌-◌, ◌<◌, ◌≤◌, max, List, [], ◌++◌, drop, length, take, None, Ok, Err, IfOk, IfErr, IfSome, true};
     ghost use Rattle.std.specs.List.{FoldsTo};
     ghost use Rattle.std.specs.Str.{chars};
     ghost use Rattle.collation_table.specs.Table.{longest_mapped};
@@ -124,7 +161,8 @@ impl<'a, W: Weights> Search<'a, W> {
         let reach = self.reach(piece);
         let mut at = self.feed_letters(piece, reach, false, found, sink);
         while at < piece.len() {
-            let stepped = self.step_far(&piece[at..], found);
+            let most = most_ascii(at, reach);
+            let stepped = self.step_far(&piece[at..], None, 0, most, found);
             hand_out(found.as_slice(), sink);
             match stepped {
                 Ok(len) => at += len,
@@ -153,18 +191,28 @@ impl<'a, W: Weights> Search<'a, W> {
         reach(&self.query, &mut self.cache.letters, piece)
     }
 
-    /// Takes the character at the front of what is left of a piece, or one byte where [`Search::step_character`] takes none. It answers how
-    /// many bytes it took. `found` is emptied, and then holds the ranges that became known, in order.
-    fn step_far(&mut self, bytes: &[u8], found: &mut Found) -> Result<usize, TextFault>
+    /// Takes the character at the front of what is left of a piece, and of ASCII up to `most`, or one byte where [`Search::step_character`]
+    /// takes none. It answers how many bytes it took. `found` is emptied, and then holds the ranges that became known, in order. What is left
+    /// begins with what stands in `text` from `from` on, where this is given.
+    pub(crate) fn step_far(
+        &mut self,
+        bytes: &[u8],
+        text: Option<&str>,
+        from: usize,
+        most: usize,
+        found: &mut Found,
+    ) -> Result<usize, TextFault>
         requires none { self.old.fault ≡ None }
         requires some { 0 < length bytes.now }
+        requires text { IfSome text (λ t. (n : ℕ) × (drop from t.now ≡ take n bytes.now)) }
+        requires most { 0 < most }
         ensures within { IfOk result (λ n. (0 < n) × (n ≤ length bytes.now)) }
         ensures taken { IfOk result (λ n.
             TakesPart self.old 0 (take n bytes.now) (Ok tt) found.new.items self.new) }
         ensures fault { IfErr result (λ f.
             TakesPart self.old 0 (take 1 bytes.now) (Err f) found.new.items self.new) }
     {
-        let len = self.step_character(bytes, found);
+        let len = self.step_character(bytes, text, from, most, found);
         if len > 0 {
             return Ok(len);
         }
@@ -174,10 +222,20 @@ impl<'a, W: Weights> Search<'a, W> {
         }
     }
 
-    /// Takes the character at the front of what is left of a piece, and answers how many bytes it has: none where it is not whole there,
-    /// or where it may be at fault, as a point waits. `found` is emptied, and then holds the ranges that became known, in order.
-    fn step_character(&mut self, bytes: &[u8], found: &mut Found) -> usize
+    /// Takes the character at the front of what is left of a piece, and of ASCII up to `most`: how many bytes. It takes none where the
+    /// character is not whole there, or may be at fault, as a point waits. `found` is emptied, and then holds the ranges that became known,
+    /// in order.
+    fn step_character(
+        &mut self,
+        bytes: &[u8],
+        text: Option<&str>,
+        from: usize,
+        most: usize,
+        found: &mut Found,
+    ) -> usize
         requires none { self.old.fault ≡ None }
+        requires text { IfSome text (λ t. (n : ℕ) × (drop from t.now ≡ take n bytes.now)) }
+        requires most { 0 < most }
         ensures within { result ≤ length bytes.now }
         ensures taken { TakesPart self.old 0 (take result bytes.now) (Ok tt) found.new.items self.new }
         ensures nothing { result ≡ 0 → found.new.items ≡ [] }
@@ -191,9 +249,16 @@ impl<'a, W: Weights> Search<'a, W> {
         {
             return 0;
         }
-        let Some(c) = first_character(bytes) else {
+        let Some(c) = character_at(bytes, text, from) else {
             return 0;
         };
+        if c.is_ascii() {
+            let len = self
+                .finder
+                .take_ascii(&self.query, &bytes[..most.min(bytes.len())], count, found);
+            self.cut.take_ascii(len as u64);
+            return len;
+        }
         let table = self.query.table;
         let pattern = self.query.pattern;
         // where no point waits no character is at fault

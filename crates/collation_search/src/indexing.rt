@@ -1,6 +1,7 @@
 //! The first range of a text that is held whole.
 
-ghost use Rattle.std.specs.Prelude.{◌≡◌, ℕ, ◌+◌, ◌<◌, ◌^◌, List};
+ghost use Rattle.std.specs.Prelude.{◌≡◌, ℕ, ◌+◌, ◌<◌, ◌^◌, List, IfSome, take};
+ghost use Rattle.utf8_cut.specs.Characters.{characters_end};
 ghost use Rattle.collation_search.specs.Feeding.{fault_of};
 ghost use Rattle.collation_search.specs.Indexing.{range_or_fault as range_or_fault_of, first_moved, EndsBy, IsFirstOf};
 ghost use Rattle.collation_matches.specs.declared.select.Select.TheVariants.{All};
@@ -15,7 +16,7 @@ use collation_table::Weights;
 use collation_walk::Found;
 use nfd_points::laws::{laws_of_decompositions, laws_of_faults, laws_of_reordering};
 use std::alloc::Global;
-use utf8_cut::whole_characters_are_the_longest_text;
+use utf8_cut::{front, whole_characters_are_the_longest_text};
 
 /// How many bytes of a text are taken first, and at most. A text of up to so many is one piece, for the end of each piece goes by steps;
 /// more of a long one would be looked over in vain where a range or a fault stands at its beginning.
@@ -54,6 +55,9 @@ const TIMES_PAST_ASCII: usize = 3;
 const MANY_OF_ASCII: usize = 20;
 
 const LONGEST_OF_ASCII: usize = 1_024;
+
+/// How many characters of ASCII are taken at once where steps go up to the first range.
+const MOST_ASCII_AT_ONCE: usize = 8;
 
 /// The first range of the answer to a text, if there is one, though a fault may stand after it: its start and its end, in
 /// bytes from the beginning of the text, the end not included. The pattern was compiled with this table.
@@ -121,7 +125,8 @@ pub fn index_from<W: Weights>(
 }
 
 impl<'a, W: Weights> Search<'a, W> {
-    ghost use Rattle.std.specs.Prelude.{◌≡◌, ℕ, ◌≤◌, ◌∷◌, List, [], ◌++◌, length, take, slice_get, None, Ok};
+    ghost use Rattle.std.specs.Prelude.{◌≡◌, ℕ, ◌+◌, ◌<◌, ◌≤◌, ◌∷◌, List, [], ◌++◌, drop, length, take, slice_get, IfSome, None, Ok};
+    ghost use Rattle.utf8_cut.specs.Characters.{characters_end};
     ghost use Rattle.collation_matches.specs.Sought.{IsCompiledFrom, answer_to};
     ghost use Rattle.collation_matches.specs.Offsets.{answer_from};
     ghost use Rattle.collation_search.specs.Feeding.{BeginsAnswers, TakesPart};
@@ -232,6 +237,7 @@ impl<'a, W: Weights> Search<'a, W> {
         laws_of_decompositions();
         laws_of_reordering();
         let reach = self.reach(piece);
+        let whole = whole_by_steps(piece, reach);
         let mut at = 0;
         'parts: loop {
             let here = reach.saturating_sub(at);
@@ -247,8 +253,8 @@ impl<'a, W: Weights> Search<'a, W> {
             if at == piece.len() {
                 return Ok(None);
             }
-            let stepped = self.step_on(piece[at], room);
-            at += 1;
+            let (len, stepped) = self.step_at(piece, whole, at, room);
+            at += len;
             match range_or_fault(room.as_slice().first().copied(), stepped) {
                 Ok(None) => {}
                 Ok(Some(range)) => {
@@ -257,6 +263,32 @@ impl<'a, W: Weights> Search<'a, W> {
                 }
                 Err(fault) => return Err(fault),
             }
+        }
+    }
+
+    /// Takes the character at an offset of a piece by steps, and ASCII behind it: how many bytes. `whole` are the piece's whole characters,
+    /// where they were read. `room` is emptied, and then holds the ranges that became known, in order.
+    ///
+    /// # Errors
+    ///
+    /// The first fault of the text.
+    fn step_at(
+        &mut self,
+        piece: &[u8],
+        whole: Option<&str>,
+        at: usize,
+        room: &mut Found,
+    ) -> (usize, Result<(), TextFault>)
+        requires none { self.old.fault ≡ None }
+        requires some { at < length piece.now }
+        requires whole { IfSome whole (λ t. t.now ≡ take (characters_end piece.now) piece.now) }
+        ensures within { (0 < result.0) × (at + result.0 ≤ length piece.now) }
+        ensures taken { TakesPart self.old 0 (take result.0 (drop at piece.now)) result.1
+            room.new.items self.new }
+    {
+        match self.step_far(&piece[at..], whole, at, MOST_ASCII_AT_ONCE, room) {
+            Ok(len) => (len, Ok(())),
+            Err(fault) => (1, Err(fault)),
         }
     }
 
@@ -360,6 +392,17 @@ fn different_bytes(text: &[u8]) -> (usize, usize) {
     let ascii = there[0].count_ones().wrapping_add(there[1].count_ones());
     let others = there[2].count_ones().wrapping_add(there[3].count_ones());
     (ascii as usize, others as usize)
+}
+
+/// The whole characters of a piece that goes by steps alone, and none of others, whose letters are read where they are taken.
+fn whole_by_steps(piece: &[u8], reach: usize) -> Option<&str>
+    ensures { IfSome result (λ t. t.now ≡ take (characters_end piece.now) piece.now) }
+{
+    if reach == 0 {
+        Some(front(piece).0)
+    } else {
+        None
+    }
 }
 
 /// What was found in the rest of a text from this offset on, its offsets counted from the beginning
