@@ -21,7 +21,6 @@ use Rattle.collation_matches.proofs.SearchLemmas.{offset_of}
 use Rattle.collation_safe.specs.Laws.{AnswersFromSafeOffsets, SafeOffsetsAreBoundaries}
 use Rattle.collation_safe.specs.Safe.{IsSafeOffset}
 use Rattle.collation_safe.proofs.Standing.{stands-from, stands-within}
-use Rattle.collation_safe.proofs.Strings.{offset-safe}
 use Rattle.collation_anchored.specs.Anchored.{ends, is_equal}
 use Rattle.collation_anchored.specs.Answers.{has_more_keys, unless_fault}
 use Rattle.collation_anchored.specs.Laws.{EndsByLastRange, start_of_equal}
@@ -197,7 +196,7 @@ module _ (s : Sought) (laws : EndLaws s) (p text : List ℕ) (few : length text 
         | inr safe ↦
             let utf8 = no_fault_text laws.starters.texts back by.good in
             let inside = safe.1 in
-            more-than-keys laws.join s back at utf8 (laws.safe s.table back at utf8 (offset-safe s.table back at safe.0)) (omega (arith, inside)) (ap (has_more_keys s.table s.pattern) same-rest ∙ more)
+            more-than-keys laws.join s back at utf8 (laws.safe s.table back at utf8 safe.0) (omega (arith, inside)) (ap (has_more_keys s.table s.pattern) same-rest ∙ more)
       ]
 
       said-end : (said : Said) → said ≡ first_moved at inner → (said ≡ Ok None → (at ≡ 0) ⊎ HasMoreKeys s (drop at back)) → IsToldOfEnd s p back said
@@ -335,11 +334,10 @@ module _ (s : Sought) (laws : EndLaws s) (p text : List ℕ) (few : length text 
 
 -- where a search may begin that goes back from the end
 pub begun-at : (table other : TableMap) (text : List ℕ) (end len place : ℕ) → table ≡ other → end ≡ length text → (place ≡ 0) ⊎ (IsSafeOffset other text place × (place + len < end)) →
-    (place ≡ 0) ⊎ IsSafeOffset other text place → (place ≡ 0) ⊎ (IsSafeOffset table text place × (place < length text))
-begun-at table other text end len place same is (inl zero) alone = inl zero
-begun-at table other text end len place same is (inr safe) (inl zero) = inl zero
-begun-at table other text end len place same is (inr safe) (inr alone) =
-    let less = safe.1 in inr (subst (λ t. IsSafeOffset t text place) (sym same) alone, omega (arith, is, less))
+    (place ≡ 0) ⊎ (IsSafeOffset table text place × (place < length text))
+begun-at table other text end len place same is (inl zero) = inl zero
+begun-at table other text end len place same is (inr safe) =
+    let less = safe.1 in inr (subst (λ t. IsSafeOffset t text place) (sym same) safe.0, omega (arith, is, less))
 
 fault-said : (to : ℕ) (at : Option TextFault) (last : Option (ℕ × ℕ)) (f : TextFault) (b : Bool) → Err f ≡ unless_fault b at last → at ≡ Some f
 fault-said to None last f true e = cc

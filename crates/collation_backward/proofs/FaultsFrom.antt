@@ -16,7 +16,6 @@ use Rattle.collation_matches.proofs.SearchLemmas.{either}
 use Rattle.collation_safe.specs.Laws.{AnswersFromSafeOffsets, IsGoodUpTo}
 use Rattle.collation_safe.specs.Safe.{IsSafeOffset}
 use Rattle.collation_safe.proofs.Standing.{stands-from, stands-within}
-use Rattle.collation_safe.proofs.Strings.{offset-safe}
 use Rattle.collation_backward.specs.Backward.{is_fault_before}
 use Rattle.collation_backward.specs.Ending.{starts_safely, is_at_fault_from, last_below, last_fault, next_read}
 use Rattle.collation_backward.proofs.Below.{IsLast, IsFirstUpTo, last-none, last-some, first-found}
@@ -68,7 +67,7 @@ module _ (answers : AnswersFromSafeOffsets) (laws : StarterLaws) (s : Sought) (a
       let by = at - from in
       let sum : from + by ≡ at = omega (arith, le) in
       let rest = drop from text in
-      let safe = offset-safe s.table rest by (later-alone s.table text from by (subst Alone (sym sum) alone)) in
+      let safe = later-alone s.table text from by (subst Alone (sym sum) alone) in
       let moved : fault_moved by (fault (drop by rest)) ≡ fault rest =
       ap (fault_moved by) (sym (fault-is s p (drop by rest))) ∙ ap (λ (a : Answer). a.fault) (rest-answers answers s p rest by all (fewer from) safe good) ∙ fault-is s p rest in
       let same : drop by rest ≡ drop at text = drop-drop by from text ∙ ap (λ n. drop n text) sum in

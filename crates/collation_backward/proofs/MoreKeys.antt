@@ -32,7 +32,6 @@ use Rattle.collation_matches.proofs.LagTexts.{TextLaws, no_fault_text}
 use Rattle.collation_matches.proofs.OffsetBounds.{matches-within}
 use Rattle.collation_safe.specs.Laws.{AnswersFromSafeOffsets, SafeOffsetsAreBoundaries}
 use Rattle.collation_safe.specs.Safe.{IsSafeOffset}
-use Rattle.collation_safe.proofs.Strings.{offset-safe}
 use Rattle.collation_anchored.specs.Anchored.{ends, is_equal, last_of}
 use Rattle.collation_anchored.specs.Laws.{EndsByLastRange, start_of_equal}
 use Rattle.collation_anchored.proofs.CountedTexts.{few-bytes}
@@ -101,7 +100,7 @@ pub record IsCounted (s : Sought) (p text : List ℕ) (said : Result (Option (�
 
 placed : (s : Sought) (text : List ℕ) (place : ℕ) → (place ≡ 0) ⊎ (IsSafeOffset s.table text place × (place < length text)) → IsPlaceBefore s.table text (length text) place
 placed s text place (inl zero) = inl zero
-placed s text place (inr at) = inr (offset-safe s.table text place at.0, at.1)
+placed s text place (inr at) = inr (at.0, at.1)
 
 of-end : (s : Sought) (p text : List ℕ) (said : Result (Option (ℕ × ℕ)) TextFault) → IsToldOfEnd s p text said → IsToldBefore s p text (length text) said ⊎ IsCounted s p text said
 of-end s p text (Ok None) t =
@@ -110,7 +109,7 @@ of-end s p text (Ok None) t =
       | inl zero ↦ inl (whole zero)
       | inr more ↦ elim t.begins [
         | inl zero ↦ inl (whole zero)
-        | inr at ↦ inr (record { place = t.place; safe = offset-safe s.table text t.place at.0; before = at.1; none = refl; says = t.says; more = more })
+        | inr at ↦ inr (record { place = t.place; safe = at.0; before = at.1; none = refl; says = t.says; more = more })
       ]
     ]
 of-end s p text (Ok (Some range)) t = inl (record { place = t.place; begins = placed s text t.place t.begins; says = t.says; none = λ e. absurd cc })

@@ -184,8 +184,8 @@ impl<'a, W: Strings> Backward<'a, W> {
     ///
     /// # Errors
     ///
-    /// The last fault of the text, where what stands behind it, from the first safe offset on, does not decide: no match ends there, and it
-    /// has no more keys than the pattern.
+    /// The last fault of the text, where what stands behind it, from the next safe offset on, does not decide: no match ends there, and it has
+    /// no more keys than the pattern.
     pub fn ends(&mut self, text: &[u8]) -> Result<Option<u64>, TextFault>
         ensures good { (p : List ℕ) → IsCompiledFrom (sought_by self.old) p
             → fault_of text.now ≡ None

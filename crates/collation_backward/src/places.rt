@@ -10,7 +10,6 @@ use collation_table::Strings;
 pub fn place_before<W: Strings>(table: &W, text: &[u8], end: usize, len: usize) -> usize
     ensures place { (result ≡ 0)
         ⊎ (IsSafeOffset (W.table table.now) text.now result × (result + len < end)) }
-    ensures safe { (result ≡ 0) ⊎ IsSafeOffset (W.table table.now) text.now result }
 {
     if end <= len {
         return 0;

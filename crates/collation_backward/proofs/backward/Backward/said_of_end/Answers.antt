@@ -15,7 +15,7 @@ loop-place-init g c =
     let table = c.args.self.now.table_same in
     let place = c.place_before-place in
     record {
-      begins = begun-at (sought_by c.args.self.now).table (g.W.Weights.table c.args.self.now.table.now) text (length text) 1024 place.result table refl place.ensures.place place.ensures.safe;
+      begins = begun-at (sought_by c.args.self.now).table (g.W.Weights.table c.args.self.now.table.now) text (length text) 1024 place.result table refl place.ensures.place;
       says = c.said_from-said.ensures.said;
       before = before-only place.result (length text) c.said_from-said.result c.said_from-said.ensures.behind;
       same = c.said_from-said.ensures.sought;
@@ -30,7 +30,7 @@ loop-place-preserved g c =
     let place = c.place_before-place-in-loop-place in
     let next = c.said_from-said-in-loop-place in
     record {
-      begins = begun-at (sought_by c.args.self.now).table (g.W.Weights.table self.table.now) text (length text) c.saturating_mul-len.result place.result table refl place.ensures.place place.ensures.safe;
+      begins = begun-at (sought_by c.args.self.now).table (g.W.Weights.table self.table.now) text (length text) c.saturating_mul-len.result place.result table refl place.ensures.place;
       says = λ p compiled. subst (λ (s : Sought). next.result ≡ said_up_to (length text) (answer_from s p text place.result)) same
           (next.ensures.said p (subst (λ (s : Sought). IsCompiledFrom s p) (sym same) compiled));
       before = before-only place.result (length text) next.result next.ensures.behind;
