@@ -1,8 +1,8 @@
 -- The first range of a text that is taken in pieces.
-use Rattle.std.proofs.Common.{◌≡◌, ◌∙◌, ℕ, ◌+◌, ◌<◌, ◌≤◌, List, [], ◌∷◌, ◌++◌, length, map, take, drop, get_or, Option, Some, None, Result, Ok, Err, refl, sym, ap, ap₂, subst, arith, inl, append_assoc}
+use Rattle.std.proofs.Common.{◌≡◌, ◌∙◌, ℕ, ◌+◌, ◌<◌, ◌≤◌, List, [], ◌∷◌, ◌++◌, length, map, take, drop, Option, Some, None, Result, Ok, Err, refl, sym, ap, ap₂, subst, arith, inl, append_assoc}
 use Rattle.std.specs.Prelude.{IfErr, OnOk}
 use Rattle.std.proofs.Math.Seq.{take-add}
-use Rattle.std.proofs.lemmas.List.{take-append-drop, take_more, length-take-le}
+use Rattle.std.proofs.lemmas.List.{take-append-drop, length-take-le}
 use Rattle.collation_table.specs.declared.lookup.Weights.{Ghosts}
 use Rattle.collation_matches.specs.declared.faults.TextFault.{TextFault}
 use Rattle.collation_matches.specs.Answer.{Answer, answer}

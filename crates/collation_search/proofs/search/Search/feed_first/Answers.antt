@@ -1,6 +1,6 @@
-use Rattle.std.specs.Prelude.{Result, Option, Some, None, Ok, Err}
-use Rattle.std.proofs.Common.{◌≡◌, ◌∙◌, ◌+◌, ◌-◌, ◌<◌, ℕ, List, [], length, take, drop, slice_get, sym, ap, subst, arith}
-use Rattle.std.proofs.lemmas.List.{take_all, take_rest, length-drop}
+use Rattle.std.specs.Prelude.{Result, Option, None, Ok}
+use Rattle.std.proofs.Common.{◌≡◌, ◌∙◌, ◌+◌, ◌-◌, ℕ, List, [], length, take, drop, slice_get, sym, ap, subst, arith}
+use Rattle.std.proofs.lemmas.List.{take_all, take_rest}
 use Rattle.collation_matches.specs.declared.faults.TextFault.{TextFault}
 use Rattle.collation_search.specs.Feeding.{TakesPart, fault_of}
 use Rattle.collation_search.specs.Indexing.{range_or_fault, first_range}

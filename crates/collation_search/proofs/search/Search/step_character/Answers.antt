@@ -1,7 +1,7 @@
-use Rattle.std.specs.Prelude.{Result, OnOk, Ok, Some}
+use Rattle.std.specs.Prelude.{Result, OnOk, Ok}
 use Rattle.std.specs.Char.{len_utf8}
 use Rattle.std.specs.Str.{chars, IsAscii}
-use Rattle.std.proofs.Common.{◌≡◌, ◌∙◌, ◌+◌, ◌<◌, ◌≤◌, ℕ, List, [], ◌∷◌, ◌++◌, get_or, inl, length, take, refl, sym, ap, subst, arith, eqb-true}
+use Rattle.std.proofs.Common.{◌≡◌, ◌∙◌, ◌<◌, ◌≤◌, ℕ, List, [], ◌++◌, get_or, inl, length, take, refl, sym, ap, subst, arith, eqb-true}
 use Rattle.std.proofs.lemmas.Bool.{ltb-true}
 use Rattle.std.proofs.lemmas.List.{get_or-take, length-take, length-take-le, nil_from_length}
 use Rattle.std.proofs.lemmas.Str.{chars-IsAscii, encode_ascii, len_utf8_ascii}
