@@ -103,9 +103,9 @@ colfind_status colfind_search(colfind_handle *pattern, colfind_handle *out, uint
 colfind_status colfind_resume(colfind_handle *pattern, colfind_handle *out, uint8_t select, const uint64_t *words, size_t n);
 
 /* Takes the next piece of the text, cut anywhere. The ranges that became known wait for colfind_take. A fault of the text is told with the
- * ranges before it, and again by each later call; the search can then be saved, finished or freed. Before any of the next 65,536 bytes is
- * looked at, memory is asked for one range a byte and 383 more, so that no range is lost where memory is refused. 51 says that the search
- * was resumed from words that no search has saved, and has ended. */
+ * ranges before it, and again by each later colfind_feed and colfind_finish; the search can then be saved or freed. Before any of the next
+ * 65,536 bytes is looked at, memory is asked for one range a byte and 383 more, so that no range is lost where memory is refused. 51 says
+ * that the search was resumed from words that no search has saved, and has ended. */
 colfind_status colfind_feed(colfind_handle *search, const uint8_t *piece, size_t n);
 
 /* Ends the text: the rest of the ranges waits. From then on 83. A fault, also one of a character that the end cuts, is told here. */
@@ -162,8 +162,9 @@ colfind_first colfind_last_before(colfind_handle *pattern, const uint8_t *text, 
 
 /* The shortest match that ends where the text ends: `range` is from its start to `n`. Ignorable characters behind it belong to it. It goes
  * back from the end as colfind_last_before, but no further than to where the rest has no range and more keys than the pattern. A fault is
- * told where what stands behind it does not decide: it is the last one, and from the next safe offset behind it on no match ends there, and
- * there are no more keys than the pattern has. Memory is asked for at each call; where it is refused, 36 at 0. */
+ * told where what stands behind it does not decide: it is the first one behind the last safe offset in front of it, and from the next safe
+ * offset behind it on no match ends there, and there are no more keys than the pattern has. Memory is asked for at each call; where it is
+ * refused, 36 at 0. */
 colfind_first colfind_ends(colfind_handle *pattern, const uint8_t *text, size_t n);
 
 /* An offset, if `is_found` is 1; else both are 0. */

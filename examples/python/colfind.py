@@ -583,7 +583,7 @@ class Pattern(_Owner):
     def ends(self, text: str | Bytes) -> tuple[int, int] | None:
         """The shortest match that ends where the text ends, as its start and the length of the text, or None. It goes back from there to a
         safe offset before a range, or before more letters than the pattern has, and what stands before costs nothing. The last fault of the
-        text is raised, where no match ends behind it and fewer letters stand there."""
+        text is raised, where no match ends behind it and no more letters stand there than the pattern has."""
         if not isinstance(text, str):
             return _over("text", text, lambda data, length: _range_of(self._asked("colfind_ends", data, length)), _TEXT)
         text = _exact(text)

@@ -112,7 +112,7 @@ abbrev pub AreFew : Session → Outcome → List ℕ → Type 0
 AreFew old Good words = HasRecords words (most_records (sought_of old))
 AreFew old _ words = Unit {0}
 
--- The call did so, and what is looked for is the same. A fault that was met is told again, and by each later call: no range is found.
+-- The call did so, and what is looked for is the same. A fault that was met is told again, and stays met: no range is found.
 pub record FeedsSession (old : Session) (piece : List ℕ) (outcome : Outcome) (new : Session) : Type 0 where
   pub fed : IsFed old piece outcome new
   pub again : (f : TextFault) → HasMet old f → TellsAgain f outcome × HasMet new f × (waiting new.queue ≡ waiting old.queue)

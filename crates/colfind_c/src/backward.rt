@@ -53,7 +53,7 @@ fn range_from(start: Option<u64>, text: &[u8]) -> Option<(u64, u64)>
     }
 }
 
-/// The shortest match that ends where a text ends, or the fault that going back meets first.
+/// The shortest match that ends where a text ends, or the last fault, where what stands behind it does not decide.
 fn ended_by(alloc: Global, query: &Query, text: &[u8]) -> (Outcome, Option<(u64, u64)>)
     ensures { AnswersEnds query.now text.now result.1 result.0 }
 {

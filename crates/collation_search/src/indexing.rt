@@ -398,11 +398,12 @@ fn different_bytes(text: &[u8]) -> (usize, usize) {
 fn whole_by_steps(piece: &[u8], reach: usize) -> Option<&str>
     ensures { IfSome result (λ t. t.now ≡ take (characters_end piece.now) piece.now) }
 {
-    if reach == 0 {
-        Some(front(piece).0)
-    } else {
-        None
+    if reach > 0 {
+        return None;
     }
+    // a piece that begins within a character has none: there each is read where it is taken
+    let (text, _) = front(piece);
+    if text.is_empty() { None } else { Some(text) }
 }
 
 /// What was found in the rest of a text from this offset on, its offsets counted from the beginning
