@@ -84,6 +84,25 @@ static void search_texts(colfind_handle *table, const sought *of, size_t base, c
         }
 }
 
+/* A text of 8 KB with each of so many patterns of a character: what searches find out of letters gives way, and the patterns stay. */
+static void search_many(colfind_handle *table, size_t count) {
+    static uint8_t text[1 << 13], pattern[4];
+    uint64_t seed = 3;
+    size_t found_out = 0;
+    forget_searches(&all);
+    for (size_t i = 0; i < count; i++) {
+        sought of = {pattern, put(pattern, 0x4E00 + (uint32_t)i), 1, 0, 0};
+        colfind_status status = {0};
+        size_t n = fill(text, sizeof text, &scripts[7], &seed);
+        kept_search *kept = find_search(&all, table, &of, n, FIRST, &status);
+        assert(kept);
+        colfind_has(&kept->search, text, n);
+        found_out += kept->letters_size;
+        assert(all.letters_size <= LETTERS_BYTES && all.count == i + 1);
+    }
+    assert(found_out > 2 * (size_t)LETTERS_BYTES);
+}
+
 int main(int argc, char **argv) {
     static uint8_t bytes[1 << 24], pattern[1 << 16];
     static char buffer[BUFSIZ];
@@ -107,6 +126,7 @@ int main(int argc, char **argv) {
                 assert(all.size <= SEARCHES_BYTES || all.count == 1);
             }
     printf("%zu patterns, sizes of %zu and %zu bytes, of which %.2f at most were there\n", all.count, all.size, all.letters_size, most);
+    search_many(&table, 200);
     forget_searches(&all);
     assert(held == base && all.count + all.size + all.letters_size == 0);
     colfind_free(&table);

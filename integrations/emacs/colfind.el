@@ -93,10 +93,11 @@ It is one of this machine, whatever NAME means to others, as to Tramp."
 Then it is freed at once, for Emacs does not see how much memory it has."
   (let ((key (list string colfind-table colfind-tailor colfind-strength colfind-variable)))
     (unless (equal key (car colfind--latest))
-      (let ((pattern (colfind--pattern (colfind--table-of) string colfind-strength (if (eq colfind-variable 'shifted) 1 0))))
-        (when colfind--latest
-          (colfind--free (cdr colfind--latest)))
-        (setq colfind--latest (cons key pattern))))
+      (let ((pattern (colfind--pattern (colfind--table-of) string colfind-strength (if (eq colfind-variable 'shifted) 1 0)))
+            (before colfind--latest))
+        (setq colfind--latest (cons key pattern))
+        (when before
+          (colfind--free (cdr before)))))
     (cdr colfind--latest)))
 
 (defun colfind--as-unicode (text)
