@@ -198,7 +198,7 @@ fn letters_behind_a_fault(rt: HostRuntime) {
     );
     let mut backward = begin(&rt, alloc, &table, &pattern);
     for (count, wanted) in [
-        (1, Err(ill_formed(0))),
+        (1usize, Err(ill_formed(0))),
         (2, Ok(None)),
         (900, Ok(None)),
         (5_000, Ok(None)),
